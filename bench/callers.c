@@ -129,14 +129,16 @@ int main(void)
         fill();
         take(0, t, WRITES);
         t = now();
-        for (int i = 0; i < WRITES; i++) hlc_rows(&store, &word);
+        for (int i = 0; i < WRITES; i++) must(hlc_rows(&store, &word));
         take(2, t, WRITES);
         t = now();
-        for (int i = 0; i < WRITES; i++) hlc_floor(&store, &at);
+        for (int i = 0; i < WRITES; i++) must(hlc_floor(&store, &at));
         take(3, t, WRITES);
         key_of(key, 5);
         t = now();
-        for (int i = 0; i < WRITES; i++) hlc_accept_write(&store, 0, 1, 1, key, 8, key, 8, &word);
+        for (int i = 0; i < WRITES; i++) {
+            if (hlc_accept_write(&store, 0, 1, 1, key, 8, key, 8, &word) == HLC_OK) exit(1);
+        }
         take(4, t, WRITES);
         must(hlc_open_snapshot_at_floor(&store, &id, &at));
         t = now();

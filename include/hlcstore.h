@@ -138,7 +138,7 @@ typedef struct {
 } hlc_node;
 
 /* The refusals' numbers are those of docs/refusals.md. With each comes the word that is named here, otherwise 0. */
-enum {
+typedef enum hlc_answer {
     HLC_OK = 0,
     HLC_NO_NODE = 1,            /* no node has this number; of hlc_open: the count is not 1 to 64 */
     HLC_READING_TOO_LARGE = 2,  /* the reading is 2^48 or more */
@@ -182,7 +182,52 @@ enum {
                                    bytes, 1 to 7; or 0, where its stamp does not fit its rows and its horizon */
     HLC_NOT_LATER = 111,        /* of hlc_increment_apply: the increment is not of a later state of this store */
     HLC_CHANGED = 112           /* of hlc_saving_read: the store changed since the saving began */
-};
+} hlc_answer;
+
+/* The library returns 32 bits. */
+typedef char hlc_answer_has_32_bits[sizeof(hlc_answer) == sizeof(uint32_t) ? 1 : -1];
+
+/* After a declaration: its answer must be used, and the arguments at these places, from 1 on, are not NULL. Compilers
+ * other than GCC and Clang check neither. hlc_ignore of hlcstore_inline.h leaves an answer out of account. */
+#if defined __GNUC__
+#define HLC_CHECKED(...) __attribute__((warn_unused_result, nonnull(__VA_ARGS__)))
+#define HLC_NONNULL(...) __attribute__((nonnull(__VA_ARGS__)))
+#else
+#define HLC_CHECKED(...)
+#define HLC_NONNULL(...)
+#endif
+
+/* ---- Stamps and limits ---- */
+
+/* The stamp of a physical part below 2^48 and a counter below 2^16, which is not checked; and the parts of a stamp. */
+#define HLC_STAMP(physical, counter) ((uint64_t)(physical) << 16 | (uint64_t)(counter))
+#define HLC_PHYSICAL(stamp) ((uint64_t)(stamp) >> 16)
+#define HLC_COUNTER(stamp) ((uint16_t)((uint64_t)(stamp) & 65535))
+
+/* The greatest of each. A key has at least one byte. */
+#define HLC_MAX_KEY 255                                   /* bytes of a key */
+#define HLC_MAX_VALUE 65535                               /* bytes of a value */
+#define HLC_MAX_OPENED_NODES 64                           /* nodes of hlc_open; there is at least one */
+#define HLC_MAX_NODES 1024                                /* node numbers of a store, with those that joined */
+#define HLC_MAX_SNAPSHOTS 1024                            /* snapshots that are open at once */
+#define HLC_MAX_PHYSICAL UINT64_C(281474976710655)        /* the physical part of a stamp, and a reading */
+#define HLC_MAX_COUNTER 65535                             /* the counter of a stamp */
+#define HLC_MAX_STAMP UINT64_C(18446744073709551615)      /* a stamp */
+#define HLC_MAX_NUMBER UINT64_C(18446744073709551614)     /* the number of an item, and the id of a snapshot */
+
+/* How many bytes there are at most. A buffer of so many always gets one. */
+#define HLC_MAX_PAIR 65806       /* a pair of hlc_list, hlc_scan and hlc_scan_back */
+#define HLC_MAX_LISTED_KEY 263   /* a key of hlc_scan_keys */
+#define HLC_MAX_CHANGE 65807     /* a change of hlc_changes */
+#define HLC_MAX_READ_ANSWER 65544 /* an answer of hlc_read_all */
+#define HLC_MAX_ROW 65554        /* a row of hlc_versions */
+#define HLC_MAX_ITEM 65814       /* an item, and each record of a log */
+/* How many bytes there are. */
+#define HLC_JOIN_LEN 11          /* a join of hlc_record_join */
+#define HLC_THRESHOLD_LEN 9      /* a threshold of hlc_record_threshold */
+#define HLC_DIGEST_LEN 32        /* a digest of hlc_digest */
+/* What a row costs beside the bytes of its key and its value, as a vacuum counts. */
+#define HLC_ROW_COST 10
 
 /* ---- The library ---- */
 
@@ -197,29 +242,31 @@ uint32_t hlc_version(void);
 /* Writes the name of an answer, as above, or what it says, in English. len: how many bytes that has, without a 0 after
  * them, also where it is greater than out_len: then out keeps its bytes. It is 0 for a number that is no answer. No
  * memory. */
-void hlc_error_name(uint32_t answer, uint8_t *out, size_t out_len, size_t *len);
-void hlc_error_text(uint32_t answer, uint8_t *out, size_t out_len, size_t *len);
+void hlc_error_name(uint32_t answer, uint8_t *out, size_t out_len, size_t *len) HLC_NONNULL(4);
+void hlc_error_text(uint32_t answer, uint8_t *out, size_t out_len, size_t *len) HLC_NONNULL(4);
 
 /* ---- The store ---- */
 
 /* Opens a closed store of so many nodes, numbered from 0, in which nothing took place. Refusals, in this order: 101, 1,
  * 15. */
-uint32_t hlc_open(hlc_store *store, uint16_t nodes);
+hlc_answer hlc_open(hlc_store *store, uint16_t nodes) HLC_CHECKED(1);
 
 /* Closes a store and frees what it contains. A closed one stays closed. */
-void hlc_close(hlc_store *store);
+void hlc_close(hlc_store *store) HLC_NONNULL(1);
 
 /* Accepts the item that a node issued under this number with this stamp. word: the stamp, or the refusal's word.
  * Refusals, in this order: 1, 27, 6, 14, 7, 12, 13, 15. An expected refusal is returned before memory is taken. Costs a
  * copy of the value, and of a key that has no rows yet, each with an allocation where it is longer than 30 bytes; a
  * block for a key's second, third and fifth row, and a larger one now and then from there on; and a look at one key's
  * newest rows. A report and a retirement take no memory. */
-uint32_t hlc_accept_write(hlc_store *store, uint16_t node, uint64_t number, uint64_t stamp,
-                          const uint8_t *key, size_t key_len, const uint8_t *value, size_t value_len, uint64_t *word);
-uint32_t hlc_accept_delete(hlc_store *store, uint16_t node, uint64_t number, uint64_t stamp,
-                           const uint8_t *key, size_t key_len, uint64_t *word);
-uint32_t hlc_accept_report(hlc_store *store, uint16_t node, uint64_t number, uint64_t stamp, uint64_t *word);
-uint32_t hlc_accept_retire(hlc_store *store, uint16_t node, uint64_t number, uint64_t stamp, uint64_t *word);
+hlc_answer hlc_accept_write(hlc_store *store, uint16_t node, uint64_t number, uint64_t stamp, const uint8_t *key,
+                            size_t key_len, const uint8_t *value, size_t value_len, uint64_t *word) HLC_CHECKED(1, 9);
+hlc_answer hlc_accept_delete(hlc_store *store, uint16_t node, uint64_t number, uint64_t stamp, const uint8_t *key,
+                             size_t key_len, uint64_t *word) HLC_CHECKED(1, 7);
+hlc_answer hlc_accept_report(hlc_store *store, uint16_t node, uint64_t number, uint64_t stamp, uint64_t *word)
+    HLC_CHECKED(1, 5);
+hlc_answer hlc_accept_retire(hlc_store *store, uint16_t node, uint64_t number, uint64_t stamp, uint64_t *word)
+    HLC_CHECKED(1, 5);
 
 /* A write, or a deletion, that a node issued. Its key and its value are this many bytes from these places on; the value
  * fields of a deletion are ignored. */
@@ -237,43 +284,44 @@ typedef struct {
 /* Accepts entries in turn, as hlc_accept_write and hlc_accept_delete do, until one is refused. many: how many were
  * accepted, also at a refusal: they stay accepted. word: 0, or the refusal's word. One call for many items, for callers
  * for which a call is expensive. */
-uint32_t hlc_accept_all(hlc_store *store, const hlc_entry *entries, size_t entries_len, const uint8_t *bytes,
-                        size_t bytes_len, size_t *many, uint64_t *word);
+hlc_answer hlc_accept_all(hlc_store *store, const hlc_entry *entries, size_t entries_len, const uint8_t *bytes,
+                          size_t bytes_len, size_t *many, uint64_t *word) HLC_CHECKED(1, 6, 7);
 
 /* Returns what the hlc_accept call of the same name would return, except 15. word: 0, or the refusal's word. No memory.
  * hlc_check_report answers for hlc_accept_retire too. */
-uint32_t hlc_check_write(hlc_store *store, uint16_t node, uint64_t number, uint64_t stamp,
-                         const uint8_t *key, size_t key_len, const uint8_t *value, size_t value_len, uint64_t *word);
-uint32_t hlc_check_delete(hlc_store *store, uint16_t node, uint64_t number, uint64_t stamp,
-                          const uint8_t *key, size_t key_len, uint64_t *word);
-uint32_t hlc_check_report(hlc_store *store, uint16_t node, uint64_t number, uint64_t stamp, uint64_t *word);
+hlc_answer hlc_check_write(hlc_store *store, uint16_t node, uint64_t number, uint64_t stamp, const uint8_t *key,
+                           size_t key_len, const uint8_t *value, size_t value_len, uint64_t *word) HLC_CHECKED(1, 9);
+hlc_answer hlc_check_delete(hlc_store *store, uint16_t node, uint64_t number, uint64_t stamp, const uint8_t *key,
+                            size_t key_len, uint64_t *word) HLC_CHECKED(1, 7);
+hlc_answer hlc_check_report(hlc_store *store, uint16_t node, uint64_t number, uint64_t stamp, uint64_t *word)
+    HLC_CHECKED(1, 5);
 
 /* Lets a node join. node: its number; start: the stamp at which its clock starts, for hlc_node_open. Refusals: 26,
  * 15. */
-uint32_t hlc_join(hlc_store *store, uint16_t *node, uint64_t *start);
+hlc_answer hlc_join(hlc_store *store, uint16_t *node, uint64_t *start) HLC_CHECKED(1, 2, 3);
 
 /* Lets a node join that starts at this stamp, at or above the floor. Stores that accept the same items agree on a join
  * if each gets the same start, whatever their floors are then. node: its number; word: the start, for hlc_node_open, or
  * the refusal's word, which is the floor with 9. Refusals, in this order: 26, 9, 15. */
-uint32_t hlc_join_at(hlc_store *store, uint64_t start, uint16_t *node, uint64_t *word);
+hlc_answer hlc_join_at(hlc_store *store, uint64_t start, uint16_t *node, uint64_t *word) HLC_CHECKED(1, 3, 4);
 
 /* Opens a snapshot at a stamp. id: its id, or the refusal's word. Refusals: 8, 9, 11, 14, 15. */
-uint32_t hlc_open_snapshot(hlc_store *store, uint64_t stamp, uint64_t *id);
+hlc_answer hlc_open_snapshot(hlc_store *store, uint64_t stamp, uint64_t *id) HLC_CHECKED(1, 3);
 
 /* Opens a snapshot at the floor (closed timestamp). Refusals: 11, 14, 15. */
-uint32_t hlc_open_snapshot_at_floor(hlc_store *store, uint64_t *id, uint64_t *stamp);
+hlc_answer hlc_open_snapshot_at_floor(hlc_store *store, uint64_t *id, uint64_t *stamp) HLC_CHECKED(1, 2, 3);
 
 /* Closes a snapshot. stamp: the stamp at which it was opened. Refusal: 10. No memory. */
-uint32_t hlc_close_snapshot(hlc_store *store, uint64_t id, uint64_t *stamp);
+hlc_answer hlc_close_snapshot(hlc_store *store, uint64_t id, uint64_t *stamp) HLC_CHECKED(1, 3);
 
 /* Closes all open snapshots. Their ids are not used again. No memory. */
-uint32_t hlc_close_all(hlc_store *store);
+hlc_answer hlc_close_all(hlc_store *store) HLC_CHECKED(1);
 
 /* Reads a key in a snapshot. len: the length of the value, also where it is greater than out_len: then out keeps its
  * bytes, and a call with a larger buffer reads the value. Refusals: 10, 102. No memory. Looks the key up and searches
  * its rows. */
-uint32_t hlc_read(hlc_store *store, uint64_t id, const uint8_t *key, size_t key_len,
-                  uint8_t *out, size_t out_len, size_t *len);
+hlc_answer hlc_read(hlc_store *store, uint64_t id, const uint8_t *key, size_t key_len, uint8_t *out, size_t out_len,
+                    size_t *len) HLC_CHECKED(1, 7);
 
 /* The place of a key: this many bytes from `at` on. */
 typedef struct {
@@ -286,35 +334,36 @@ typedef struct {
  * written; many: how many keys were answered. Returns HLC_OK where these are all; or HLC_MORE where the next answer
  * does not fit, or HLC_OUTSIDE where the bytes do not contain the next key: a call with the places from there on
  * continues. Refusal: 10. No memory. For callers for which a call is expensive. */
-uint32_t hlc_read_all(hlc_store *store, uint64_t id, const hlc_place *places, size_t places_len, const uint8_t *bytes,
-                      size_t bytes_len, uint8_t *out, size_t out_len, size_t *len, size_t *many);
+hlc_answer hlc_read_all(hlc_store *store, uint64_t id, const hlc_place *places, size_t places_len, const uint8_t *bytes,
+                        size_t bytes_len, uint8_t *out, size_t out_len, size_t *len, size_t *many)
+    HLC_CHECKED(1, 9, 10);
 
 /* Lists all keys with a value in a snapshot, in byte order: for each the key's length, the key, the value's length, and
  * the value. A length has eight bytes, the low one first. len: how many bytes that takes, as in hlc_read, or 2^64 - 1
  * where it would be greater. Refusal: 10. No memory. Goes through the keys once where out has room for 16 bytes a key
  * and for all bytes of keys and values that hlc_sizes counts, otherwise twice. */
-uint32_t hlc_list(hlc_store *store, uint64_t id, uint8_t *out, size_t out_len, size_t *len);
+hlc_answer hlc_list(hlc_store *store, uint64_t id, uint8_t *out, size_t out_len, size_t *len) HLC_CHECKED(1, 5);
 
 /* Lists a part of what hlc_list lists: the keys from `from` on and below `to`, or all keys from `from` on if `to`
  * has no bytes; of these, as many whole pairs as out has room for. len: how many bytes were written; many: how many
  * pairs. Returns HLC_OK where these are all pairs of the range, or HLC_MORE where a pair is left. The next call goes
  * on from the last key with a byte 0 after it. A pair has at most 65,806 bytes, so a buffer of that size always gets
  * one. Refusal: 10. No memory. Looks up the first key, and each key that is returned costs a look at its rows. */
-uint32_t hlc_scan(hlc_store *store, uint64_t id, const uint8_t *from, size_t from_len, const uint8_t *to, size_t to_len,
-                  uint8_t *out, size_t out_len, size_t *len, size_t *many);
+hlc_answer hlc_scan(hlc_store *store, uint64_t id, const uint8_t *from, size_t from_len, const uint8_t *to,
+                    size_t to_len, uint8_t *out, size_t out_len, size_t *len, size_t *many) HLC_CHECKED(1, 9, 10);
 
 /* Lists such a range as hlc_scan does, but the keys alone: for each its length, and the key. So a key has at most 263
  * bytes. Refusal: 10. No memory. */
-uint32_t hlc_scan_keys(hlc_store *store, uint64_t id, const uint8_t *from, size_t from_len, const uint8_t *to,
-                       size_t to_len, uint8_t *out, size_t out_len, size_t *len, size_t *many);
+hlc_answer hlc_scan_keys(hlc_store *store, uint64_t id, const uint8_t *from, size_t from_len, const uint8_t *to,
+                         size_t to_len, uint8_t *out, size_t out_len, size_t *len, size_t *many) HLC_CHECKED(1, 9, 10);
 
 /* Lists such a range as hlc_scan does, but from its end: the pair of the last key comes first, and of the pairs as many
  * whole ones as out has room for. Returns HLC_OK where these are all pairs of the range, or HLC_MORE where a pair is
  * left. The next call has the last key that was returned as its `to`. So the last pair below a key is the first of this
  * call with the key as `to`, and a buffer of 65,806 bytes always gets one. Refusal: 10. No memory. Looks up the end of
  * the range, and each key that is returned costs a look at its rows. */
-uint32_t hlc_scan_back(hlc_store *store, uint64_t id, const uint8_t *from, size_t from_len, const uint8_t *to,
-                       size_t to_len, uint8_t *out, size_t out_len, size_t *len, size_t *many);
+hlc_answer hlc_scan_back(hlc_store *store, uint64_t id, const uint8_t *from, size_t from_len, const uint8_t *to,
+                         size_t to_len, uint8_t *out, size_t out_len, size_t *len, size_t *many) HLC_CHECKED(1, 9, 10);
 
 /* Lists what leads from one snapshot to another: the keys of such a range whose answers in the two differ, in byte
  * order. For each the key's length, in eight bytes as in hlc_list, the key, and its answer in the snapshot `after`, in
@@ -323,29 +372,31 @@ uint32_t hlc_scan_back(hlc_store *store, uint64_t id, const uint8_t *from, size_
  * all of the range, or HLC_MORE where one is left. The next call goes on from the last key with a byte 0 after it. One
  * has at most 65,807 bytes. Either snapshot may be the older one. Refusal: 10, where one of them is not open. No
  * memory. Looks up the first key, and looks at the rows of each key of the range up to the last that is returned. */
-uint32_t hlc_changes(hlc_store *store, uint64_t before, uint64_t after, const uint8_t *from, size_t from_len,
-                     const uint8_t *to, size_t to_len, uint8_t *out, size_t out_len, size_t *len, size_t *many);
+hlc_answer hlc_changes(hlc_store *store, uint64_t before, uint64_t after, const uint8_t *from, size_t from_len,
+                       const uint8_t *to, size_t to_len, uint8_t *out, size_t out_len, size_t *len, size_t *many)
+    HLC_CHECKED(1, 10, 11);
 
 /* Counts the keys of such a range that have a value in a snapshot. many: how many, or 2^64 - 1 where there are more.
  * Refusal: 10. No memory. */
-uint32_t hlc_count(hlc_store *store, uint64_t id, const uint8_t *from, size_t from_len,
-                   const uint8_t *to, size_t to_len, uint64_t *many);
+hlc_answer hlc_count(hlc_store *store, uint64_t id, const uint8_t *from, size_t from_len, const uint8_t *to,
+                     size_t to_len, uint64_t *many) HLC_CHECKED(1, 7);
 
 /* Digests such a range of a snapshot, so that replicas compare without listing. len: 32; out: the SHA-256 of the bytes
  * that hlc_list would write for these keys, where it has room. Refusal: 10. No memory. */
-uint32_t hlc_digest(hlc_store *store, uint64_t id, const uint8_t *from, size_t from_len,
-                    const uint8_t *to, size_t to_len, uint8_t *out, size_t out_len, size_t *len);
+hlc_answer hlc_digest(hlc_store *store, uint64_t id, const uint8_t *from, size_t from_len, const uint8_t *to,
+                      size_t to_len, uint8_t *out, size_t out_len, size_t *len) HLC_CHECKED(1, 9);
 
 /* Returns the floor: every item that is accepted later has a greater stamp. No memory. */
-uint32_t hlc_floor(hlc_store *store, uint64_t *stamp);
+hlc_answer hlc_floor(hlc_store *store, uint64_t *stamp) HLC_CHECKED(1, 2);
 
 /* Returns how many rows are stored, or 2^64 - 1 where there are more. No memory. In constant time. */
-uint32_t hlc_rows(hlc_store *store, uint64_t *rows);
+hlc_answer hlc_rows(hlc_store *store, uint64_t *rows) HLC_CHECKED(1, 2);
 
 /* Returns how much is stored. rows: how many rows; keys: how many keys have rows; key_bytes: the bytes of these keys,
  * each counted once; value_bytes: the bytes of the values of all rows, where a deletion has none. A number is 2^64 - 1
  * where it would be greater. The store takes more memory than these bytes. No memory. In constant time. */
-uint32_t hlc_sizes(hlc_store *store, uint64_t *rows, uint64_t *keys, uint64_t *key_bytes, uint64_t *value_bytes);
+hlc_answer hlc_sizes(hlc_store *store, uint64_t *rows, uint64_t *keys, uint64_t *key_bytes, uint64_t *value_bytes)
+    HLC_CHECKED(1, 2, 3, 4, 5);
 
 /* Lists the stored rows of a key above the stamp `above` and at or below the stamp `to`, the newest first: by stamp,
  * and at one stamp by node. For each the stamp in eight bytes and the node in two, the low one first, and the answer
@@ -353,23 +404,24 @@ uint32_t hlc_sizes(hlc_store *store, uint64_t *rows, uint64_t *keys, uint64_t *k
  * hlc_read; many: how many rows. The bytes are written where they all fit, otherwise out keeps its bytes. A row has at
  * most 65,554 bytes. From the horizon on these are all accepted writes of the key; below it, those that vacuums kept.
  * No memory. Looks at all rows of the key for each that it returns, so that it costs the square of their number. */
-uint32_t hlc_versions(hlc_store *store, const uint8_t *key, size_t key_len, uint64_t above, uint64_t to, uint8_t *out,
-                      size_t out_len, size_t *len, size_t *many);
+hlc_answer hlc_versions(hlc_store *store, const uint8_t *key, size_t key_len, uint64_t above, uint64_t to, uint8_t *out,
+                        size_t out_len, size_t *len, size_t *many) HLC_CHECKED(1, 8, 9);
 
 /* Drops all rows at or below the floor except the fewest, and the cheapest, that give the same answers as all accepted
  * writes at each open snapshot and at the floor. kept, dropped: numbers of rows at or below the floor; bytes: the cost
  * of those that were kept, which is for each the length of its key and of its value, and 10. The last two are 2^64 - 1
  * where they would be greater. Refusal: 15. Reads each key once at each point. Until it returns it takes at
  * most some three bytes of memory for each stored row. */
-uint32_t hlc_vacuum(hlc_store *store, uint64_t *floor, uint64_t *kept, uint64_t *bytes, uint64_t *dropped);
+hlc_answer hlc_vacuum(hlc_store *store, uint64_t *floor, uint64_t *kept, uint64_t *bytes, uint64_t *dropped)
+    HLC_CHECKED(1, 2, 3, 4, 5);
 
 /* Drops all rows at or below a stamp except the fewest, and the cheapest, that give the same answers as all accepted
  * writes at each snapshot that is open at or below the stamp, and at the stamp. All rows above it stay. No snapshot
  * opens below the stamp from then on: it is the horizon (GC threshold). word: the stamp, or the refusal's word; kept,
  * dropped, bytes: as in hlc_vacuum, for the rows at or below the stamp. Refusals, in this order: 8 above the floor, 9
  * below the horizon, 15. Reads each key once at each point. */
-uint32_t hlc_vacuum_to(hlc_store *store, uint64_t stamp, uint64_t *word, uint64_t *kept, uint64_t *bytes,
-                       uint64_t *dropped);
+hlc_answer hlc_vacuum_to(hlc_store *store, uint64_t stamp, uint64_t *word, uint64_t *kept, uint64_t *bytes,
+                         uint64_t *dropped) HLC_CHECKED(1, 3, 4, 5, 6);
 
 /* Makes a part of hlc_vacuum_to, so that one call does a bounded amount of work under the caller's lock: it vacuums
  * the first keys above `after`, which without bytes is below every key, at most `most` of them. word: the stamp, or
@@ -381,13 +433,13 @@ uint32_t hlc_vacuum_to(hlc_store *store, uint64_t stamp, uint64_t *word, uint64_
  * keys, and the cheapest, as hlc_vacuum_to does of all, at the snapshots that are open then. Parts from no bytes on to
  * the last, with no other call between them, make an hlc_vacuum_to together, whose numbers are their sums. Refusals,
  * in this order: 8, 9, 15. Looks `after` up, and reads these keys once at each point. */
-uint32_t hlc_vacuum_part(hlc_store *store, uint64_t stamp, const uint8_t *after, size_t after_len, size_t most,
-                         uint64_t *word, uint64_t *kept, uint64_t *bytes, uint64_t *dropped, uint8_t *out,
-                         size_t out_len, size_t *len, bool *more);
+hlc_answer hlc_vacuum_part(hlc_store *store, uint64_t stamp, const uint8_t *after, size_t after_len, size_t most,
+                           uint64_t *word, uint64_t *kept, uint64_t *bytes, uint64_t *dropped, uint8_t *out,
+                           size_t out_len, size_t *len, bool *more) HLC_CHECKED(1, 6, 7, 8, 9, 12, 13);
 
 /* Returns what hlc_vacuum_to, and hlc_vacuum_part, would return for this stamp, except 15. word: 0, or the refusal's
  * word. No memory. */
-uint32_t hlc_check_vacuum(hlc_store *store, uint64_t stamp, uint64_t *word);
+hlc_answer hlc_check_vacuum(hlc_store *store, uint64_t stamp, uint64_t *word) HLC_CHECKED(1, 3);
 
 /* Puts the certificate of the rows at or below a stamp into an output that has no bytes. It shows that no row set that
  * gives the same answers at each snapshot that is open at or below the stamp, and at the stamp, has fewer rows, or
@@ -396,24 +448,28 @@ uint32_t hlc_check_vacuum(hlc_store *store, uint64_t stamp, uint64_t *word);
  * word: 0, or the refusal's word; kept, bytes: as in hlc_vacuum_to; len: how many bytes the certificate has. Refusals,
  * in this order: 108; 8 above the floor; 9 below the horizon; 109 where a vacuum to the stamp would drop a row; 15,
  * which may come in place of 109. Reads each key once at each point. */
-uint32_t hlc_certificate(hlc_store *store, uint64_t stamp, uint64_t *word, uint64_t *kept, uint64_t *bytes,
-                         hlc_output *output, size_t *len);
+hlc_answer hlc_certificate(hlc_store *store, uint64_t stamp, uint64_t *word, uint64_t *kept, uint64_t *bytes,
+                           hlc_output *output, size_t *len) HLC_CHECKED(1, 3, 4, 5, 6, 7);
 
 /* Checks the text of a certificate, whoever made it: no row set that gives the same answers at its points has fewer
  * rows, or costs fewer bytes. rows, bytes: how many rows, and what they cost. word: 0, or the refusal's word.
  * Refusals: 16, 15, 22. */
-uint32_t hlc_check(const uint8_t *text, size_t text_len, uint64_t *rows, uint64_t *bytes, uint64_t *word);
+hlc_answer hlc_check(const uint8_t *text, size_t text_len, uint64_t *rows, uint64_t *bytes, uint64_t *word)
+    HLC_CHECKED(3, 4, 5);
 
 /* ---- Restart and replicas ---- */
 
 /* Writes an item that a node issued as bytes, for a log. len: how many bytes it has, as in hlc_read; an item has at
  * most 65,814 bytes. docs/formats.md describes them. Refusals: 12, 13. No memory. */
-uint32_t hlc_item_write(uint16_t node, uint64_t number, uint64_t stamp, const uint8_t *key, size_t key_len,
-                        const uint8_t *value, size_t value_len, uint8_t *out, size_t out_len, size_t *len);
-uint32_t hlc_item_delete(uint16_t node, uint64_t number, uint64_t stamp, const uint8_t *key, size_t key_len,
-                         uint8_t *out, size_t out_len, size_t *len);
-uint32_t hlc_item_report(uint16_t node, uint64_t number, uint64_t stamp, uint8_t *out, size_t out_len, size_t *len);
-uint32_t hlc_item_retire(uint16_t node, uint64_t number, uint64_t stamp, uint8_t *out, size_t out_len, size_t *len);
+hlc_answer hlc_item_write(uint16_t node, uint64_t number, uint64_t stamp, const uint8_t *key, size_t key_len,
+                          const uint8_t *value, size_t value_len, uint8_t *out, size_t out_len, size_t *len)
+    HLC_CHECKED(10);
+hlc_answer hlc_item_delete(uint16_t node, uint64_t number, uint64_t stamp, const uint8_t *key, size_t key_len,
+                           uint8_t *out, size_t out_len, size_t *len) HLC_CHECKED(8);
+hlc_answer hlc_item_report(uint16_t node, uint64_t number, uint64_t stamp, uint8_t *out, size_t out_len, size_t *len)
+    HLC_CHECKED(6);
+hlc_answer hlc_item_retire(uint16_t node, uint64_t number, uint64_t stamp, uint8_t *out, size_t out_len, size_t *len)
+    HLC_CHECKED(6);
 
 /* Accepts the items of a log, one after another as such bytes, until one is refused. Items whose numbers were
  * accepted before are passed over, so that a log can be read again from any place. many: how many items were
@@ -421,28 +477,28 @@ uint32_t hlc_item_retire(uint16_t node, uint64_t number, uint64_t stamp, uint8_t
  * Bytes that end within an item are refused with 106 and word 1. word: 0, or the refusal's word. Refusals, of each
  * item in this order: 106, 1, 27, 6, 14, 7, 15. Takes memory as hlc_accept_write does: for the rows of writes and
  * deletions, and nothing beside. */
-uint32_t hlc_items_accept(hlc_store *store, const uint8_t *bytes, size_t bytes_len, size_t *used, size_t *many,
-                          uint64_t *word);
+hlc_answer hlc_items_accept(hlc_store *store, const uint8_t *bytes, size_t bytes_len, size_t *used, size_t *many,
+                            uint64_t *word) HLC_CHECKED(1, 4, 5, 6);
 
 /* Writes a record of a log that is no item, as bytes: the join of a node, with the number that it is assigned and its
  * start; or a retention threshold, a stamp below which no more snapshot is opened. An item's own bytes are a record
  * too. len: how many bytes it has, as in hlc_read: 11, or 9. Refusals: none. No memory. */
-uint32_t hlc_record_join(uint16_t node, uint64_t start, uint8_t *out, size_t out_len, size_t *len);
-uint32_t hlc_record_threshold(uint64_t stamp, uint8_t *out, size_t out_len, size_t *len);
+hlc_answer hlc_record_join(uint16_t node, uint64_t start, uint8_t *out, size_t out_len, size_t *len) HLC_CHECKED(5);
+hlc_answer hlc_record_threshold(uint64_t stamp, uint8_t *out, size_t out_len, size_t *len) HLC_CHECKED(4);
 
 /* Applies the records of a log that replicas share, one after another, until one is not applied: items are accepted,
  * and nodes join at their starts. Records that came before are passed over, so that a log can be read again from any
  * place. A threshold changes nothing: threshold is the greatest stamp of one among these records, or 0, and the caller
  * may vacuum to it. many, used and word are as in hlc_items_accept. Refusals, of each item those of hlc_items_accept;
  * of each join in this order: 6 where its node is not the next one, word: the number that is next; 26, 9, 15. */
-uint32_t hlc_records_apply(hlc_store *store, const uint8_t *bytes, size_t bytes_len, size_t *used, size_t *many,
-                           uint64_t *threshold, uint64_t *word);
+hlc_answer hlc_records_apply(hlc_store *store, const uint8_t *bytes, size_t bytes_len, size_t *used, size_t *many,
+                             uint64_t *threshold, uint64_t *word) HLC_CHECKED(1, 4, 5, 6, 7);
 
 /* Saves the whole state of a store, with a word of the caller's: for example the place in a log up to which the store
  * applied it. The bytes go into an output that has none; len: how many they are. docs/formats.md describes them; they
  * end with a digest. Refusals, in this order: 108, 15. Takes memory for the bytes, and for a list of the rows of one
  * key at a time. */
-uint32_t hlc_checkpoint(hlc_store *store, uint64_t word, hlc_output *output, size_t *len);
+hlc_answer hlc_checkpoint(hlc_store *store, uint64_t word, hlc_output *output, size_t *len) HLC_CHECKED(1, 3, 4);
 
 /* A saving in pieces of any size, so that the bytes of a checkpoint need not be in memory at once. Its fields are the
  * library's. */
@@ -456,7 +512,7 @@ typedef struct {
 /* Begins to save the whole state of a store, with a word of the caller's, as hlc_checkpoint does. len: how many bytes
  * it will be in all. Refusals, in this order: 101 where a saving is under way, 15. Looks at each row, to add up its
  * length, and takes memory for a list of 16 bytes for each 64 to 128 keys, which is freed at once. */
-uint32_t hlc_saving_start(hlc_saving *saving, hlc_store *store, uint64_t word, uint64_t *len);
+hlc_answer hlc_saving_start(hlc_saving *saving, hlc_store *store, uint64_t word, uint64_t *len) HLC_CHECKED(1, 2, 4);
 
 /* Writes the next bytes of a saving, as many as out has room for. len: how many were written. Returns HLC_OK where they
  * are the last: all pieces, one after another, are the bytes of hlc_checkpoint, and the saving has ended. Returns
@@ -467,10 +523,11 @@ uint32_t hlc_saving_start(hlc_saving *saving, hlc_store *store, uint64_t word, u
  * the saving. Each call gets the store of hlc_saving_start: another one is refused with 112 only if these numbers of it
  * differ. Between two calls a saving has the rows of at most 32 keys as bytes, and a call takes memory for as many. It
  * looks at each node, and looks a key up for each 32 keys. */
-uint32_t hlc_saving_read(hlc_saving *saving, hlc_store *store, uint8_t *out, size_t out_len, size_t *len);
+hlc_answer hlc_saving_read(hlc_saving *saving, hlc_store *store, uint8_t *out, size_t out_len, size_t *len)
+    HLC_CHECKED(1, 2, 5);
 
 /* Ends a saving before all its bytes were read, and frees what it has. A saving that is not ended leaks its memory. */
-void hlc_saving_drop(hlc_saving *saving);
+void hlc_saving_drop(hlc_saving *saving) HLC_NONNULL(1);
 
 /* Saves an increment: the whole state of a store, but of its rows only those above a stamp, with a word of the
  * caller's. As the stamp choose the floor that the store had at an older checkpoint: what was accepted since is above
@@ -478,8 +535,8 @@ void hlc_saving_drop(hlc_saving *saving);
  * many they are. horizon: 0, or with 9 the horizon. Refusals, in this order: 108; 9 where the stamp is below the
  * horizon: then make a whole checkpoint; 15. Goes through all rows, copies those above the stamp, and takes memory for
  * twice that. */
-uint32_t hlc_increment(hlc_store *store, uint64_t since, uint64_t word, hlc_output *output, size_t *len,
-                       uint64_t *horizon);
+hlc_answer hlc_increment(hlc_store *store, uint64_t since, uint64_t word, hlc_output *output, size_t *len,
+                         uint64_t *horizon) HLC_CHECKED(1, 4, 5, 6);
 
 /* Makes, of the bytes of an older checkpoint and of an increment of the same store, those of the newer checkpoint, with
  * the increment's word. hlc_restore opens a store from them. It answers as the newer one did, but also has the rows
@@ -491,15 +548,15 @@ uint32_t hlc_increment(hlc_store *store, uint64_t since, uint64_t word, hlc_outp
  * store; 8 where its stamp is above the floor of the older checkpoint, word: that floor; 110 with the word 0 where its
  * stamp does not fit its rows and its horizon; 15. But 15 may come in place of all others but 108, when memory runs out
  * before the fault is found. Copies each row of both, and takes memory for a few times that. */
-uint32_t hlc_increment_apply(const uint8_t *older, size_t older_len, const uint8_t *increment, size_t increment_len,
-                             hlc_output *output, size_t *len, uint64_t *word);
+hlc_answer hlc_increment_apply(const uint8_t *older, size_t older_len, const uint8_t *increment, size_t increment_len,
+                               hlc_output *output, size_t *len, uint64_t *word) HLC_CHECKED(5, 6, 7);
 
 /* Opens a closed store from the bytes of hlc_checkpoint, whoever wrote them. It continues as the saved store would
  * have: the same next items, open snapshots, horizon and answers. word: the word that was saved, or the refusal's.
  * Refusals, in this order: 101, 106, 107, 15; but 15 may come in place of 106 and 107, when memory runs out before the
  * fault is found. Bytes that hlc_checkpoint returned are refused with 101 and 15 alone. Takes memory for the store
  * alone. */
-uint32_t hlc_restore(hlc_store *store, const uint8_t *bytes, size_t bytes_len, uint64_t *word);
+hlc_answer hlc_restore(hlc_store *store, const uint8_t *bytes, size_t bytes_len, uint64_t *word) HLC_CHECKED(1, 4);
 
 /* A restore from pieces of any size, so that the bytes of a checkpoint need not be in memory at once. Its fields are
  * the library's. */
@@ -511,49 +568,51 @@ typedef struct {
 #define HLC_NO_RESTORING { 0, false }
 
 /* Starts a restore. Refusals: 101 where one is under way, 15. */
-uint32_t hlc_restore_start(hlc_restoring *restoring);
+hlc_answer hlc_restore_start(hlc_restoring *restoring) HLC_CHECKED(1);
 
 /* Adds the next bytes. Refusals: 100 where no restore is under way; 15, and nothing was added. No fault of the bytes is
  * found before hlc_restore_finish. */
-uint32_t hlc_restore_feed(hlc_restoring *restoring, const uint8_t *bytes, size_t bytes_len);
+hlc_answer hlc_restore_feed(hlc_restoring *restoring, const uint8_t *bytes, size_t bytes_len) HLC_CHECKED(1);
 
 /* Opens a closed store from all bytes that were added, as hlc_restore does, and ends the restore. word: as in
  * hlc_restore. Refusals, in this order: 100 where no restore is under way; 101 where the store is open, and the restore
  * goes on; 106, 107 and 15, as of hlc_restore, after which the restore has ended. */
-uint32_t hlc_restore_finish(hlc_restoring *restoring, hlc_store *store, uint64_t *word);
+hlc_answer hlc_restore_finish(hlc_restoring *restoring, hlc_store *store, uint64_t *word) HLC_CHECKED(1, 2, 3);
 
 /* Ends a restore without a store, and frees what it has. A restore that is not ended leaks its memory. */
-void hlc_restore_drop(hlc_restoring *restoring);
+void hlc_restore_drop(hlc_restoring *restoring) HLC_NONNULL(1);
 
 /* ---- Outputs ---- No memory in any call. */
 
 /* Reads the bytes of an output from a place on, where the first byte is at 0: as many as out has room for. len: how
  * many were written. Returns HLC_OK where they are the last, or HLC_MORE where bytes are left: the next call goes on at
  * `from` + len. An output without bytes has nothing to read. */
-uint32_t hlc_output_read(hlc_output *output, size_t from, uint8_t *out, size_t out_len, size_t *len);
+hlc_answer hlc_output_read(hlc_output *output, size_t from, uint8_t *out, size_t out_len, size_t *len)
+    HLC_CHECKED(1, 5);
 
 /* Frees the bytes of an output, which has none then and can be used again. */
-void hlc_output_drop(hlc_output *output);
+void hlc_output_drop(hlc_output *output) HLC_NONNULL(1);
 
 /* ---- What a store has ---- No memory in any call. */
 
 /* Returns the horizon (GC threshold): the stamp of the last vacuum, or part of one, or 0 before the first. In constant
  * time. */
-uint32_t hlc_horizon(hlc_store *store, uint64_t *stamp);
+hlc_answer hlc_horizon(hlc_store *store, uint64_t *stamp) HLC_CHECKED(1, 2);
 
 /* Returns how many node numbers are assigned, those of retired nodes too. In constant time. */
-uint32_t hlc_nodes(hlc_store *store, uint64_t *many);
+hlc_answer hlc_nodes(hlc_store *store, uint64_t *many) HLC_CHECKED(1, 2);
 
 /* Returns what was accepted from a node. next: the number of its next item; head: the stamp of its last accepted
  * item, or of its start; retired: whether its retirement was accepted. Refusal: 1. In constant time. */
-uint32_t hlc_link(hlc_store *store, uint16_t node, uint64_t *next, uint64_t *head, bool *retired);
+hlc_answer hlc_link(hlc_store *store, uint16_t node, uint64_t *next, uint64_t *head, bool *retired)
+    HLC_CHECKED(1, 3, 4, 5);
 
 /* Returns the first node that holds the floor back: it has not retired, and its head is the floor. Refusal: 1, where
  * all nodes have retired. Looks at each node up to that one. */
-uint32_t hlc_floor_node(hlc_store *store, uint64_t *node);
+hlc_answer hlc_floor_node(hlc_store *store, uint64_t *node) HLC_CHECKED(1, 2);
 
 /* Returns the open snapshot at a place, from 0 on, by rising ids. Refusal: 10 after the last. In constant time. */
-uint32_t hlc_snapshot(hlc_store *store, uint64_t place, uint64_t *id, uint64_t *stamp);
+hlc_answer hlc_snapshot(hlc_store *store, uint64_t place, uint64_t *id, uint64_t *stamp) HLC_CHECKED(1, 3, 4);
 
 /* ---- A node ---- No memory in any call. */
 
@@ -564,28 +623,28 @@ hlc_node hlc_node_open(uint16_t id, uint64_t start);
 /* Writes a node as it was before a restart, from its number, the stamp of its last event and the number of its next
  * item. Returns HLC_OK; or HLC_NO_SUCH_NODE where next is above last, which no node reaches, and writes what
  * hlc_node_open(id, last) returns. A node that retired has no further event, so it is not restored. */
-uint32_t hlc_node_restore(uint16_t id, uint64_t last, uint64_t next, hlc_node *node);
+hlc_answer hlc_node_restore(uint16_t id, uint64_t last, uint64_t next, hlc_node *node) HLC_CHECKED(4);
 
 /* Raises the node's clock to a stamp, without an event: the node's next stamps are above it. So the nodes of one
  * machine can share one clock. A stamp at or below the node's last one changes nothing. */
-void hlc_node_raise(hlc_node *node, uint64_t stamp);
+void hlc_node_raise(hlc_node *node, uint64_t stamp) HLC_NONNULL(1);
 
 /* Issues an item at this reading of a physical clock. number, word: the number and the stamp of the item, with which
  * the store accepts the same key and value; or 0 and the refusal's word. Refusals, in this order: 27, 12, 13, 14, 2, 3.
  * After hlc_node_retire the node issues nothing. */
-uint32_t hlc_node_write(hlc_node *node, uint64_t reading, const uint8_t *key, size_t key_len,
-                        const uint8_t *value, size_t value_len, uint64_t *number, uint64_t *word);
-uint32_t hlc_node_delete(hlc_node *node, uint64_t reading, const uint8_t *key, size_t key_len,
-                         uint64_t *number, uint64_t *word);
-uint32_t hlc_node_report(hlc_node *node, uint64_t reading, uint64_t *number, uint64_t *word);
-uint32_t hlc_node_retire(hlc_node *node, uint64_t reading, uint64_t *number, uint64_t *word);
+hlc_answer hlc_node_write(hlc_node *node, uint64_t reading, const uint8_t *key, size_t key_len, const uint8_t *value,
+                          size_t value_len, uint64_t *number, uint64_t *word) HLC_CHECKED(1, 7, 8);
+hlc_answer hlc_node_delete(hlc_node *node, uint64_t reading, const uint8_t *key, size_t key_len, uint64_t *number,
+                           uint64_t *word) HLC_CHECKED(1, 5, 6);
+hlc_answer hlc_node_report(hlc_node *node, uint64_t reading, uint64_t *number, uint64_t *word) HLC_CHECKED(1, 3, 4);
+hlc_answer hlc_node_retire(hlc_node *node, uint64_t reading, uint64_t *number, uint64_t *word) HLC_CHECKED(1, 3, 4);
 
 /* Sends a message. word: its stamp, which goes to the receiver; or the refusal's word. Refusals: 27, 2, 3. */
-uint32_t hlc_node_send(hlc_node *node, uint64_t reading, uint64_t *word);
+hlc_answer hlc_node_send(hlc_node *node, uint64_t reading, uint64_t *word) HLC_CHECKED(1, 3);
 
 /* Receives a message with this stamp, or observes a snapshot at it. word: the event's stamp, above that stamp and above
  * the node's last one. Refusals: 27, 2, 3. */
-uint32_t hlc_node_receive(hlc_node *node, uint64_t seen, uint64_t reading, uint64_t *word);
+hlc_answer hlc_node_receive(hlc_node *node, uint64_t seen, uint64_t reading, uint64_t *word) HLC_CHECKED(1, 4);
 
 #ifdef __cplusplus
 }

@@ -15,7 +15,7 @@ import struct
 
 HEADER = pathlib.Path(__file__).resolve().parent.parent / "include" / "hlcstore.h"
 NUMBERS = {"uint16_t": c.c_uint16, "uint32_t": c.c_uint32, "uint64_t": c.c_uint64, "size_t": c.c_size_t}
-NUMBERS["bool"] = c.c_bool
+NUMBERS |= {"bool": c.c_bool, "hlc_answer": c.c_uint32}
 # An entry of hlc_accept_all and a place of hlc_read_all, packed in the layout of C.
 ENTRY = struct.Struct("@H?QQNNNN")
 PLACE = struct.Struct("@NN")
@@ -122,7 +122,7 @@ class Library:
         self.granted = c.c_long.in_dll(library, "requests_granted")
         self.calls = {}
         declarations = re.sub(r"/\*.*?\*/", "", HEADER.read_text(), flags=re.S)
-        for result, name, text in re.findall(r"^(\w+) hlc_(\w+)\(([^)]*)\);", declarations, re.M):
+        for result, name, text in re.findall(r"^(\w+) hlc_(\w+)\(([^)]*)\)[^;]*;", declarations, re.M):
             function, reads = getattr(library, "hlc_" + name), parameters(text)
             function.argtypes = [type for parameter in reads for type in parameter.types]
             function.restype = STRUCTURES.get(result) or NUMBERS.get(result)

@@ -21,8 +21,8 @@ uint32_t raise_horizon(hlc_file *file, uint64_t stamp)
     uint64_t floor, horizon, word, kept, bytes, dropped;
     size_t len;
     bool more;
-    hlc_floor(&file->store, &floor);
-    hlc_horizon(&file->store, &horizon);
+    hlc_ignore(hlc_floor(&file->store, &floor));
+    hlc_ignore(hlc_horizon(&file->store, &horizon));
     if (stamp > floor) stamp = floor;
     if (stamp <= horizon) return HLC_OK;
     return hlc_vacuum_part(&file->store, stamp, NULL, 0, 0, &word, &kept, &bytes, &dropped, NULL, 0, &len, &more);

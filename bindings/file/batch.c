@@ -48,7 +48,7 @@ uint32_t hlc_file_batch_put(hlc_file_batch *batch, const uint8_t *key, size_t ke
     uint32_t answer = hlc_item_write(0, 0, 0, key, key_len, value, value_len, NULL, 0, &len);
     if (answer == HLC_OK) answer = make_room(batch, len, &out);
     if (answer != HLC_OK) return answer;
-    hlc_item_write(0, 0, 0, key, key_len, value, value_len, out, len, &len);
+    hlc_ignore(hlc_item_write(0, 0, 0, key, key_len, value, value_len, out, len, &len));
     return add(batch, len);
 }
 
@@ -59,7 +59,7 @@ uint32_t hlc_file_batch_delete(hlc_file_batch *batch, const uint8_t *key, size_t
     uint32_t answer = hlc_item_delete(0, 0, 0, key, key_len, NULL, 0, &len);
     if (answer == HLC_OK) answer = make_room(batch, len, &out);
     if (answer != HLC_OK) return answer;
-    hlc_item_delete(0, 0, 0, key, key_len, out, len, &len);
+    hlc_ignore(hlc_item_delete(0, 0, 0, key, key_len, out, len, &len));
     return add(batch, len);
 }
 

@@ -80,7 +80,7 @@ static uint32_t write_pieces(hlc_file *file, struct making *making)
     uint8_t *buffer = malloc(PIECE);
     if (!buffer) return HLC_NO_MEMORY;
     for (size_t at = 0; answer == HLC_OK && at < making->len; at += len) {
-        hlc_output_read(&making->output, at, buffer, PIECE, &len);
+        hlc_ignore(hlc_output_read(&making->output, at, buffer, PIECE, &len));
         answer = write_piece(file, making, buffer, len);
     }
     free(buffer);

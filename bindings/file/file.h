@@ -9,6 +9,7 @@
 #define HLC_FILE_H
 #define _GNU_SOURCE
 #include "hlcstore_file.h"
+#include "hlcstore_inline.h"
 #include <pthread.h>
 #include <sqlite3.h>
 

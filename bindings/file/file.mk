@@ -17,7 +17,7 @@ $(OUT)/file:
 $(OUT)/include/hlcstore_file.h: $(FILE_HEADER) | $(OUT)/include/hlcstore
 	cp $< $@
 
-$(OUT)/file/%.o: file/%.c file/file.h $(FILE_HEADER) $(HEADER) | $(OUT)/file
+$(OUT)/file/%.o: file/%.c file/file.h $(FILE_HEADER) $(wildcard ../include/*.h) | $(OUT)/file
 	$(CC) $(CPPFLAGS) $(CFLAGS) $(FILE_FLAGS) -I../include -c -o $@ $<
 
 # One object, in which only the names of the header are global.

@@ -153,10 +153,10 @@ void links_copy(struct links *to, const struct links *from)
 void links_of_store(struct links *links, hlc_store *mine)
 {
     uint64_t many;
-    hlc_nodes(mine, &many);
+    hlc_ignore(hlc_nodes(mine, &many));
     links->many = (uint32_t)many;
     for (uint32_t i = 0; i < links->many; i++) {
         struct link *link = &links->at[i];
-        hlc_link(mine, (uint16_t)i, &link->next, &link->head, &link->retired);
+        hlc_ignore(hlc_link(mine, (uint16_t)i, &link->next, &link->head, &link->retired));
     }
 }

@@ -256,7 +256,7 @@ static uint32_t begin_at(hlc_file *file, const struct recovery *recovery)
     file->ceiling = file->clock = state->clock;
     file->report.place = state->place;
     finish_checkpoint(file, file->newest.place, 0, recovery->len);
-    hlc_close_all(&file->store);
+    hlc_ignore(hlc_close_all(&file->store));
     return raise_horizon(file, state->horizon);
 }
 

@@ -77,8 +77,8 @@ uint32_t hlc_file_vacuum_older(hlc_file *file, uint64_t milliseconds, uint64_t *
     uint64_t stamp = PHYSICAL(now - milliseconds);
     pthread_mutex_lock(&file->vacuuming);
     hlc_file_read_begin(file, &mine);
-    hlc_floor(&mine, &floor);
-    hlc_horizon(&mine, &horizon);
+    hlc_ignore(hlc_floor(&mine, &floor));
+    hlc_ignore(hlc_horizon(&mine, &horizon));
     hlc_file_read_end(file);
     if (stamp > floor) stamp = floor;
     if (stamp < horizon) stamp = horizon;

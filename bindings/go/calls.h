@@ -150,14 +150,16 @@ typedef struct {
 static inline hlcgo_record hlcgo_record_join(uint16_t node, uint64_t start)
 {
     hlcgo_record record;
-    hlc_record_join(node, start, record.bytes, sizeof record.bytes, &record.len);
+    const uint32_t code = hlc_record_join(node, start, record.bytes, sizeof record.bytes, &record.len);
+    (void)code;
     return record;
 }
 
 static inline hlcgo_record hlcgo_record_threshold(uint64_t stamp)
 {
     hlcgo_record record;
-    hlc_record_threshold(stamp, record.bytes, sizeof record.bytes, &record.len);
+    const uint32_t code = hlc_record_threshold(stamp, record.bytes, sizeof record.bytes, &record.len);
+    (void)code;
     return record;
 }
 

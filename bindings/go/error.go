@@ -95,8 +95,9 @@ func (e *Error) Stamp() Stamp { return Stamp(e.Word) }
 // third.
 func LibraryVersion() uint32 { return uint32(C.hlc_version()) }
 
-// refusal returns nothing where a call was made, and otherwise its Error.
-func refusal(code C.uint32_t, word C.uint64_t) error {
+// refusal returns nothing where a call was made, and otherwise its Error. Its answer is an hlc_answer, or the number of
+// one.
+func refusal[Answer ~uint32](code Answer, word C.uint64_t) error {
 	if code == C.HLC_OK {
 		return nil
 	}

@@ -159,7 +159,7 @@ static uint32_t call(int step, hlc_store *store)
 static uint64_t rows(hlc_store *store)
 {
     uint64_t rows;
-    hlc_rows(store, &rows);
+    if (hlc_rows(store, &rows) == HLC_CLOSED && rows != 0) wrong++;
     return rows;
 }
 

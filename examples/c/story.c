@@ -1,6 +1,6 @@
 /* Two nodes write, snapshots are read, a vacuum drops rows, a node joins and one retires, another joins at a stamp and
  * a vacuum to a stamp drops rows, and two more in parts. Each answer is printed on a line. */
-#include "hlcstore.h"
+#include "hlcstore_inline.h"
 #include <inttypes.h>
 #include <stdio.h>
 #include <string.h>
@@ -240,7 +240,7 @@ static void save(void)
         code = hlc_checkpoint(&store, 77, &output, &len);
         print_answer("checkpoint", code, len);
     }
-    hlc_output_read(&output, 0, saved, sizeof saved, &len);
+    hlc_ignore(hlc_output_read(&output, 0, saved, sizeof saved, &len));
     hlc_output_drop(&output);
     code = hlc_restore(&copy, saved, len - 1, &word);
     print_answer("restore", code, word);
@@ -451,7 +451,7 @@ static void certify(void)
     certificate(at + 1, &output);
     certificate(at, &output);
     print_output(&output);
-    hlc_output_read(&output, 0, text, sizeof text, &len);
+    hlc_ignore(hlc_output_read(&output, 0, text, sizeof text, &len));
     hlc_output_drop(&output);
     check(text, len);
     check(text, 35);

@@ -342,7 +342,7 @@ class snapshot {
   // Closes the snapshot. Its calls throw HLC_NO_SNAPSHOT from then on.
   void close() noexcept {
     std::uint64_t stamp;
-    if (view_.handle) hlc_close_snapshot(view_.handle.get(), view_.id, &stamp);
+    if (view_.handle) static_cast<void>(hlc_close_snapshot(view_.handle.get(), view_.id, &stamp) == HLC_OK);
     view_.handle = nullptr;
   }
 

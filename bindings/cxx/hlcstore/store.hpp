@@ -445,7 +445,8 @@ class store {
     return handle_ ? handle_ : std::make_shared<hlc_store>(hlc_store HLC_CLOSED_STORE);
   }
 
-  std::uint64_t asked(std::uint32_t (*call)(hlc_store*, std::uint64_t*)) const {
+  template <class Call>
+  std::uint64_t asked(Call call) const {
     hlc_store mine = copy();
     return detail::word_of(call, &mine);
   }

@@ -55,8 +55,8 @@ static bool retire_others(void)
     uint64_t nodes, next, head, stamp;
     bool retired;
     hlc_file_read_begin(file, &mine);
-    hlc_nodes(&mine, &nodes);
-    hlc_link(&mine, (uint16_t)(nodes - 1), &next, &head, &retired);
+    EXPECT(hlc_nodes(&mine, &nodes), HLC_OK);
+    EXPECT(hlc_link(&mine, (uint16_t)(nodes - 1), &next, &head, &retired), HLC_OK);
     hlc_file_read_end(file);
     if (nodes == 1 || retired) return true;
     uint32_t answer = hlc_file_retire(file, (uint16_t)(nodes - 1), 10 + (uint64_t)many, &stamp);

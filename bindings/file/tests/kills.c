@@ -262,7 +262,7 @@ static void compare_nodes(void)
     hlc_store mine;
     uint64_t many, next, head, stamp;
     hlc_file_read_begin(file, &mine);
-    hlc_nodes(&mine, &many);
+    EXPECT(hlc_nodes(&mine, &many), HLC_OK);
     HOLDS(many == nodes || many == nodes + 1);
     nodes = many;
     for (uint64_t i = 0; i < nodes; i++) {

@@ -21,16 +21,18 @@ static size_t put_record(const struct links *links, uint8_t *bytes)
     uint64_t number = link->next + chance(12) / 10 - (link->next > 0 && chance(6) == 0);
     uint64_t stamp = link->head + 1 + chance(40) - (link->head > 20 && chance(10) == 0 ? 20 : 0);
     size_t len = 0;
+    uint32_t answer = HLC_OK;
     if (chance(200) == 0) number = UINT64_MAX;
     switch (chance(12)) {
-    case 0: hlc_item_report(node, number, stamp, bytes, 100, &len); break;
-    case 1: hlc_record_threshold(stamp, bytes, 100, &len); break;
-    case 2: hlc_record_join((uint16_t)(links->many - (chance(4) == 0) + (chance(9) == 0)),
-                            links_floor(links) + 2 - chance(3), bytes, 100, &len); break;
-    case 3: if (chance(4) == 0) hlc_item_retire(node, number, stamp, bytes, 100, &len); break;
-    case 4: hlc_item_delete(node, number, stamp, BYTES("key"), bytes, 100, &len); break;
-    default: hlc_item_write(node, number, stamp, BYTES("key"), value, chance(sizeof value), bytes, 100, &len);
+    case 0: answer = hlc_item_report(node, number, stamp, bytes, 100, &len); break;
+    case 1: answer = hlc_record_threshold(stamp, bytes, 100, &len); break;
+    case 2: answer = hlc_record_join((uint16_t)(links->many - (chance(4) == 0) + (chance(9) == 0)),
+                                     links_floor(links) + 2 - chance(3), bytes, 100, &len); break;
+    case 3: if (chance(4) == 0) answer = hlc_item_retire(node, number, stamp, bytes, 100, &len); break;
+    case 4: answer = hlc_item_delete(node, number, stamp, BYTES("key"), bytes, 100, &len); break;
+    default: answer = hlc_item_write(node, number, stamp, BYTES("key"), value, chance(sizeof value), bytes, 100, &len);
     }
+    EXPECT(answer, HLC_OK);
     return len;
 }
 
@@ -64,7 +66,7 @@ static void compare(hlc_store *store, struct links *links)
         EXPECT(links->at[i].head, made.at[i].head);
         EXPECT(links->at[i].retired, made.at[i].retired);
     }
-    hlc_floor(store, &word);
+    EXPECT(hlc_floor(store, &word), HLC_OK);
     EXPECT(links_floor(links), word);
 }
 
@@ -75,7 +77,7 @@ int main(int argc, char **argv)
     test_name = "records";
     for (unsigned i = 0; i < times && wrong == 0; i++) {
         hlc_store store = HLC_CLOSED_STORE;
-        hlc_open(&store, (uint16_t)(1 + chance(4)));
+        EXPECT(hlc_open(&store, (uint16_t)(1 + chance(4))), HLC_OK);
         links_of_store(&links, &store);
         for (int j = 0; j < 200 && wrong == 0; j++) compare(&store, &links);
         hlc_close(&store);

@@ -182,7 +182,7 @@ static size_t items(uint8_t *bytes, uint64_t from, uint64_t many, uint64_t l)
 {
     size_t at = 0, len;
     for (uint64_t i = from; i < from + many; i++) {
-        hlc_item_write(1, i, AT(l + i), BYTES("far"), BYTES("v"), bytes + at, 100, &len);
+        EXPECT(hlc_item_write(1, i, AT(l + i), BYTES("far"), BYTES("v"), bytes + at, 100, &len), HLC_OK);
         at += len;
     }
     return at;
@@ -262,7 +262,7 @@ static void a_threshold_waits_for_the_floor(void)
     uint64_t word, horizon, kept, cost, dropped, place;
     hlc_file *file = opened(fresh(PATH));
     put(file, 5, "a", "x");
-    hlc_record_threshold(AT(8), bytes, sizeof bytes, &len);
+    EXPECT(hlc_record_threshold(AT(8), bytes, sizeof bytes, &len), HLC_OK);
     EXPECT(hlc_file_append_records(file, bytes, len, 0, &many, &word), HLC_OK);
     EXPECT(hlc_file_vacuum_to(file, AT(4), &word, &kept, &cost, &dropped), HLC_OK);
     for (int i = 0; i < 3; i++) EXPECT(hlc_file_checkpoint(file, &place), HLC_OK);
@@ -289,9 +289,9 @@ static void append_thresholds(hlc_file *file, uint64_t one, uint64_t number, uin
     uint8_t bytes[100];
     size_t at, len, many;
     uint64_t word;
-    hlc_record_threshold(AT(one), bytes, sizeof bytes, &at);
-    hlc_item_write(0, number, AT(l), BYTES("a"), BYTES("x"), bytes + at, sizeof bytes - at, &len);
-    hlc_record_threshold(AT(other), bytes + at + len, sizeof bytes - at - len, &many);
+    EXPECT(hlc_record_threshold(AT(one), bytes, sizeof bytes, &at), HLC_OK);
+    EXPECT(hlc_item_write(0, number, AT(l), BYTES("a"), BYTES("x"), bytes + at, sizeof bytes - at, &len), HLC_OK);
+    EXPECT(hlc_record_threshold(AT(other), bytes + at + len, sizeof bytes - at - len, &many), HLC_OK);
     EXPECT(hlc_file_append_records(file, bytes, at + len + many, 0, &many, &word), HLC_OK);
 }
 

@@ -463,7 +463,7 @@ static PyObject *store_repr(PyObject *self)
     PyThreadState *thread = lock_to_ask(store, SHORT);
     hlc_store mine = store->handle;
     uint32_t code = hlc_floor(&mine, &floor);
-    hlc_rows(&mine, &rows);
+    if (code == HLC_OK) code = hlc_rows(&mine, &rows);
     unlock(store, thread);
     if (code != HLC_OK) return PyUnicode_FromString("<Store, closed>");
     return PyUnicode_FromFormat("<Store, floor=%llu.%llu, rows=%llu>", (unsigned long long)(floor >> 16),

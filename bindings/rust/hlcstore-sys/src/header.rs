@@ -2,6 +2,25 @@
 
 use core::ffi::c_void;
 
+pub const HLC_MAX_KEY: u32 = 255;
+pub const HLC_MAX_VALUE: u32 = 65535;
+pub const HLC_MAX_OPENED_NODES: u32 = 64;
+pub const HLC_MAX_NODES: u32 = 1024;
+pub const HLC_MAX_SNAPSHOTS: u32 = 1024;
+pub const HLC_MAX_PHYSICAL: u64 = 281_474_976_710_655;
+pub const HLC_MAX_COUNTER: u32 = 65535;
+pub const HLC_MAX_STAMP: u64 = 18_446_744_073_709_551_615;
+pub const HLC_MAX_NUMBER: u64 = 18_446_744_073_709_551_614;
+pub const HLC_MAX_PAIR: u32 = 65806;
+pub const HLC_MAX_LISTED_KEY: u32 = 263;
+pub const HLC_MAX_CHANGE: u32 = 65807;
+pub const HLC_MAX_READ_ANSWER: u32 = 65544;
+pub const HLC_MAX_ROW: u32 = 65554;
+pub const HLC_MAX_ITEM: u32 = 65814;
+pub const HLC_JOIN_LEN: u32 = 11;
+pub const HLC_THRESHOLD_LEN: u32 = 9;
+pub const HLC_DIGEST_LEN: u32 = 32;
+pub const HLC_ROW_COST: u32 = 10;
 pub const HLC_VERSION: &str = "0.1.0";
 pub const HLC_VERSION_NUMBER: u32 = 100;
 
