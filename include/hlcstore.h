@@ -3,6 +3,9 @@
  * Install it:     make -C bindings install PREFIX=/usr/local
  * Link with it:   cc main.c $(pkg-config --cflags --libs hlcstore)
  *
+ * hlcstore.h declares what the library exports. hlcstore_inline.h, which includes it, has what is made of that: results
+ * as structs, readers of what the calls write, reads of a const store, and hlc_strerror.
+ *
  * A stamp is one word, l * 65536 + c, with a physical part l below 2^48 and a counter c below 2^16.
  *
  * Answers. A call returns HLC_OK, the number of the first expected refusal, or HLC_CLOSED for a closed store. Every
@@ -28,7 +31,7 @@
  *   - calls that only read a store (those that may run beside "reads" in the table) may run concurrently, as under the
  *     reading side of a read-write lock, if each gets a copy of the store of its own:
  *         hlc_store mine = *store;
- *         hlc_read(&mine, ...);
+ *         answer = hlc_read(&mine, ...);
  *     A copy is made, and is used, only while no call is made with the store itself, not even one that reads: such a
  *     call changes the store's fields until it returns. A copy is of no use any more after the next call with the store
  *     that may not run beside "reads", even if that was refused. A copy is passed to no other calls, and is not closed;

@@ -229,7 +229,7 @@ typedef struct {
     uint64_t value_bytes;
 } hlc_store_sizes;
 
-/* hlc_sizes */
+/* By hlc_sizes. */
 HLC_CHECKED(1, 2) static inline hlc_answer hlc_get_sizes(const hlc_store *store, hlc_store_sizes *sizes)
 {
     hlc_store mine = *store;
@@ -244,7 +244,7 @@ typedef struct {
     bool retired;
 } hlc_link_state;
 
-/* hlc_link */
+/* By hlc_link. */
 HLC_CHECKED(1, 3) static inline hlc_answer hlc_get_link(const hlc_store *store, uint16_t node, hlc_link_state *link)
 {
     hlc_store mine = *store;
@@ -258,7 +258,7 @@ typedef struct {
     uint64_t stamp;
 } hlc_snapshot_info;
 
-/* hlc_snapshot */
+/* By hlc_snapshot. */
 HLC_CHECKED(1, 3)
 static inline hlc_answer hlc_get_snapshot(const hlc_store *store, uint64_t place, hlc_snapshot_info *snapshot)
 {
@@ -301,14 +301,14 @@ typedef struct {
     uint64_t word;
 } hlc_vacuum_report;
 
-/* hlc_vacuum */
+/* By hlc_vacuum. */
 HLC_CHECKED(1, 2) static inline hlc_answer hlc_run_vacuum(hlc_store *store, hlc_vacuum_report *report)
 {
     report->word = 0;
     return hlc_vacuum(store, &report->stamp, &report->kept, &report->bytes, &report->dropped);
 }
 
-/* hlc_vacuum_to */
+/* By hlc_vacuum_to. */
 HLC_CHECKED(1, 3)
 static inline hlc_answer hlc_run_vacuum_to(hlc_store *store, uint64_t stamp, hlc_vacuum_report *report)
 {
@@ -330,7 +330,7 @@ typedef struct {
 
 #define HLC_FIRST_PART { { 0, 0, 0, 0, 0 }, true, 0, { 0 } }
 
-/* hlc_vacuum_part: makes the next part, of at most so many keys.
+/* Makes the next part by hlc_vacuum_part, of at most so many keys.
  *
  *     hlc_vacuum_progress part = HLC_FIRST_PART;
  *     while (answer == HLC_OK && part.more) answer = hlc_run_vacuum_part(&store, stamp, 1024, &part);
@@ -363,7 +363,7 @@ typedef struct {
     uint64_t word;
 } hlc_certified;
 
-/* hlc_certificate */
+/* By hlc_certificate. */
 HLC_CHECKED(1, 3, 4)
 static inline hlc_answer hlc_get_certificate(const hlc_store *store, uint64_t stamp, hlc_output *output,
                                              hlc_certified *certified)
@@ -380,7 +380,7 @@ typedef struct {
     uint64_t word;
 } hlc_shown;
 
-/* hlc_check */
+/* By hlc_check. */
 HLC_CHECKED(3) static inline hlc_answer hlc_check_certificate(const uint8_t *text, size_t text_len, hlc_shown *shown)
 {
     return hlc_check(text, text_len, &shown->rows, &shown->bytes, &shown->word);
@@ -395,7 +395,7 @@ typedef struct {
     uint64_t word;
 } hlc_applied;
 
-/* hlc_items_accept, which knows no threshold */
+/* By hlc_items_accept; threshold is 0. */
 HLC_CHECKED(1, 4)
 static inline hlc_answer hlc_accept_log(hlc_store *store, const uint8_t *bytes, size_t bytes_len, hlc_applied *applied)
 {
@@ -403,7 +403,7 @@ static inline hlc_answer hlc_accept_log(hlc_store *store, const uint8_t *bytes, 
     return hlc_items_accept(store, bytes, bytes_len, &applied->used, &applied->many, &applied->word);
 }
 
-/* hlc_records_apply */
+/* By hlc_records_apply. */
 HLC_CHECKED(1, 4)
 static inline hlc_answer hlc_apply_records(hlc_store *store, const uint8_t *bytes, size_t bytes_len,
                                            hlc_applied *applied)

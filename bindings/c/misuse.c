@@ -1,4 +1,4 @@
-// What compilers refuse, with warnings as errors: without MISUSE this is taken, and with it each marked line is refused.
+// What compilers warn of: of each marked line, which is there with MISUSE, and of nothing else.
 #include <hlcstore_inline.h>
 
 void use(hlc_store *store, const hlc_store *shared, hlc_output *output, hlc_bytes rest);

@@ -6,7 +6,7 @@
  * which k + r - 2 is. So what a snapshot has, which is opened at the end of a round, follows from the round's number.
  * The last four snapshots are open; the vacuum after each third round keeps what they need. */
 #define _GNU_SOURCE
-#include "hlcstore.h"
+#include "hlcstore_inline.h"
 #include <inttypes.h>
 #include <pthread.h>
 #include <stdbool.h>
@@ -217,9 +217,8 @@ static void *read_on(void *shared)
     bool goes_on = true;
     while (goes_on) {
         pthread_rwlock_rdlock(&lock);
-        hlc_store mine = store;
         struct snapshot at = snapshots[rand_r(&reader->seed) % OPEN];
-        if (!look(&mine, &at, (unsigned)rand_r(&reader->seed) % 10, (unsigned)rand_r(&reader->seed) % KEYS))
+        if (!look(HLC_COPY(&store), &at, (unsigned)rand_r(&reader->seed) % 10, (unsigned)rand_r(&reader->seed) % KEYS))
             reader->wrong++;
         goes_on = !ended;
         pthread_rwlock_unlock(&lock);
