@@ -326,20 +326,20 @@ typedef struct {
     bool more;
     size_t after_len;
     uint8_t after[HLC_MAX_KEY];
-} hlc_vacuum_progress;
+} hlc_partial_vacuum;
 
 #define HLC_FIRST_PART { { 0, 0, 0, 0, 0 }, true, 0, { 0 } }
 
 /* Makes the next part by hlc_vacuum_part, of at most so many keys.
  *
- *     hlc_vacuum_progress part = HLC_FIRST_PART;
+ *     hlc_partial_vacuum part = HLC_FIRST_PART;
  *     while (answer == HLC_OK && part.more) answer = hlc_run_vacuum_part(&store, stamp, 1024, &part);
  *
  * After a refusal the part has the word, and is otherwise as it was: the call may be made again. */
 HLC_CHECKED(1, 4)
-static inline hlc_answer hlc_run_vacuum_part(hlc_store *store, uint64_t stamp, size_t most, hlc_vacuum_progress *part)
+static inline hlc_answer hlc_run_vacuum_part(hlc_store *store, uint64_t stamp, size_t most, hlc_partial_vacuum *part)
 {
-    hlc_vacuum_progress made = HLC_FIRST_PART;
+    hlc_partial_vacuum made = HLC_FIRST_PART;
     hlc_vacuum_report *report = &made.report;
     const hlc_answer answer =
         hlc_vacuum_part(store, stamp, part->after, part->after_len, most, &report->word, &report->kept, &report->bytes,

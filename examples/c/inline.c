@@ -347,7 +347,7 @@ static void vacuum_in_parts(void)
     static const size_t most[] = { 1, 0, 2 };
     static const uint64_t kept[] = { 1, 0, 1 };
     hlc_store store = HLC_CLOSED_STORE;
-    hlc_vacuum_progress part = HLC_FIRST_PART;
+    hlc_partial_vacuum part = HLC_FIRST_PART;
     fill(&store);
     EXPECT(hlc_run_vacuum_part(&store, HLC_STAMP(5, 0), 1, &part), HLC_ABOVE_FLOOR);
     EXPECT(part.report.word, HLC_STAMP(4, 0));
