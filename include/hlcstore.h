@@ -208,27 +208,27 @@ typedef char hlc_answer_has_32_bits[sizeof(hlc_answer) == sizeof(uint32_t) ? 1 :
 #define HLC_COUNTER(stamp) ((uint16_t)((uint64_t)(stamp) & 65535))
 
 /* The greatest of each. A key has at least one byte. */
-#define HLC_MAX_KEY 255                                   /* bytes of a key */
-#define HLC_MAX_VALUE 65535                               /* bytes of a value */
-#define HLC_MAX_OPENED_NODES 64                           /* nodes of hlc_open; there is at least one */
-#define HLC_MAX_NODES 1024                                /* node numbers of a store, with those that joined */
-#define HLC_MAX_SNAPSHOTS 1024                            /* snapshots that are open at once */
-#define HLC_MAX_PHYSICAL UINT64_C(281474976710655)        /* the physical part of a stamp, and a reading */
-#define HLC_MAX_COUNTER 65535                             /* the counter of a stamp */
-#define HLC_MAX_STAMP UINT64_C(18446744073709551615)      /* a stamp */
-#define HLC_MAX_NUMBER UINT64_C(18446744073709551614)     /* the number of an item, and the id of a snapshot */
+#define HLC_MAX_KEY 255                               /* bytes of a key */
+#define HLC_MAX_VALUE 65535                           /* bytes of a value */
+#define HLC_MAX_INITIAL_NODES 64                      /* nodes of hlc_open; there is at least one */
+#define HLC_MAX_NODES 1024                            /* node numbers of a store, with those that joined */
+#define HLC_MAX_OPEN_SNAPSHOTS 1024                   /* snapshots that are open at once */
+#define HLC_MAX_PHYSICAL UINT64_C(281474976710655)    /* the physical part of a stamp, and a reading */
+#define HLC_MAX_COUNTER 65535                         /* the counter of a stamp */
+#define HLC_MAX_STAMP UINT64_C(18446744073709551615)  /* a stamp */
+#define HLC_MAX_NUMBER UINT64_C(18446744073709551614) /* the number of an item, and the id of a snapshot */
 
 /* How many bytes there are at most. A buffer of so many always gets one. */
-#define HLC_MAX_PAIR 65806       /* a pair of hlc_list, hlc_scan and hlc_scan_back */
-#define HLC_MAX_LISTED_KEY 263   /* a key of hlc_scan_keys */
-#define HLC_MAX_CHANGE 65807     /* a change of hlc_changes */
+#define HLC_MAX_PAIR 65806        /* a pair of hlc_list, hlc_scan and hlc_scan_back */
+#define HLC_MAX_LISTED_KEY 263    /* a key of hlc_scan_keys */
+#define HLC_MAX_CHANGE 65807      /* a change of hlc_changes */
 #define HLC_MAX_READ_ANSWER 65544 /* an answer of hlc_read_all */
-#define HLC_MAX_ROW 65554        /* a row of hlc_versions */
-#define HLC_MAX_ITEM 65814       /* an item, and each record of a log */
+#define HLC_MAX_ROW 65554         /* a row of hlc_versions */
+#define HLC_MAX_ITEM 65814        /* an item, and each record of a log */
 /* How many bytes there are. */
-#define HLC_JOIN_LEN 11          /* a join of hlc_record_join */
-#define HLC_THRESHOLD_LEN 9      /* a threshold of hlc_record_threshold */
-#define HLC_DIGEST_LEN 32        /* a digest of hlc_digest */
+#define HLC_JOIN_LEN 11           /* a join of hlc_record_join */
+#define HLC_THRESHOLD_LEN 9       /* a threshold of hlc_record_threshold */
+#define HLC_DIGEST_LEN 32         /* a digest of hlc_digest */
 /* What a row costs beside the bytes of its key and its value, as a vacuum counts. */
 #define HLC_ROW_COST 10
 

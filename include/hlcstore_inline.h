@@ -272,7 +272,7 @@ HLC_CHECKED(1, 3)
 static inline hlc_answer hlc_get_snapshot_stamp(const hlc_store *store, uint64_t id, uint64_t *stamp)
 {
     hlc_snapshot_info open;
-    uint64_t low = 0, high = HLC_MAX_SNAPSHOTS;
+    uint64_t low = 0, high = HLC_MAX_OPEN_SNAPSHOTS;
     *stamp = 0;
     while (low < high) {
         const uint64_t place = low + (high - low) / 2;

@@ -431,7 +431,7 @@ int main(void)
     use_store();
     vacuum_in_parts();
     for (int many = 0; many < 6; many++) find_snapshots(many);
-    find_snapshots(HLC_MAX_SNAPSHOTS);
+    find_snapshots(HLC_MAX_OPEN_SNAPSHOTS);
     apply_a_log();
     printf("%s\n", wrong ? "wrong" : "all right");
     return wrong != 0;

@@ -65,9 +65,9 @@ static void limit_nodes(void)
     uint64_t word, many;
     uint16_t node;
     EXPECT(hlc_open(&store, 0), HLC_NO_NODE);
-    EXPECT(hlc_open(&store, HLC_MAX_OPENED_NODES + 1), HLC_NO_NODE);
-    EXPECT(hlc_open(&store, HLC_MAX_OPENED_NODES), HLC_OK);
-    for (int i = HLC_MAX_OPENED_NODES; i < HLC_MAX_NODES; i++) EXPECT(hlc_join(&store, &node, &word), HLC_OK);
+    EXPECT(hlc_open(&store, HLC_MAX_INITIAL_NODES + 1), HLC_NO_NODE);
+    EXPECT(hlc_open(&store, HLC_MAX_INITIAL_NODES), HLC_OK);
+    for (int i = HLC_MAX_INITIAL_NODES; i < HLC_MAX_NODES; i++) EXPECT(hlc_join(&store, &node, &word), HLC_OK);
     EXPECT(hlc_join(&store, &node, &word), HLC_TOO_MANY_NODES);
     EXPECT(hlc_nodes(&store, &many), HLC_OK);
     EXPECT(many, HLC_MAX_NODES);
@@ -79,7 +79,7 @@ static void limit_snapshots(void)
     hlc_store store = HLC_CLOSED_STORE;
     uint64_t id;
     EXPECT(hlc_open(&store, 1), HLC_OK);
-    for (int i = 0; i < HLC_MAX_SNAPSHOTS; i++) EXPECT(hlc_open_snapshot(&store, 0, &id), HLC_OK);
+    for (int i = 0; i < HLC_MAX_OPEN_SNAPSHOTS; i++) EXPECT(hlc_open_snapshot(&store, 0, &id), HLC_OK);
     EXPECT(hlc_open_snapshot(&store, 0, &id), HLC_TOO_MANY_SNAPSHOTS);
     hlc_close(&store);
 }

@@ -4,9 +4,9 @@ use core::ffi::c_void;
 
 pub const HLC_MAX_KEY: u32 = 255;
 pub const HLC_MAX_VALUE: u32 = 65535;
-pub const HLC_MAX_OPENED_NODES: u32 = 64;
+pub const HLC_MAX_INITIAL_NODES: u32 = 64;
 pub const HLC_MAX_NODES: u32 = 1024;
-pub const HLC_MAX_SNAPSHOTS: u32 = 1024;
+pub const HLC_MAX_OPEN_SNAPSHOTS: u32 = 1024;
 pub const HLC_MAX_PHYSICAL: u64 = 281_474_976_710_655;
 pub const HLC_MAX_COUNTER: u32 = 65535;
 pub const HLC_MAX_STAMP: u64 = 18_446_744_073_709_551_615;
