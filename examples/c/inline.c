@@ -344,7 +344,7 @@ static void use_store(void)
 /* A refused part has its word, and the next call makes it. Parts of one key and of none are parts too. */
 static void vacuum_in_parts(void)
 {
-    static const size_t most[] = { 1, 0, 2 };
+    static const size_t most[] = { 1, 0, 3 };
     static const uint64_t kept[] = { 1, 0, 1 };
     hlc_store store = HLC_CLOSED_STORE;
     hlc_partial_vacuum part = HLC_FIRST_PART;
