@@ -302,6 +302,7 @@ static void vacuum_and_certify(hlc_store *store)
     EXPECT(report.dropped, 0);
     EXPECT(hlc_close_snapshot(store, 1, &stamp), HLC_OK);
     EXPECT(hlc_get_certificate(store, HLC_STAMP(4, 0), &output, &certified), HLC_NOT_FEWEST);
+    report.word = 1;
     EXPECT(hlc_run_vacuum(store, &report), HLC_OK);
     EXPECT(report.stamp, HLC_STAMP(4, 0));
     EXPECT(report.word, 0);
@@ -370,8 +371,9 @@ static void vacuum_in_parts(void)
     hlc_close(&store);
 }
 
-/* Of so many snapshots at 0.0 each third one is closed: the others are found, and nothing else is. */
-static void find_snapshots(int many)
+/* Of so many snapshots, each at a stamp of its own, one of so many is closed, if any: the others are found, and nothing
+ * else is. */
+static void find_snapshots(int many, int closed)
 {
     hlc_store store = HLC_CLOSED_STORE;
     uint64_t id, stamp = 0, word;
@@ -381,9 +383,9 @@ static void find_snapshots(int many)
         EXPECT(hlc_accept_report(&store, 0, (uint64_t)i - 1, HLC_STAMP(i, 0), &word), HLC_OK);
         EXPECT(hlc_open_snapshot_at_floor(&store, &id, &word), HLC_OK);
     }
-    for (int i = 3; i <= many; i += 3) EXPECT(hlc_close_snapshot(&store, (uint64_t)i, &word), HLC_OK);
+    for (int i = closed; i <= many; i += closed) EXPECT(hlc_close_snapshot(&store, (uint64_t)i, &word), HLC_OK);
     for (int i = 1; i <= many; i++) {
-        const bool is_open = i % 3 != 0;
+        const bool is_open = i % closed != 0;
         EXPECT(hlc_get_snapshot_stamp(&store, (uint64_t)i, &stamp), is_open ? HLC_OK : HLC_NO_SNAPSHOT);
         EXPECT(stamp, is_open ? HLC_STAMP(i, 0) : 0);
     }
@@ -398,7 +400,7 @@ static void find_snapshots(int many)
 static void apply_a_log(void)
 {
     hlc_store store = HLC_CLOSED_STORE;
-    hlc_applied applied;
+    hlc_applied applied = { 1, 1, 1, 1 };
     uint8_t log[256];
     size_t at = 0, len;
     EXPECT(hlc_open(&store, 1), HLC_OK);
@@ -430,8 +432,9 @@ int main(void)
     read_cut_and_damaged();
     use_store();
     vacuum_in_parts();
-    for (int many = 0; many < 6; many++) find_snapshots(many);
-    find_snapshots(HLC_MAX_OPEN_SNAPSHOTS);
+    for (int many = 0; many < 6; many++) find_snapshots(many, 3);
+    find_snapshots(HLC_MAX_OPEN_SNAPSHOTS, 2);
+    find_snapshots(HLC_MAX_OPEN_SNAPSHOTS, HLC_MAX_OPEN_SNAPSHOTS + 1);
     apply_a_log();
     printf("%s\n", wrong ? "wrong" : "all right");
     return wrong != 0;
