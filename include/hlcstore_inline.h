@@ -1,7 +1,7 @@
 /* hlcstore for C, over hlcstore.h: results as structs, readers of what the calls write, reads of a const store, and the
  * texts of answers. All of it is inline, so that a program needs no more of the library, and is tested, not proved.
  * It is C99, and C++ from C++11 on. The rules of hlcstore.h hold: which pointers may be NULL, which calls may run
- * beside each other, and what an answer leaves unchanged.
+ * beside each other, and what an answer leaves unchanged. Names that begin with hlc_inline are this header's own.
  */
 #ifndef HLCSTORE_INLINE_H
 #define HLCSTORE_INLINE_H
@@ -124,7 +124,7 @@ typedef struct {
 } hlc_key_version;
 
 /* Takes a number of so many bytes, at most eight, the low one first. */
-HLC_CHECKED(1, 3) static inline bool hlc_take_number(hlc_bytes *rest, size_t size, uint64_t *number)
+HLC_CHECKED(1, 3) static inline bool hlc_inline_low_first(hlc_bytes *rest, size_t size, uint64_t *number)
 {
     *number = 0;
     if (rest->len < size) return false;
@@ -135,10 +135,10 @@ HLC_CHECKED(1, 3) static inline bool hlc_take_number(hlc_bytes *rest, size_t siz
 }
 
 /* Takes a length of eight bytes, and so many bytes after it; where these are not there, perhaps the length alone. */
-HLC_CHECKED(1, 2) static inline bool hlc_take_bytes(hlc_bytes *rest, hlc_bytes *bytes)
+HLC_CHECKED(1, 2) static inline bool hlc_inline_sized(hlc_bytes *rest, hlc_bytes *bytes)
 {
     uint64_t len;
-    if (!hlc_take_number(rest, 8, &len) || len > rest->len) return false;
+    if (!hlc_inline_low_first(rest, 8, &len) || len > rest->len) return false;
     bytes->at = rest->at;
     bytes->len = (size_t)len;
     rest->at += bytes->len;
@@ -147,13 +147,13 @@ HLC_CHECKED(1, 2) static inline bool hlc_take_bytes(hlc_bytes *rest, hlc_bytes *
 }
 
 /* Takes a byte 0 for none, or 1 and a value; where no whole one is there, perhaps a part of it. */
-HLC_CHECKED(1, 2) static inline bool hlc_take_value(hlc_bytes *rest, hlc_value *value)
+HLC_CHECKED(1, 2) static inline bool hlc_inline_value(hlc_bytes *rest, hlc_value *value)
 {
     uint64_t exists;
     memset(value, 0, sizeof *value);
-    if (!hlc_take_number(rest, 1, &exists) || exists > 1) return false;
+    if (!hlc_inline_low_first(rest, 1, &exists) || exists > 1) return false;
     value->exists = exists == 1;
-    return !value->exists || hlc_take_bytes(rest, &value->bytes);
+    return !value->exists || hlc_inline_sized(rest, &value->bytes);
 }
 
 /* The next pair of hlc_list, hlc_scan and hlc_scan_back. */
@@ -161,7 +161,7 @@ HLC_CHECKED(1, 2) static inline bool hlc_next_pair(hlc_bytes *rest, hlc_pair *pa
 {
     const hlc_bytes whole = *rest;
     memset(pair, 0, sizeof *pair);
-    if (hlc_take_bytes(rest, &pair->key) && hlc_take_bytes(rest, &pair->value)) return true;
+    if (hlc_inline_sized(rest, &pair->key) && hlc_inline_sized(rest, &pair->value)) return true;
     memset(pair, 0, sizeof *pair);
     *rest = whole;
     return false;
@@ -172,7 +172,7 @@ HLC_CHECKED(1, 2) static inline bool hlc_next_key(hlc_bytes *rest, hlc_bytes *ke
 {
     const hlc_bytes whole = *rest;
     memset(key, 0, sizeof *key);
-    if (hlc_take_bytes(rest, key)) return true;
+    if (hlc_inline_sized(rest, key)) return true;
     *rest = whole;
     return false;
 }
@@ -181,7 +181,7 @@ HLC_CHECKED(1, 2) static inline bool hlc_next_key(hlc_bytes *rest, hlc_bytes *ke
 HLC_CHECKED(1, 2) static inline bool hlc_next_value(hlc_bytes *rest, hlc_value *value)
 {
     const hlc_bytes whole = *rest;
-    if (hlc_take_value(rest, value)) return true;
+    if (hlc_inline_value(rest, value)) return true;
     memset(value, 0, sizeof *value);
     *rest = whole;
     return false;
@@ -192,7 +192,7 @@ HLC_CHECKED(1, 2) static inline bool hlc_next_change(hlc_bytes *rest, hlc_change
 {
     const hlc_bytes whole = *rest;
     memset(change, 0, sizeof *change);
-    if (hlc_take_bytes(rest, &change->key) && hlc_take_value(rest, &change->value)) return true;
+    if (hlc_inline_sized(rest, &change->key) && hlc_inline_value(rest, &change->value)) return true;
     memset(change, 0, sizeof *change);
     *rest = whole;
     return false;
@@ -204,12 +204,85 @@ HLC_CHECKED(1, 2) static inline bool hlc_next_version(hlc_bytes *rest, hlc_key_v
     const hlc_bytes whole = *rest;
     uint64_t node;
     memset(version, 0, sizeof *version);
-    if (hlc_take_number(rest, 8, &version->stamp) && hlc_take_number(rest, 2, &node) &&
-        hlc_take_value(rest, &version->value)) {
+    if (hlc_inline_low_first(rest, 8, &version->stamp) && hlc_inline_low_first(rest, 2, &node) &&
+        hlc_inline_value(rest, &version->value)) {
         version->node = (uint16_t)node;
         return true;
     }
     memset(version, 0, sizeof *version);
+    *rest = whole;
+    return false;
+}
+
+/* ---- Items of a log ---- */
+
+typedef enum hlc_item_kind {
+    HLC_ITEM_WRITE,
+    HLC_ITEM_DELETE,
+    HLC_ITEM_REPORT,
+    HLC_ITEM_RETIRE
+} hlc_item_kind;
+
+/* An item that a node issued. Only a write and a deletion have a key, and only a write has a value. */
+typedef struct {
+    hlc_item_kind kind;
+    uint16_t node;
+    uint64_t number;
+    uint64_t stamp;
+    hlc_bytes key;
+    hlc_bytes value;
+} hlc_item;
+
+/* Takes a number of so many bytes, at most eight, the high one first, as items have them. */
+HLC_CHECKED(1, 3) static inline bool hlc_inline_high_first(hlc_bytes *rest, size_t size, uint64_t *number)
+{
+    *number = 0;
+    if (rest->len < size) return false;
+    for (size_t at = 0; at < size; at++) *number = *number << 8 | rest->at[at];
+    rest->at += size;
+    rest->len -= size;
+    return true;
+}
+
+/* Takes a length of so many bytes, and so many bytes after it; where these are not there, perhaps the length alone. */
+HLC_CHECKED(1, 3) static inline bool hlc_inline_field(hlc_bytes *rest, size_t size, hlc_bytes *field)
+{
+    uint64_t len;
+    if (!hlc_inline_high_first(rest, size, &len) || len > rest->len) return false;
+    field->at = rest->at;
+    field->len = (size_t)len;
+    rest->at += field->len;
+    rest->len -= field->len;
+    return true;
+}
+
+/* The rest of an item after its stamp; where it is not whole, perhaps a part of it. */
+HLC_CHECKED(1, 2) static inline bool hlc_inline_content(hlc_bytes *rest, hlc_item *item)
+{
+    uint64_t kind, has_value;
+    if (!hlc_inline_high_first(rest, 1, &kind) || kind > 2) return false;
+    item->kind = kind == 1 ? HLC_ITEM_REPORT : HLC_ITEM_RETIRE;
+    if (kind > 0) return true;
+    if (!hlc_inline_field(rest, 1, &item->key) || item->key.len == 0) return false;
+    if (!hlc_inline_high_first(rest, 1, &has_value) || has_value > 1) return false;
+    item->kind = has_value == 1 ? HLC_ITEM_WRITE : HLC_ITEM_DELETE;
+    return has_value == 0 || hlc_inline_field(rest, 2, &item->value);
+}
+
+/* The next item of a log, as hlc_item_write and its like wrote it, for whoever looks at a log before a store accepts
+ * it. It returns false where hlc_items_accept would return 106, and at the end. */
+HLC_CHECKED(1, 2) static inline bool hlc_next_item(hlc_bytes *rest, hlc_item *item)
+{
+    const hlc_bytes whole = *rest;
+    uint64_t version, node;
+    memset(item, 0, sizeof *item);
+    if (hlc_inline_high_first(rest, 1, &version) && version == 1 && hlc_inline_high_first(rest, 2, &node) &&
+        hlc_inline_high_first(rest, 8, &item->number) && hlc_inline_high_first(rest, 8, &item->stamp) &&
+        hlc_inline_content(rest, item)) {
+        item->node = (uint16_t)node;
+        return true;
+    }
+    memset(item, 0, sizeof *item);
     *rest = whole;
     return false;
 }

@@ -1,5 +1,6 @@
 /* hlcstore_inline.h: its readers on bytes that are whole, cut and damaged, its structs beside the calls that they are
- * made of, its reads of a const store, and its texts. It is compiled as C and as C++. */
+ * made of, its reads of a const store, and its texts; items are read as the library reads them. It is compiled as C and
+ * as C++. */
 #include "hlcstore_inline.h"
 #include <inttypes.h>
 #include <stdio.h>
@@ -208,6 +209,80 @@ static void read_cut_and_damaged(void)
     EXPECT(refuses(3, BYTES(LEN("\1") "a\2" LEN("\0"))), true);
     EXPECT(refuses(4, BYTES("\1\0\0\0\0\0\0\0\0\0\2" LEN("\0"))), true);
     EXPECT(refuses(0, BYTES("")), true);
+}
+
+/* ---- Items ---- */
+
+/* Writes an item as bytes. Returns how many. */
+static size_t write_item(const hlc_item *item, uint8_t *out, size_t room)
+{
+    size_t len = 0;
+    hlc_answer answer = HLC_OK;
+    switch (item->kind) {
+    case HLC_ITEM_WRITE:
+        answer = hlc_item_write(item->node, item->number, item->stamp, item->key.at, item->key.len, item->value.at,
+                                item->value.len, out, room, &len);
+        break;
+    case HLC_ITEM_DELETE:
+        answer = hlc_item_delete(item->node, item->number, item->stamp, item->key.at, item->key.len, out, room, &len);
+        break;
+    case HLC_ITEM_REPORT: answer = hlc_item_report(item->node, item->number, item->stamp, out, room, &len); break;
+    case HLC_ITEM_RETIRE: answer = hlc_item_retire(item->node, item->number, item->stamp, out, room, &len); break;
+    }
+    EXPECT(answer, HLC_OK);
+    return len;
+}
+
+/* Whether bytes are read as the library reads them: refused with it, and otherwise as the item that the library writes
+ * as the same bytes. */
+static bool reads_as_library(hlc_store *store, const uint8_t *bytes, size_t len)
+{
+    hlc_bytes rest = { bytes, len };
+    uint8_t again[64];
+    size_t used, many;
+    uint64_t word;
+    hlc_item item;
+    const bool is_bad = hlc_items_accept(store, bytes, len, &used, &many, &word) == HLC_BAD_BYTES && many == 0;
+    if (!hlc_next_item(&rest, &item)) return (is_bad || len == 0) && rest.at == bytes && rest.len == len;
+    used = (size_t)(rest.at - bytes);
+    return !is_bad && write_item(&item, again, sizeof again) == used && memcmp(bytes, again, used) == 0;
+}
+
+/* Each item, cut at each place, and with each value of each of its bytes, behind which other bytes follow. */
+static void read_items(void)
+{
+    const hlc_item items[] = {
+        { HLC_ITEM_WRITE, 0x102, 3, HLC_STAMP(4, 5), { BYTES("key") }, { BYTES("value") } },
+        { HLC_ITEM_WRITE, 0, 0, 1, { BYTES("k") }, { BYTES("") } },
+        { HLC_ITEM_DELETE, 1, UINT64_MAX, HLC_MAX_STAMP, { BYTES("key") }, { NONE } },
+        { HLC_ITEM_REPORT, 0, 1, 2, { NONE }, { NONE } },
+        { HLC_ITEM_RETIRE, 0, 1, 2, { NONE }, { NONE } },
+    };
+    hlc_store store = HLC_CLOSED_STORE;
+    EXPECT(hlc_open(&store, 1), HLC_OK);
+    for (size_t i = 0; i < sizeof items / sizeof items[0]; i++) {
+        uint8_t bytes[64] = { 0 };
+        const size_t len = write_item(&items[i], bytes, sizeof bytes);
+        hlc_bytes rest = { bytes, len };
+        hlc_item item;
+        EXPECT(hlc_next_item(&rest, &item) && rest.len == 0, true);
+        EXPECT(item.kind, items[i].kind);
+        EXPECT(item.node, items[i].node);
+        EXPECT(item.number, items[i].number);
+        EXPECT(item.stamp, items[i].stamp);
+        EXPECT(item.key.len, items[i].key.len);
+        EXPECT(item.value.len, items[i].value.len);
+        for (size_t cut = 0; cut < len; cut++) EXPECT(reads_as_library(&store, bytes, cut), true);
+        for (size_t at = 0; at < len; at++) {
+            const uint8_t was = bytes[at];
+            for (int byte = 0; byte < 256; byte++) {
+                bytes[at] = (uint8_t)byte;
+                EXPECT(reads_as_library(&store, bytes, sizeof bytes), true);
+            }
+            bytes[at] = was;
+        }
+    }
+    hlc_close(&store);
 }
 
 /* ---- With a store ---- */
@@ -430,6 +505,7 @@ int main(void)
     print_texts();
     read_whole();
     read_cut_and_damaged();
+    read_items();
     use_store();
     vacuum_in_parts();
     for (int many = 0; many < 6; many++) find_snapshots(many, 3);
