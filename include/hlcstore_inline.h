@@ -23,6 +23,9 @@ static inline void hlc_ignore(hlc_answer answer)
  * that it is no answer. The text is constant: it stays, and is not freed. */
 static inline const char *hlc_strerror(uint32_t answer)
 {
+    const char *const other = "the number is no answer";
+    /* In C++ an enum has no number beyond its greatest one. */
+    if (answer > HLC_CHANGED) return other;
     switch ((hlc_answer)answer) {
     case HLC_OK: return "the call was made";
     case HLC_NO_NODE: return "no node has this number";
@@ -56,7 +59,7 @@ static inline const char *hlc_strerror(uint32_t answer)
     case HLC_NOT_LATER: return "the increment is not of a later state of the store";
     case HLC_CHANGED: return "the store changed since the saving began";
     }
-    return "the number is no answer";
+    return other;
 }
 
 /* ---- Reads of a const store ----
