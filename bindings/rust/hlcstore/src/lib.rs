@@ -49,6 +49,7 @@ mod record;
 mod restoring;
 mod saving;
 mod shared;
+mod slots;
 mod snapshot;
 mod stamp;
 mod store;

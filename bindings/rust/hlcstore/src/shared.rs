@@ -1,5 +1,6 @@
 use crate::handle::Handle;
 use crate::saving::{SaveError, write_checkpoint};
+use crate::slots::{Reading, Slots, Writing};
 use crate::{
     Applied, Certified, Item, Link, Node, OpenSnapshot, Result, Sizes, Snapshot, Stamp, Stopped, Store, VacuumPart,
     Vacuumed, Version,
@@ -13,7 +14,15 @@ use std::sync::{Arc, PoisonError, RwLock, RwLockReadGuard, RwLockWriteGuard};
 /// A store that threads share. Its clones are the same store, which is closed with the last of them.
 ///
 /// It has the calls of a [`Store`]. Those that only ask, as reads in snapshots, run beside each other; one that changes
-/// the store, as an accepted item, a snapshot that opens or closes, or a vacuum, waits until it is alone.
+/// the store, as an accepted item, a snapshot that opens or closes, or a vacuum, waits until it is alone. It waits for
+/// the calls that are under way, and later ones wait for it, so that readers never starve a writer.
+///
+/// The 16 slots that readers enter, each thread its own, let reads of several threads run without a common lock. A store
+/// takes 2 KiB for them.
+///
+/// No function of the caller runs while the store is locked: `as_ref` of a key runs before, and the writer of
+/// [`checkpoint_to`](SharedStore::checkpoint_to) between pieces. So these may use the store, and one that panics leaves
+/// it usable.
 ///
 /// ```
 /// use hlcstore::{Node, SharedStore, Stamp};
@@ -47,12 +56,12 @@ struct Locked {
     gate: RwLock<()>,
     /// How many savings there are. One begins while it can read the handle, so that no change is under way.
     savings: AtomicUsize,
-    handle: RwLock<Handle>,
+    handle: Slots<Handle>,
 }
 
 /// The handle, for a change. It is released before the gate.
 struct Changing<'a> {
-    handle: RwLockWriteGuard<'a, Handle>,
+    handle: Writing<'a, Handle>,
     _gate: Option<RwLockWriteGuard<'a, ()>>,
 }
 
@@ -83,24 +92,28 @@ impl Drop for Saving<'_> {
 }
 
 // A thread that panicked while it had a lock was in no call of the library, which does not panic. So the store is
-// whole, and the poison of the lock says nothing.
+// whole, and the poison of the gate says nothing.
 impl Locked {
-    fn read(&self) -> RwLockReadGuard<'_, Handle> {
-        self.handle.read().unwrap_or_else(PoisonError::into_inner)
-    }
-
-    fn write_handle(&self) -> RwLockWriteGuard<'_, Handle> {
-        self.handle.write().unwrap_or_else(PoisonError::into_inner)
+    fn read(&self) -> Reading<'_, Handle> {
+        self.handle.read()
     }
 
     fn write(&self) -> Changing<'_> {
-        let handle = self.write_handle();
-        if self.savings.load(Ordering::SeqCst) == 0 {
-            return Changing { handle, _gate: None };
-        }
-        drop(handle);
-        let gate = self.gate.write().unwrap_or_else(PoisonError::into_inner);
-        Changing { handle: self.write_handle(), _gate: Some(gate) }
+        self.write_unsaved().unwrap_or_else(|| {
+            let gate = self.close_gate();
+            Changing { handle: self.handle.write(), _gate: Some(gate) }
+        })
+    }
+
+    /// The handle for a change; or none where there are savings.
+    fn write_unsaved(&self) -> Option<Changing<'_>> {
+        let handle = self.handle.write();
+        (self.savings.load(Ordering::SeqCst) == 0).then_some(Changing { handle, _gate: None })
+    }
+
+    /// Waits until there are no savings, and lets none begin.
+    fn close_gate(&self) -> RwLockWriteGuard<'_, ()> {
+        self.gate.write().unwrap_or_else(PoisonError::into_inner)
     }
 
     fn save(&self) -> Saving<'_> {
@@ -113,7 +126,7 @@ impl Locked {
 
 impl SharedStore {
     pub(crate) fn new(handle: Handle) -> SharedStore {
-        let (gate, savings, handle) = (RwLock::new(()), AtomicUsize::new(0), RwLock::new(handle));
+        let (gate, savings, handle) = (RwLock::new(()), AtomicUsize::new(0), Slots::new(handle));
         SharedStore { locked: Arc::new(Locked { gate, savings, handle }) }
     }
 
@@ -298,6 +311,18 @@ impl SharedStore {
 
     pub(crate) fn write(&self) -> impl DerefMut<Target = Handle> {
         self.locked.write()
+    }
+
+    /// Locks stores for a change of all, in their order. Where one is being saved, no lock is held while its saving ends,
+    /// since the writer of that may read the others.
+    pub(crate) fn lock_all(stores: &[SharedStore]) -> Vec<impl DerefMut<Target = Handle>> {
+        loop {
+            let mut handles = Vec::with_capacity(stores.len());
+            handles.extend(stores.iter().map_while(|store| store.locked.write_unsaved()));
+            let Some(saved) = stores.get(handles.len()) else { return handles };
+            drop(handles);
+            drop(saved.locked.close_gate());
+        }
     }
 
     /// Whether another is a clone of this one.
