@@ -27,6 +27,9 @@
 //! A [`Store`] is for one thread at a time: it is `Send`, and not `Sync`. A [`SharedStore`] is `Send` and `Sync`, and
 //! its clones are the same store: a call that changes it runs alone, and calls that only ask run beside each other.
 //!
+//! [`Ranges`] divides one key space among several shared stores, so that threads wait less for each other, and reads
+//! all of them at one stamp. Each [`Machine`] feeds them with one clock.
+//!
 //! # Memory
 //!
 //! Keys and values are copied into the store. A call for which there is no memory returns an [`Error`] of the kind
@@ -38,13 +41,18 @@
 //! proved, and the formats of items, checkpoints, increments and certificates.
 
 mod buffer;
+mod division;
 mod error;
 mod handle;
 mod item;
 mod listing;
+mod machine;
 mod node;
 mod output;
 mod range;
+mod ranges;
+mod ranges_error;
+mod ranges_snapshot;
 mod record;
 mod restoring;
 mod saving;
@@ -56,12 +64,17 @@ mod store;
 mod vacuum;
 mod version;
 
+pub use division::Division;
 pub use error::{Error, ErrorKind, Result, Stopped, error_name, error_text};
 pub use item::{Content, Item, OwnedContent, OwnedItem};
 pub use listing::{ChangePage, Changes, KeyPage, Keys, Page, Pairs, PairsBack};
+pub use machine::Machine;
 pub use node::Node;
 pub use output::apply_increment;
 pub use range::{KeyRange, Prefix};
+pub use ranges::Ranges;
+pub use ranges_error::RangesError;
+pub use ranges_snapshot::{RangesPairs, RangesSnapshot};
 pub use record::{Applied, Record};
 pub use restoring::Restoring;
 pub use saving::SaveError;

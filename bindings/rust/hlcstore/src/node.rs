@@ -1,5 +1,5 @@
 use crate::error::answer;
-use crate::{Content, Item, Result, Stamp};
+use crate::{Content, Item, Link, Result, Stamp};
 use hlcstore_sys as sys;
 
 /// A node: its clock, and the numbers of its items. It is a plain value, apart from any store. Of two copies only one
@@ -36,6 +36,15 @@ impl Node {
         // SAFETY: the node is live, and is not used otherwise during the call.
         let code = unsafe { sys::hlc_node_restore(id, last.to_bits(), next_number, &mut node.0) };
         answer(code, 0).map(|_| node)
+    }
+
+    /// Returns a node as a store knows it.
+    ///
+    /// Refusal: `NoSuchNode`.
+    pub(crate) fn of_link(id: u16, link: Link) -> Result<Node> {
+        let mut node = Node::restore(id, link.head, link.next_number)?;
+        node.0.retired = link.is_retired;
+        Ok(node)
     }
 
     /// Returns the node's number.

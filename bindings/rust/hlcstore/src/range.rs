@@ -45,7 +45,7 @@ pub struct Prefix<K>(pub K);
 #[derive(Debug)]
 pub struct Bounds {
     pub(crate) from: Vec<u8>,
-    to: Vec<u8>,
+    pub(crate) to: Vec<u8>,
 }
 
 impl Bounds {

@@ -17,12 +17,12 @@ use std::sync::{Arc, PoisonError, RwLock, RwLockReadGuard, RwLockWriteGuard};
 /// the store, as an accepted item, a snapshot that opens or closes, or a vacuum, waits until it is alone. It waits for
 /// the calls that are under way, and later ones wait for it, so that readers never starve a writer.
 ///
-/// The 16 slots that readers enter, each thread its own, let reads of several threads run without a common lock. A store
-/// takes 2 KiB for them.
+/// The 16 slots that readers enter, each thread its own, let reads of several threads run without a common lock. A
+/// store takes 2 KiB for them.
 ///
 /// No function of the caller runs while the store is locked: `as_ref` of a key runs before, and the writer of
-/// [`checkpoint_to`](SharedStore::checkpoint_to) between pieces. So these may use the store, and one that panics leaves
-/// it usable.
+/// [`checkpoint_to`](SharedStore::checkpoint_to) between pieces. So the first may use the store and the second read it,
+/// and one that panics leaves it usable.
 ///
 /// ```
 /// use hlcstore::{Node, SharedStore, Stamp};
@@ -313,8 +313,8 @@ impl SharedStore {
         self.locked.write()
     }
 
-    /// Locks stores for a change of all, in their order. Where one is being saved, no lock is held while its saving ends,
-    /// since the writer of that may read the others.
+    /// Locks stores for a change of all, in their order. Where one is being saved, no lock is held until its saving
+    /// ends, since the writer of that may read the others.
     pub(crate) fn lock_all(stores: &[SharedStore]) -> Vec<impl DerefMut<Target = Handle>> {
         loop {
             let mut handles = Vec::with_capacity(stores.len());

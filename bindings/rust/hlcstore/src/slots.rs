@@ -5,11 +5,12 @@
 //! empty. A reader that sees a writer leaves its slot and enters it again through the gate, which it shares with other
 //! readers.
 //!
-//! A writer and a reader exclude each other: each first raises its own count, and then looks at the other's, so at least
-//! one of them sees the other. A reader that enters through the gate does so while no writer has it.
+//! A writer and a reader exclude each other: each first raises its own count, and then looks at the other's, so at
+//! least one of them sees the other. A reader that enters through the gate does so while no writer has it.
 //!
-//! A writer is never starved by readers: from the moment on that it has the gate, no reader enters but those that had
-//! looked before, once each. It waits for these, and for the writers before it.
+//! Readers starve no writer: once it has raised its count, each reader passes through the gate first, which it keeps
+//! for a moment only; and once it has the gate, no reader enters. It waits for the reads that are under way, and for
+//! the writers before it.
 
 use std::cell::{Cell, UnsafeCell};
 use std::hint;
@@ -134,8 +135,8 @@ impl<T> Slots<T> {
         *sleeps = false;
     }
 
-    /// Wakes the writer that sleeps, if there is one: it looks at its slot before it sleeps, and sees that this is empty
-    /// or is told so.
+    /// Wakes the writer that sleeps, if there is one: it looks at its slot before it sleeps, and sees that this is
+    /// empty, or is told so.
     #[cold]
     fn wake_writer(&self) {
         if *locked(self.sleeps.lock()) {

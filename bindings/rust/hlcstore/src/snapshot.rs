@@ -281,8 +281,11 @@ impl<S: Access> Snapshot<S> {
 
     /// Counts the keys of a range that have a value.
     pub fn count(&self, range: impl KeyRange) -> Result<u64> {
-        let range = range.to_bounds()?;
-        self.handle()?.count(self.id(), &range)
+        self.count_within(&range.to_bounds()?)
+    }
+
+    pub(crate) fn count_within(&self, range: &Bounds) -> Result<u64> {
+        self.handle()?.count(self.id(), range)
     }
 
     /// Digests a range, so that replicas compare without listing: returns the SHA-256 of all pairs of the range, as

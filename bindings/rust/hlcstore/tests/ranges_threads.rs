@@ -1,0 +1,226 @@
+//! Threads at random beside a model: machines with messages, whose items are on their way to each store for a time;
+//! readers at the cut; and vacuums. Each snapshot has the newest write of each key that was issued at or below its
+//! stamp, for whatever store, and keeps it.
+
+use hlcstore::{Division, Item, Machine, OwnedContent, OwnedItem, Ranges, RangesSnapshot, Stamp};
+use std::collections::{BTreeMap, VecDeque};
+use std::sync::Mutex;
+use std::sync::atomic::{AtomicUsize, Ordering};
+use std::sync::mpsc::{self, Receiver, Sender};
+use std::thread;
+
+const EVENTS: usize = 1_500;
+const KEYS: u64 = 40;
+
+/// Numbers at random, from a seed.
+struct Random(u64);
+
+impl Random {
+    fn new(seed: u64) -> Random {
+        Random((seed + 1).wrapping_mul(0x9e37_79b9_7f4a_7c15))
+    }
+
+    fn below(&mut self, end: u64) -> u64 {
+        self.0 ^= self.0 << 13;
+        self.0 ^= self.0 >> 7;
+        self.0 ^= self.0 << 17;
+        self.0 % end
+    }
+
+    fn key(&mut self) -> Vec<u8> {
+        let letter = b'a' + self.below(26) as u8;
+        vec![letter; 1 + self.below(KEYS / 26 + 1) as usize]
+    }
+}
+
+type Write = (Stamp, u16, Option<Vec<u8>>);
+
+/// All writes and deletions that were issued, of each key, in no order.
+#[derive(Default)]
+struct Model(Mutex<BTreeMap<Vec<u8>, Vec<Write>>>);
+
+impl Model {
+    fn add(&self, item: &OwnedItem) {
+        let (key, value) = match &item.content {
+            OwnedContent::Write { key, value } => (key.clone(), Some(value.clone())),
+            OwnedContent::Delete { key } => (key.clone(), None),
+            OwnedContent::Report | OwnedContent::Retire => return,
+        };
+        self.0.lock().unwrap().entry(key).or_default().push((item.stamp, item.node, value));
+    }
+
+    /// The pairs at a stamp: of each key the value of its newest write, at one stamp that of the greater machine.
+    fn at(&self, stamp: Stamp) -> Vec<(Vec<u8>, Vec<u8>)> {
+        let writes = self.0.lock().unwrap();
+        let newest = |writes: &[Write]| writes.iter().filter(|write| write.0 <= stamp).max()?.2.clone();
+        writes.iter().filter_map(|(key, writes)| Some((key.clone(), newest(writes)?))).collect()
+    }
+}
+
+/// A machine, and its items on their way to each store.
+struct Feed<'a> {
+    ranges: &'a Ranges,
+    model: &'a Model,
+    machine: Machine,
+    queues: Vec<VecDeque<OwnedItem>>,
+    random: Random,
+    others: Vec<Sender<Stamp>>,
+    messages: Receiver<Stamp>,
+}
+
+impl Feed<'_> {
+    fn add(&mut self, (store, item): (usize, Item<'_>)) {
+        let item = item.into_owned();
+        self.model.add(&item);
+        self.queues[store].push_back(item);
+    }
+
+    fn deliver(&mut self, store: usize, most: usize) {
+        let many = most.min(self.queues[store].len());
+        for item in self.queues[store].drain(..many) {
+            self.ranges.accept(store, item.as_item()).unwrap();
+        }
+    }
+
+    /// Makes an event at random. The readings of machines differ, and stop at times.
+    fn step(&mut self, event: usize) {
+        let reading = (event / 7 + 10 * usize::from(self.machine.id() % 2)) as u64;
+        let key = self.random.key();
+        match self.random.below(12) {
+            0..5 => {
+                let value = [&key[..], &event.to_be_bytes()].concat();
+                let item = self.machine.write(reading, &key, &value).unwrap();
+                self.add(item);
+            }
+            5 => {
+                let item = self.machine.delete(reading, &key).unwrap();
+                self.add(item);
+            }
+            6 => self.machine.report_all(reading).unwrap().into_iter().for_each(|report| self.add(report)),
+            7 => {
+                let message = self.machine.send(reading).unwrap();
+                let receiver = self.random.below(self.others.len() as u64) as usize;
+                self.others[receiver].send(message).unwrap();
+            }
+            8 => {
+                if let Ok(message) = self.messages.try_recv() {
+                    assert!(self.machine.receive(reading, message).unwrap() > message);
+                }
+            }
+            9 if event % 10 == 0 => {
+                let snapshot = self.ranges.snapshot().unwrap();
+                snapshot.get(&key).unwrap();
+                assert!(self.machine.observe(reading, snapshot.stamp()).unwrap() > snapshot.stamp());
+            }
+            _ => {
+                let store = self.random.below(self.queues.len() as u64) as usize;
+                let most = self.random.below(20) as usize;
+                self.deliver(store, most);
+            }
+        }
+    }
+
+    fn run(mut self) {
+        for event in 1..=EVENTS {
+            self.step(event);
+        }
+        let reports = self.machine.report_all(EVENTS as u64).unwrap();
+        reports.into_iter().for_each(|report| self.add(report));
+        for store in 0..self.queues.len() {
+            self.deliver(store, usize::MAX);
+        }
+    }
+}
+
+fn check(snapshot: &RangesSnapshot, model: &Model, random: &mut Random) {
+    let expected = model.at(snapshot.stamp());
+    assert!(snapshot.iter().map(Result::unwrap).eq(expected.iter().cloned()), "at {}", snapshot.stamp());
+    let (from, to) = (random.key(), random.key());
+    let within: Vec<_> = expected.iter().filter(|(key, _)| (&from..&to).contains(&key)).cloned().collect();
+    assert!(snapshot.range(&from..&to).map(Result::unwrap).eq(within.iter().cloned()));
+    assert_eq!(snapshot.count(from..to), Ok(within.len() as u64));
+    let key = random.key();
+    let value = expected.iter().find(|pair| pair.0 == key).map(|pair| &pair.1);
+    assert_eq!(snapshot.get(&key).unwrap().as_ref(), value);
+}
+
+/// Opens snapshots and checks them, at once and after the next one was opened. Returns the stamps at which it did.
+fn read(ranges: &Ranges, model: &Model, running: &AtomicUsize, mut random: Random) -> usize {
+    let (mut before, mut stamps) = (ranges.snapshot().unwrap(), 0);
+    loop {
+        let is_last = running.load(Ordering::SeqCst) == 0;
+        let snapshot = ranges.snapshot().unwrap();
+        assert!(snapshot.stamp() >= before.stamp());
+        check(&snapshot, model, &mut random);
+        check(&before, model, &mut random);
+        stamps += usize::from(snapshot.stamp() > before.stamp());
+        if is_last {
+            return stamps;
+        }
+        if random.below(3) > 0 {
+            before = snapshot;
+        }
+    }
+}
+
+/// Runs machines beside two readers and vacuums. The last machine joins while the others run.
+fn play(division: &Division, machines: u16, seed: u64) {
+    let ranges = Ranges::open(division, machines - 1).unwrap();
+    let (model, running) = (Model::default(), AtomicUsize::new(machines.into()));
+    let (senders, mut receivers): (Vec<_>, Vec<_>) = (0..machines).map(|_| mpsc::channel()).unzip();
+    let feed = |machine: Machine, messages| Feed {
+        ranges: &ranges,
+        model: &model,
+        random: Random::new(seed + u64::from(machine.id())),
+        queues: vec![VecDeque::new(); division.stores()],
+        others: senders.clone(),
+        machine,
+        messages,
+    };
+    thread::scope(|scope| {
+        let (running, ranges, model) = (&running, &ranges, &model);
+        let start = |feed: Feed<'_>| {
+            feed.run();
+            running.fetch_sub(1, Ordering::SeqCst);
+        };
+        let readers: Vec<_> =
+            (90..92).map(|seed| scope.spawn(move || read(ranges, model, running, Random::new(seed)))).collect();
+        let last = receivers.pop().unwrap();
+        for (id, messages) in receivers.into_iter().enumerate() {
+            let feed = feed(Machine::new(division, id as u16), messages);
+            scope.spawn(move || start(feed));
+        }
+        let joined = ranges.join().unwrap();
+        assert_eq!(joined.id(), machines - 1);
+        let feed = feed(joined, last);
+        scope.spawn(move || start(feed));
+        while running.load(Ordering::SeqCst) > 0 {
+            let vacuumed = ranges.vacuum_to(Stamp::MAX).unwrap();
+            assert!(vacuumed.stamp <= ranges.cut().unwrap());
+            thread::yield_now();
+        }
+        for reader in readers {
+            assert!(reader.join().unwrap() > 3, "readers saw no cut between");
+        }
+    });
+    let cut = ranges.cut().unwrap();
+    assert!(cut >= Stamp::new(EVENTS as u64, 0));
+    assert!(ranges.stores().iter().all(|store| store.snapshots().unwrap().is_empty()));
+    ranges.vacuum_to(cut).unwrap();
+    assert_eq!(ranges.rows(), Ok(model.at(cut).len() as u64));
+}
+
+#[test]
+fn snapshots_are_the_newest_writes_by_keys() {
+    play(&Division::by_keys(&["e", "k", "kk", "t"]).unwrap(), 3, 1);
+}
+
+#[test]
+fn snapshots_are_the_newest_writes_by_hash() {
+    play(&Division::by_hash(6).unwrap(), 4, 7);
+}
+
+#[test]
+fn snapshots_are_the_newest_writes_of_one_store() {
+    play(&Division::by_hash(1).unwrap(), 2, 13);
+}
