@@ -15,6 +15,8 @@ const NO_VALUE: u32 = 102;
 const MORE: u32 = 104;
 /// How many bytes a value has at most.
 const VALUE_ROOM: usize = 65_535;
+/// How many bytes of a value are made room for at first, where it may be read again under the same lock.
+const SHORT_ROOM: usize = 64;
 /// How many bytes of rows are made room for at first.
 const ROWS_ROOM: usize = 1024;
 
@@ -47,6 +49,26 @@ unsafe fn fill(room: usize, call: impl FnOnce(*mut u8, usize, &mut usize, &mut u
     // SAFETY: the call has written these bytes.
     unsafe { bytes.set_len(len) };
     Ok((bytes, many, code == MORE))
+}
+
+/// Makes a call that writes a value, with so much room at first. It gets the place for the value, how many bytes there is
+/// room for, and where it writes how many there are. It is made again with more room where that was too little.
+fn value_of(mut room: usize, mut read: impl FnMut(*mut u8, usize, &mut usize) -> u32) -> Result<Option<Vec<u8>>> {
+    loop {
+        let (mut value, mut len) = (with_room(room)?, 0);
+        let code = read(value.as_mut_ptr(), room, &mut len);
+        if code == NO_VALUE {
+            return Ok(None);
+        }
+        answer(code, 0, ())?;
+        if len <= room {
+            // SAFETY: there was room, so the call has written these bytes.
+            unsafe { value.set_len(len) };
+            value.shrink_to_fit();
+            return Ok(Some(value));
+        }
+        room = len;
+    }
 }
 
 /// What an answer says. It needs no memory but the caller's.
@@ -202,18 +224,23 @@ impl Handle {
     }
 
     pub(crate) fn read(&self, id: u64, key: &[u8]) -> Result<Option<Vec<u8>>> {
-        let (mut value, mut len) = (with_room(VALUE_ROOM)?, 0);
-        let (file, out) = (self.0.as_ptr(), value.as_mut_ptr());
-        let code = unsafe { sys::hlc_file_read(file, id, key.as_ptr(), key.len(), out, VALUE_ROOM, &mut len) };
-        if code == NO_VALUE {
-            return Ok(None);
-        }
-        answer(code, 0, ())?;
-        assert!(len <= VALUE_ROOM, "a value has at most {VALUE_ROOM} bytes");
-        // There was room, so the call has written these bytes.
-        unsafe { value.set_len(len) };
-        value.shrink_to_fit();
-        Ok(Some(value))
+        value_of(VALUE_ROOM, |out, room, len| unsafe {
+            sys::hlc_file_read(self.0.as_ptr(), id, key.as_ptr(), key.len(), out, room, len)
+        })
+    }
+
+    /// Reads keys while the store is lent once.
+    pub(crate) fn read_all(&self, id: u64, keys: &[&[u8]]) -> Result<Vec<Option<Vec<u8>>>> {
+        let mut values = Vec::new();
+        values.try_reserve_exact(keys.len()).map_err(|_| Error::new(NO_MEMORY, 0))?;
+        self.lend(|lent| {
+            for key in keys {
+                values.push(value_of(SHORT_ROOM, |out, room, len| unsafe {
+                    store::hlc_read(lent, id, key.as_ptr(), key.len(), out, room, len)
+                })?);
+            }
+            Ok(values)
+        })
     }
 
     /// Returns the pairs of a range that fit in so many bytes, in byte order or from the last on.
@@ -267,14 +294,14 @@ impl Handle {
 
     // ---- What the store has ----
 
-    /// Lends the store to a call that only asks, and returns its answer. It gets a pointer to a copy of the store's
-    /// handle, and makes no other call with the file.
-    fn lend(&self, call: impl FnOnce(*mut hlc_store) -> u32) -> u32 {
+    /// Lends the store to calls that only ask, and returns their answer. They get a pointer to a copy of the store's
+    /// handle, and make no other call with the file.
+    fn lend<T>(&self, calls: impl FnOnce(*mut hlc_store) -> T) -> T {
         let mut mine = store::HLC_CLOSED_STORE;
         unsafe { sys::hlc_file_read_begin(self.0.as_ptr(), &mut mine) };
-        let code = call(&mut mine);
+        let answer = calls(&mut mine);
         unsafe { sys::hlc_file_read_end(self.0.as_ptr()) };
-        code
+        answer
     }
 
     /// Lends the store to a call that writes a word, which it gets a pointer to.

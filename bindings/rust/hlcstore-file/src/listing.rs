@@ -45,15 +45,25 @@ impl<'a, L: Listed> Listing<'a, L> {
     }
 
     fn next(&mut self) -> Option<Result<L::Entry>> {
-        loop {
-            if let Some(entry) = self.page.next() {
-                return Some(Ok(entry));
-            }
-            let range = self.range.take()?;
-            if let Err(error) = range.and_then(|range| self.load(range)) {
-                return Some(Err(error));
-            }
+        match self.find_next() {
+            Ok(()) => self.page.next().map(Ok),
+            Err(error) => Some(Err(error)),
         }
+    }
+
+    /// Returns the key of the next entry, or none at the end.
+    fn next_key(&mut self) -> Result<Option<&[u8]>> {
+        self.find_next()?;
+        Ok(self.page.as_slice().first().map(L::key))
+    }
+
+    /// Loads pages until one has a next entry, or the range is at its end.
+    fn find_next(&mut self) -> Result<()> {
+        while self.page.as_slice().is_empty() {
+            let Some(range) = self.range.take() else { break };
+            self.load(range?)?;
+        }
+        Ok(())
     }
 
     /// Loads the next page, and keeps what is left of the range.
@@ -159,40 +169,95 @@ impl Listed for OfChanges {
     }
 }
 
-/// Iterates over the pairs of a key and its value in a range of a snapshot, in the byte order of the keys.
+/// A listing from both ends of a range, until they meet.
+#[derive(Debug)]
+struct Both<'a, L: Listed> {
+    front: Listing<'a, L>,
+    back: Listing<'a, OfPairsBack>,
+    /// The last key that was returned from the front, and from the back.
+    first: Option<Vec<u8>>,
+    last: Option<Vec<u8>>,
+    is_over: bool,
+}
+
+impl<'a, L: Listed> Both<'a, L> {
+    fn new(handle: &'a Handle, listed: L, id: u64, range: impl KeyRange) -> Both<'a, L> {
+        let range: Result<Range> = range.ends().map_err(Into::into);
+        let front = Listing::new(handle, listed, range.clone());
+        let back = Listing::new(handle, OfPairsBack(id), range);
+        Both { front, back, first: None, last: None, is_over: false }
+    }
+
+    fn next(&mut self) -> Option<Result<L::Entry>> {
+        let is_before = |key: &[u8]| self.last.as_deref().is_none_or(|last| key < last);
+        next_within(&mut self.front, is_before, &mut self.first, &mut self.is_over)
+    }
+
+    fn next_back(&mut self) -> Option<Result<Pair>> {
+        let is_behind = |key: &[u8]| self.first.as_deref().is_none_or(|first| key > first);
+        next_within(&mut self.back, is_behind, &mut self.last, &mut self.is_over)
+    }
+}
+
+/// Returns the next entry of a listing, and keeps its key, unless all is over or the other end was there.
+fn next_within<L: Listed>(
+    listing: &mut Listing<'_, L>,
+    is_left: impl FnOnce(&[u8]) -> bool,
+    returned: &mut Option<Vec<u8>>,
+    is_over: &mut bool,
+) -> Option<Result<L::Entry>> {
+    if *is_over {
+        return None;
+    }
+    let next = match listing.next_key() {
+        Ok(Some(key)) if is_left(key) => {
+            let returned = returned.get_or_insert_default();
+            returned.clear();
+            returned.extend_from_slice(key);
+            listing.next()
+        }
+        Ok(_) => None,
+        Err(error) => Some(Err(error)),
+    };
+    *is_over = !matches!(next, Some(Ok(_)));
+    next
+}
+
+/// Iterates over the pairs of a key and its value in a range of a snapshot, in the byte order of the keys, from both
+/// ends.
 ///
 /// It reads some pairs at a time, so that writes go on between. It returns an error once, and is at its end then.
 #[derive(Debug)]
-pub struct Pairs<'a>(Listing<'a, OfPairs>);
+pub struct Pairs<'a>(Both<'a, OfPairs>);
 
-/// Iterates over the pairs of a range of a snapshot from its end, the last key first, as [`Pairs`] does.
+/// Iterates over the pairs of a range of a snapshot from its end, the last key first: [`Pairs`] in reverse.
 #[derive(Debug)]
-pub struct PairsBack<'a>(Listing<'a, OfPairsBack>);
+pub struct PairsBack<'a>(Both<'a, OfPairs>);
 
-/// Iterates over the keys with a value in a range of a snapshot, in byte order, as [`Pairs`] does.
+/// Iterates over the keys with a value in a range of a snapshot, in byte order, as [`Pairs`] does, from both ends.
 #[derive(Debug)]
-pub struct Keys<'a>(Listing<'a, OfKeys>);
+pub struct Keys<'a>(Both<'a, OfKeys>);
 
-/// Iterates over what changes from one snapshot to another, as [`Pairs`] does: in byte order, the keys of a range whose
-/// answers differ, each with its value in the other snapshot, or none.
+/// Iterates over what changes from one snapshot to another, as [`Pairs`] does from the front: in byte order, the keys of
+/// a range whose answers differ, each with its value in the other snapshot, or none.
 #[derive(Debug)]
 pub struct Changes<'a>(Listing<'a, OfChanges>);
 
 impl<'a> Pairs<'a> {
     pub(crate) fn new(handle: &'a Handle, id: u64, range: impl KeyRange) -> Pairs<'a> {
-        Pairs(Listing::new(handle, OfPairs(id), range.ends().map_err(Into::into)))
+        Pairs(Both::new(handle, OfPairs(id), id, range))
     }
 }
 
 impl<'a> PairsBack<'a> {
     pub(crate) fn new(handle: &'a Handle, id: u64, range: impl KeyRange) -> PairsBack<'a> {
-        PairsBack(Listing::new(handle, OfPairsBack(id), range.ends().map_err(Into::into)))
+        PairsBack(Both::new(handle, OfPairs(id), id, range))
     }
 }
 
 impl<'a> Keys<'a> {
     pub(crate) fn new(handle: &'a Handle, id: u64, range: impl KeyRange) -> Keys<'a> {
-        Keys(Listing::new(handle, OfKeys(id), range.ends().map_err(Into::into)))
+        Keys(Both::new(handle, OfKeys(id), id, range))
     }
 }
 
@@ -211,10 +276,22 @@ impl Iterator for Pairs<'_> {
     }
 }
 
+impl DoubleEndedIterator for Pairs<'_> {
+    fn next_back(&mut self) -> Option<Self::Item> {
+        self.0.next_back()
+    }
+}
+
 impl Iterator for PairsBack<'_> {
     type Item = Result<Pair>;
 
     fn next(&mut self) -> Option<Self::Item> {
+        self.0.next_back()
+    }
+}
+
+impl DoubleEndedIterator for PairsBack<'_> {
+    fn next_back(&mut self) -> Option<Self::Item> {
         self.0.next()
     }
 }
@@ -224,6 +301,12 @@ impl Iterator for Keys<'_> {
 
     fn next(&mut self) -> Option<Self::Item> {
         self.0.next()
+    }
+}
+
+impl DoubleEndedIterator for Keys<'_> {
+    fn next_back(&mut self) -> Option<Self::Item> {
+        self.0.next_back().map(|pair| pair.map(|(key, _)| key))
     }
 }
 

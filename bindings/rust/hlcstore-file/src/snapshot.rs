@@ -56,9 +56,9 @@ impl<F: Deref<Target = File>> Snapshot<F> {
         self.file.handle().read(self.id, key.as_ref())
     }
 
-    /// Returns the values of keys, in the same order.
+    /// Returns the values of keys, in the same order. The file is locked once for all of them, so that writes wait.
     pub fn get_many(&self, keys: &[&[u8]]) -> Result<Vec<Option<Vec<u8>>>> {
-        keys.iter().map(|key| self.get(key)).collect()
+        self.file.handle().read_all(self.id, keys)
     }
 
     /// Returns all pairs of a key and its value, in the byte order of the keys.

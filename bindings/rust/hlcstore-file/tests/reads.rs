@@ -130,6 +130,57 @@ fn pages_are_those_of_a_store_in_memory() -> Result<()> {
     Ok(())
 }
 
+/// Takes entries from both ends, by turns of these lengths, until none is left.
+fn from_both_ends<T, E: std::fmt::Debug>(
+    mut listing: impl DoubleEndedIterator<Item = std::result::Result<T, E>>,
+    (front, back): (usize, usize),
+) -> Vec<T> {
+    let mut taken = Vec::new();
+    loop {
+        let before = taken.len();
+        taken.extend(listing.by_ref().take(front).map(std::result::Result::unwrap));
+        taken.extend(listing.by_ref().rev().take(back).map(std::result::Result::unwrap));
+        if taken.len() == before {
+            assert!(listing.next().is_none() && listing.next_back().is_none());
+            return taken;
+        }
+    }
+}
+
+#[test]
+fn listings_from_both_ends_meet() -> Result<()> {
+    let folder = Folder::new("ends");
+    let (file, store) = (folder.open(), Store::open(1)?);
+    fill(&file, &store);
+    let (mine, theirs) = (file.snapshot()?, store.snapshot()?);
+    for turns in [(1, 1), (3, 1), (0, 1), (1, 0), (90, 170), (1_000, 1)] {
+        for range in ["".."~", "key 1".."key 2", "key 011".."key 012", "b".."a"] {
+            let (pairs, expected) = (mine.range(range.clone()), theirs.range(range.clone()));
+            assert_eq!(from_both_ends(pairs, turns), from_both_ends(expected, turns));
+            let (pairs, expected) = (mine.range_back(range.clone()), theirs.range_back(range.clone()));
+            assert_eq!(from_both_ends(pairs, turns), from_both_ends(expected, turns));
+            let (keys, expected) = (mine.keys(range.clone()), theirs.keys(range));
+            assert_eq!(from_both_ends(keys, turns), from_both_ends(expected, turns));
+        }
+    }
+    Ok(())
+}
+
+#[test]
+fn many_keys_are_read_at_once() -> Result<()> {
+    let folder = Folder::new("many");
+    let file = folder.open();
+    for (key, len) in [("none", 0), ("short", 64), ("longer", 65), ("longest", 65_535)] {
+        file.write(key, vec![7; len])?;
+    }
+    let snapshot = file.snapshot()?;
+    let keys: [&[u8]; 6] = [b"longest", b"absent", b"none", b"short", b"longer", b"longest"];
+    let lens: Vec<_> = snapshot.get_many(&keys)?.into_iter().map(|value| Some(value?.len())).collect();
+    assert_eq!(lens, [Some(65_535), None, Some(0), Some(64), Some(65), Some(65_535)]);
+    assert_eq!(snapshot.get_many(&[])?, []);
+    Ok(())
+}
+
 #[test]
 fn changes_are_of_one_file() -> Result<()> {
     let (folder, other) = (Folder::new("one"), Folder::new("other"));
