@@ -289,7 +289,7 @@ mod tests {
 
     #[test]
     fn spinning_readers_starve_no_writer() {
-        const WRITES: u64 = 1_000;
+        const WRITES: u64 = 300;
         let (lock, is_over) = (Slots::new(0), AtomicBool::new(false));
         let end = Instant::now() + LIMIT;
         thread::scope(|scope| {
@@ -315,15 +315,16 @@ mod tests {
     /// Two words that a writer keeps equal, with pauses at random, so that readers and writers meet in each order.
     #[test]
     fn no_reader_sees_a_change_half_done() {
-        const ROUNDS: u64 = 3_000;
+        const THREADS: u64 = 2 * SLOTS as u64;
+        const ROUNDS: u64 = 60;
         let lock = Slots::new([0, 0]);
         let reads = AtomicU64::new(0);
         thread::scope(|scope| {
-            for seed in 1..=3 * SLOTS as u64 {
+            for seed in 1..=THREADS {
                 let (lock, reads) = (&lock, &reads);
                 scope.spawn(move || {
                     let mut random = seed.wrapping_mul(0x9e37_79b9_7f4a_7c15);
-                    for _ in 0..ROUNDS / SLOTS as u64 {
+                    for _ in 0..ROUNDS {
                         if seed % 8 == 0 {
                             let mut pair = lock.write();
                             pair[0] += 1;
@@ -346,8 +347,7 @@ mod tests {
                 });
             }
         });
-        let writers = 3 * SLOTS as u64 / 8;
-        assert_eq!(*lock.read(), [writers * (ROUNDS / SLOTS as u64); 2]);
+        assert_eq!(*lock.read(), [THREADS / 8 * ROUNDS; 2]);
         assert!(reads.into_inner() > 0);
     }
 }
