@@ -1,6 +1,6 @@
 //! Reads and writes from several threads with the crate of bindings/rust: of one shared store, of one under a mutex, and
 //! of 64 stores by the hash of the key. Prints million calls a second, of the readers and of the writers: the medians of
-//! nine runs, in which the ways take turns.
+//! so many runs as the argument says, or nine, in which the ways take turns.
 
 use hlcstore::{Division, Machine, Ranges, RangesSnapshot, SharedStore, Snapshot};
 use std::sync::Mutex;
@@ -12,7 +12,6 @@ const KEYS: usize = 20_000;
 const VERSIONS: usize = 8;
 const READS: usize = 200_000;
 const WRITES: usize = 50_000;
-const RUNS: usize = 9;
 const MACHINES: u16 = 4;
 
 /// How threads reach the keys.
@@ -120,9 +119,9 @@ fn median(mut rates: Vec<f64>) -> f64 {
     rates[rates.len() / 2]
 }
 
-fn print(what: &str, measure: impl Fn(Filled) -> (f64, f64)) {
+fn print(runs: usize, what: &str, measure: impl Fn(Filled) -> (f64, f64)) {
     let mut measured = vec![Vec::new(); WAYS.len()];
-    for _ in 0..RUNS {
+    for _ in 0..runs {
         for (rates, (way, _)) in measured.iter_mut().zip(WAYS) {
             rates.push(measure(Filled::new(way)));
         }
@@ -134,9 +133,10 @@ fn print(what: &str, measure: impl Fn(Filled) -> (f64, f64)) {
 }
 
 fn main() {
+    let runs = std::env::args().nth(1).map_or(9, |runs| runs.parse().expect("a number of runs"));
     for threads in [1, 4] {
-        print(&format!("{threads} readers"), |filled| filled.reads(threads, false));
-        print(&format!("{threads} readers beside a writer"), |filled| filled.reads(threads, true));
-        print(&format!("{threads} writers"), |filled| filled.writes(threads));
+        print(runs, &format!("{threads} readers"), |filled| filled.reads(threads, false));
+        print(runs, &format!("{threads} readers beside a writer"), |filled| filled.reads(threads, true));
+        print(runs, &format!("{threads} writers"), |filled| filled.writes(threads));
     }
 }
