@@ -36,23 +36,56 @@ impl Random {
 
 type Write = (Stamp, u16, Option<Vec<u8>>);
 
-/// All writes and deletions that were issued, of each key, in no order.
+/// Of each machine how many of its writes happened before: its vector clock.
+type Known = Vec<usize>;
+
+/// What was issued.
 #[derive(Default)]
-struct Model(Mutex<BTreeMap<Vec<u8>, Vec<Write>>>);
+struct Issued {
+    /// All writes and deletions of each key, in no order.
+    of_keys: BTreeMap<Vec<u8>, Vec<Write>>,
+    /// Those of each machine, in turn, each with what happened before it.
+    of_machines: Vec<Vec<(Stamp, Known)>>,
+}
+
+struct Model(Mutex<Issued>);
 
 impl Model {
-    fn add(&self, item: &OwnedItem) {
+    fn new(machines: u16) -> Model {
+        Model(Mutex::new(Issued { of_machines: vec![Vec::new(); machines.into()], ..Issued::default() }))
+    }
+
+    fn add(&self, item: &OwnedItem, known: &mut Known) {
         let (key, value) = match &item.content {
             OwnedContent::Write { key, value } => (key.clone(), Some(value.clone())),
             OwnedContent::Delete { key } => (key.clone(), None),
             OwnedContent::Report | OwnedContent::Retire => return,
         };
-        self.0.lock().unwrap().entry(key).or_default().push((item.stamp, item.node, value));
+        let mut issued = self.0.lock().unwrap();
+        issued.of_keys.entry(key).or_default().push((item.stamp, item.node, value));
+        issued.of_machines[usize::from(item.node)].push((item.stamp, known.clone()));
+        known[usize::from(item.node)] += 1;
+    }
+
+    /// What a machine knows that observed a snapshot at a stamp.
+    fn known_at(&self, stamp: Stamp) -> Known {
+        let issued = self.0.lock().unwrap();
+        issued.of_machines.iter().map(|writes| writes.partition_point(|write| write.0 <= stamp)).collect()
+    }
+
+    /// Checks that each write is above all that happened before it.
+    fn check_causes(&self) {
+        let issued = self.0.lock().unwrap();
+        for (stamp, known) in issued.of_machines.iter().flatten() {
+            for (writes, many) in issued.of_machines.iter().zip(known) {
+                assert!(*many == 0 || writes[many - 1].0 < *stamp);
+            }
+        }
     }
 
     /// The pairs at a stamp: of each key the value of its newest write, at one stamp that of the greater machine.
     fn at(&self, stamp: Stamp) -> Vec<(Vec<u8>, Vec<u8>)> {
-        let writes = self.0.lock().unwrap();
+        let writes = &self.0.lock().unwrap().of_keys;
         let newest = |writes: &[Write]| writes.iter().filter(|write| write.0 <= stamp).max()?.2.clone();
         writes.iter().filter_map(|(key, writes)| Some((key.clone(), newest(writes)?))).collect()
     }
@@ -65,15 +98,16 @@ struct Feed<'a> {
     machine: Machine,
     queues: Vec<VecDeque<OwnedItem>>,
     random: Random,
-    others: Vec<Sender<Stamp>>,
-    messages: Receiver<Stamp>,
+    known: Known,
+    others: Vec<Sender<(Stamp, Known)>>,
+    messages: Receiver<(Stamp, Known)>,
     checked: &'a AtomicUsize,
 }
 
 impl Feed<'_> {
     fn add(&mut self, (store, item): (usize, Item<'_>)) {
         let item = item.into_owned();
-        self.model.add(&item);
+        self.model.add(&item, &mut self.known);
         self.queues[store].push_back(item);
     }
 
@@ -82,6 +116,10 @@ impl Feed<'_> {
         for item in self.queues[store].drain(..many) {
             self.ranges.accept(store, item.as_item()).unwrap();
         }
+    }
+
+    fn learn(&mut self, known: &Known) {
+        self.known.iter_mut().zip(known).for_each(|(mine, theirs)| *mine = (*theirs).max(*mine));
     }
 
     /// Makes an event at random. The readings of machines differ, and stop at times.
@@ -103,16 +141,18 @@ impl Feed<'_> {
                 let message = self.machine.send(reading).unwrap();
                 let receiver = self.random.below(self.others.len() as u64) as usize;
                 // It may have ended.
-                let _ = self.others[receiver].send(message);
+                let _ = self.others[receiver].send((message, self.known.clone()));
             }
             8 => {
-                if let Ok(message) = self.messages.try_recv() {
+                if let Ok((message, known)) = self.messages.try_recv() {
+                    self.learn(&known);
                     assert!(self.machine.receive(reading, message).unwrap() > message);
                 }
             }
             9 if event % 10 == 0 => {
                 let snapshot = self.ranges.snapshot().unwrap();
                 snapshot.get(&key).unwrap();
+                self.learn(&self.model.known_at(snapshot.stamp()));
                 assert!(self.machine.observe(reading, snapshot.stamp()).unwrap() > snapshot.stamp());
             }
             _ => {
@@ -192,13 +232,14 @@ fn read(ranges: &Ranges, model: &Model, running: &AtomicUsize, checked: &AtomicU
 /// Runs machines beside two readers and vacuums. The last machine joins while the others run.
 fn play(division: &Division, machines: u16, seed: u64) {
     let ranges = Ranges::open(division, machines - 1).unwrap();
-    let (model, running, checked) = (Model::default(), AtomicUsize::new(machines.into()), AtomicUsize::new(0));
+    let (model, running, checked) = (Model::new(machines), AtomicUsize::new(machines.into()), AtomicUsize::new(0));
     let (senders, mut receivers): (Vec<_>, Vec<_>) = (0..machines).map(|_| mpsc::channel()).unzip();
     let feed = |machine: Machine, messages| Feed {
         ranges: &ranges,
         model: &model,
         random: Random::new(seed + u64::from(machine.id())),
         queues: vec![VecDeque::new(); division.stores()],
+        known: vec![0; machines.into()],
         others: senders.clone(),
         machine,
         messages,
@@ -230,6 +271,7 @@ fn play(division: &Division, machines: u16, seed: u64) {
         let stamps: usize = readers.into_iter().map(|reader| reader.join().unwrap()).sum();
         assert!(stamps > 3, "readers saw {stamps} cuts");
     });
+    model.check_causes();
     let cut = ranges.cut().unwrap();
     assert!(cut >= Stamp::new(EVENTS as u64, 0));
     assert!(ranges.stores().iter().all(|store| store.snapshots().unwrap().is_empty()));
