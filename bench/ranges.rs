@@ -1,6 +1,6 @@
-//! Reads and writes from several threads with the crate of bindings/rust: of one shared store, of one under a mutex, and
-//! of 64 stores by the hash of the key. Prints million calls a second, of the readers and of the writers: the medians of
-//! so many runs as the argument says, or nine, in which the ways take turns.
+//! Reads and writes from several threads with the crate of bindings/rust: of one shared store, of one under a mutex,
+//! and of 64 stores by the hash of the key. Prints million calls a second, of the readers and of the writers: the
+//! medians of so many runs as the argument says, or nine, in which the ways take turns.
 
 use hlcstore::{Division, Machine, Ranges, RangesSnapshot, SharedStore, Snapshot};
 use std::sync::Mutex;

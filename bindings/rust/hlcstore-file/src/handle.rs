@@ -51,8 +51,8 @@ unsafe fn fill(room: usize, call: impl FnOnce(*mut u8, usize, &mut usize, &mut u
     Ok((bytes, many, code == MORE))
 }
 
-/// Makes a call that writes a value, with so much room at first. It gets the place for the value, how many bytes there is
-/// room for, and where it writes how many there are. It is made again with more room where that was too little.
+/// Makes a call that writes a value, with so much room at first. It gets the place for the value, how many bytes there
+/// is room for, and where it writes how many there are. It is made again with more room where that was too little.
 fn value_of(mut room: usize, mut read: impl FnMut(*mut u8, usize, &mut usize) -> u32) -> Result<Option<Vec<u8>>> {
     loop {
         let (mut value, mut len) = (with_room(room)?, 0);

@@ -238,8 +238,8 @@ pub struct PairsBack<'a>(Both<'a, OfPairs>);
 #[derive(Debug)]
 pub struct Keys<'a>(Both<'a, OfKeys>);
 
-/// Iterates over what changes from one snapshot to another, as [`Pairs`] does from the front: in byte order, the keys of
-/// a range whose answers differ, each with its value in the other snapshot, or none.
+/// Iterates over what changes from one snapshot to another, as [`Pairs`] does from the front: in byte order, the keys
+/// of a range whose answers differ, each with its value in the other snapshot, or none.
 #[derive(Debug)]
 pub struct Changes<'a>(Listing<'a, OfChanges>);
 
