@@ -1,0 +1,38 @@
+-- Some of the rows of a checkpoint ascend as its rows do, so a part of it is a checkpoint.
+use Rattle.std.proofs.Common.{◌≡◌, ℕ, Bool, true, false, cond, ◌<◌, ◌≤◌, List, [], ◌∷◌, filter, Less, Ordering}
+use Rattle.std.specs.List.{AllByRecursion}
+use Rattle.std.specs.List.Sorted.{IsStrictlySortedBy}
+use Rattle.hlc_node.specs.declared.row.Row.{Row}
+use Rattle.hlc_heads.specs.declared.heads.TheConstants.{MOST_NODES}
+use Rattle.hlc_witness.specs.Certificate.{RowsAscend, row_cmp}
+use Rattle.hlc_core.specs.Past.{Step}
+use Rattle.hlc_core.specs.StoreView.{StoreView, nodes, Represents}
+use Rattle.hlc_checkpoint.specs.Checkpoint.{IsCheckpoint}
+use Rattle.hlc_core.proofs.CheckpointLemmas.{checkpoint-sound}
+use Rattle.hlc_split.specs.Split.{part_of}
+use Rattle.hlc_split.proofs.PartRows.{represents-part}
+
+all-filter : {X : Type 0} (P : X → Type 0) (p : X → Bool) (xs : List X) → AllByRecursion P xs
+    → AllByRecursion P (filter p xs)
+all-filter P p [] h = tt
+all-filter P p (x ∷ xs) h =
+    elim (p x) as (λ b. AllByRecursion P (cond b (x ∷ filter p xs) (filter p xs))) [
+      | true ↦ (h.0, all-filter P p xs h.1)
+      | false ↦ all-filter P p xs h.1
+    ]
+
+sorted-filter : {X : Type 0} (c : X → X → Ordering) (p : X → Bool) (xs : List X) → IsStrictlySortedBy c xs
+    → IsStrictlySortedBy c (filter p xs)
+unfolding IsStrictlySortedBy
+sorted-filter c p [] h = tt
+sorted-filter c p (x ∷ xs) h =
+    elim (p x) as (λ b. IsStrictlySortedBy c (cond b (x ∷ filter p xs) (filter p xs))) [
+      | true ↦ (all-filter (λ y. c x y ≡ Less) p xs h.0, sorted-filter c p xs h.1)
+      | false ↦ sorted-filter c p xs h.1
+    ]
+
+pub part-restores : (kept : StoreView) (past : List Step) (is_of : List ℕ → Bool) → Represents kept past
+    → 0 < nodes kept → nodes kept ≤ MOST_NODES → RowsAscend kept.rows → IsCheckpoint (part_of is_of kept)
+part-restores kept past is_of h some few up =
+    checkpoint-sound (part_of is_of kept) _ (represents-part kept past is_of h).represents some few
+    (sorted-filter row_cmp (λ (row : Row). is_of row.key) kept.rows up)

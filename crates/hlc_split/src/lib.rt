@@ -1,0 +1,48 @@
+//! A store divided by its keys.
+#![tactic(auto)]
+
+mod halves;
+
+ghost use Rattle.std.specs.Prelude.{◌≡◌, ◌<◌, ◌≤◌, ◌++◌, ℕ, Bool, true, not, List};
+ghost use Rattle.hlc_node.specs.Rows.{answer};
+ghost use Rattle.hlc_core.specs.Past.{Step, IsLegal, writes, floor, horizon, open_snapshots};
+ghost use Rattle.hlc_core.specs.StoreView.{StoreView, nodes, with_rows_left, Represents};
+ghost use Rattle.hlc_checkpoint.specs.Checkpoint.{IsCheckpoint};
+ghost use Rattle.hlc_witness.specs.Certificate.{RowsAscend};
+ghost use Rattle.hlc_heads.specs.declared.heads.TheConstants.{MOST_NODES};
+ghost use Rattle.hlc_split.specs.Split.{RepresentsPart, part_of, past_in};
+
+pub use halves::split;
+
+/// The rows of the keys of one kind, with a store's links, snapshots and horizon, are a store of these keys: it represents
+/// the store's past, in which items of other keys were reports.
+pub fn ranges_represent_their_part()
+    ensures { (kept : StoreView) (past : List Step) (is_of : List ℕ → Bool) → Represents kept past
+        → RepresentsPart is_of (part_of is_of kept) past }
+{}
+
+/// The store of the keys of one kind has the floor, the horizon and the open snapshots of the whole store, and answers
+/// at its keys as the whole store does, at each stamp.
+pub fn ranges_answer_alike()
+    ensures floor { (nodes : ℕ) (past : List Step) (is_of : List ℕ → Bool)
+        → floor nodes (past_in is_of past) ≡ floor nodes past }
+    ensures horizon { (past : List Step) (is_of : List ℕ → Bool) → horizon (past_in is_of past) ≡ horizon past }
+    ensures snapshots { (past : List Step) (is_of : List ℕ → Bool)
+        → open_snapshots (past_in is_of past) ≡ open_snapshots past }
+    ensures answers { (past : List Step) (is_of : List ℕ → Bool) (key : List ℕ) (stamp : ℕ) → is_of key ≡ true
+        → answer (writes (past_in is_of past)) key stamp ≡ answer (writes past) key stamp }
+{}
+
+/// A part of a checkpoint is a checkpoint, so `Core::restore` refuses it only if memory runs out.
+pub fn parts_restore()
+    ensures { (kept : StoreView) (past : List Step) (is_of : List ℕ → Bool) → Represents kept past
+        → 0 < nodes kept → nodes kept ≤ MOST_NODES → RowsAscend kept.rows → IsCheckpoint (part_of is_of kept) }
+{}
+
+/// The stores of the keys of a kind and of the others, of one past, are together a store of all keys: one with the rows of
+/// both. It represents that past, in which vacuums are parts of one.
+pub fn parts_merge()
+    ensures { (left right : StoreView) (past : List Step) (is_of : List ℕ → Bool) → IsLegal (nodes left) past
+        → RepresentsPart is_of left past → RepresentsPart (λ key. not (is_of key)) right past
+        → RepresentsPart (λ _. true) (with_rows_left left (left.rows ++ right.rows) left.horizon) past }
+{}
