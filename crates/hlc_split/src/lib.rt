@@ -1,7 +1,8 @@
-//! A store divided by its keys.
+//! A checkpoint divided at a key, and two such checkpoints as one.
 #![tactic(auto)]
 
 mod halves;
+mod joining;
 
 ghost use Rattle.std.specs.Prelude.{◌≡◌, ◌<◌, ◌≤◌, ◌++◌, ℕ, Bool, true, not, List};
 ghost use Rattle.hlc_node.specs.Rows.{answer};
@@ -13,6 +14,7 @@ ghost use Rattle.hlc_heads.specs.declared.heads.TheConstants.{MOST_NODES};
 ghost use Rattle.hlc_split.specs.Split.{RepresentsPart, part_of, past_in};
 
 pub use halves::split;
+pub use joining::{MergeFault, merge};
 
 /// The rows of the keys of one kind, with a store's links, snapshots and horizon, are a store of these keys: it represents
 /// the store's past, in which items of other keys were reports.

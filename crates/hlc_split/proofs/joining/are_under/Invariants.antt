@@ -1,0 +1,8 @@
+-- Each of the keys so far is below it.
+use Rattle.std.proofs.Common.{◌≡◌, ℕ, ◌<◌, get_or, true}
+use Rattle.hlc_node.specs.declared.row.Row.{Row}
+use Rattle.hlc_split.specs.Split.{is_under}
+use Rattle.hlc_split.proofs.joining.are_under.Given as goal
+
+abbrev pub invariant-loop-row : goal.invariant-loop-row
+invariant-loop-row l = (k : ℕ) (d : Row) → k < l.row-index → is_under l.bound (get_or l.rows k d).key ≡ true

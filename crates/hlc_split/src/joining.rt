@@ -1,0 +1,184 @@
+//! Two checkpoints joined into one.
+ghost use Rattle.std.specs.Prelude.{◌≡◌, ◌++◌, ◌↔◌, ⊤, not, true, All, IfOk, IfErr, IsTrue, List, ℕ, Bool, MatchOption};
+ghost use Rattle.hlc_core.specs.Past.{Step, IsLegal};
+ghost use Rattle.hlc_core.specs.StoreView.{nodes, with_rows_left};
+ghost use Rattle.hlc_split.specs.Split.{RepresentsPart, is_under, is_from};
+ghost use Rattle.hlc_split.specs.Merge.{AreDivided, HaveSameLinks, HaveSameSnapshots, IsReason, merge_code};
+ghost use Rattle.hlc_split.specs.declared.joining.MergeFault.TheVariants.{NoMemory as no_memory};
+
+use crate::halves::is_under;
+use hlc_checkpoint::Checkpoint;
+use hlc_intake::Intake;
+use hlc_node::Row;
+use hlc_snapshot::Snapshot;
+use hlc_values::NoMemory;
+use std::error::Error;
+use std::fmt;
+
+/// Why two checkpoints are not joined, in the order in which the reasons are checked.
+#[derive(Clone, Copy, PartialEq, Eq, Debug)]
+pub enum MergeFault {
+    /// The numbers of nodes at the start differ, or the links do: one has taken items that the other has not.
+    LinksDiffer,
+    /// The open snapshots differ, or the numbers of those ever opened.
+    SnapshotsDiffer,
+    /// The horizons differ.
+    HorizonsDiffer,
+    /// A key of the left one is not below the first key of the right one, or a key of the right one is.
+    KeysOverlap,
+    /// Out of memory.
+    NoMemory,
+}
+
+impl MergeFault {
+    /// Returns the number of the reason in outputs: 1 to 5, in the order of the variants.
+    pub fn code(self) -> u32
+        ensures { result ≡ merge_code self }
+    {
+        match self {
+            MergeFault::LinksDiffer => 1,
+            MergeFault::SnapshotsDiffer => 2,
+            MergeFault::HorizonsDiffer => 3,
+            MergeFault::KeysOverlap => 4,
+            MergeFault::NoMemory => 5,
+        }
+    }
+}
+
+impl fmt::Display for MergeFault {
+    ghost use Rattle.std.specs.Prelude.{Some};
+    ghost use Rattle.hlc_split.specs.Merge.{merge_text};
+
+    ghost output = { λ fault. Some (merge_text fault) };
+
+    fn fmt<W: fmt::Write>(&self, f: &mut fmt::Formatter<W>) -> fmt::Result {
+        f.write_str(match self {
+            MergeFault::LinksDiffer => "the links differ",
+            MergeFault::SnapshotsDiffer => "the open snapshots differ",
+            MergeFault::HorizonsDiffer => "the horizons differ",
+            MergeFault::KeysOverlap => "the keys of the left are not all below those of the right",
+            MergeFault::NoMemory => "out of memory",
+        })
+    }
+}
+
+impl Error for MergeFault {}
+
+impl From<NoMemory> for MergeFault {
+    ghost use Rattle.hlc_split.specs.declared.joining.MergeFault.TheVariants.{NoMemory as no_memory};
+
+    ghost from_gives = { λ _ fault. fault ≡ no_memory };
+
+    fn from(_fault: NoMemory) -> MergeFault {
+        MergeFault::NoMemory
+    }
+}
+
+/// Joins two checkpoints, of which the left one has the lower keys: the state of both, with the rows of the left one
+/// before those of the right one. If both represent their parts of one past, the result represents all of it, and its
+/// vacuums are parts of one.
+///
+/// Refused for the first reason of `MergeFault`. Both are moved, and lost if it is refused. It looks at each link, each
+/// open snapshot and each row once, and copies no row.
+#[tactic(auto, using(crate::proofs::Joined::merged_represents))]
+pub fn merge(left: Checkpoint, right: Checkpoint) -> Result<Checkpoint, MergeFault>
+    ensures ok { IfOk result (λ made. made ≡ with_rows_left left (left.rows ++ right.rows) left.horizon) }
+    ensures represents { (past : List Step) (is_of : List ℕ → Bool) → IsLegal (nodes left) past
+        → RepresentsPart is_of left past → RepresentsPart (λ key. not (is_of key)) right past
+        → IfOk result (λ made. RepresentsPart (λ _. true) made past) }
+    ensures divided { IfOk result (λ _. IsReason left right no_memory) }
+    ensures err { IfErr result (IsReason left right) }
+{
+    if !have_same_links(&left, &right) {
+        return Err(MergeFault::LinksDiffer);
+    }
+    if !have_same_snapshots(&left, &right) {
+        return Err(MergeFault::SnapshotsDiffer);
+    }
+    if left.horizon() != right.horizon() {
+        return Err(MergeFault::HorizonsDiffer);
+    }
+    if !are_divided(left.rows(), right.rows()) {
+        return Err(MergeFault::KeysOverlap);
+    }
+    let (start, opened, horizon) = (left.start(), left.opened(), left.horizon());
+    let (links, snapshots, lower) = left.into_lists();
+    let (_, _, upper) = right.into_lists();
+    let rows = joined(lower, upper)?;
+    Ok(Checkpoint::of(start, links, snapshots, opened, horizon, rows))
+}
+
+/// Returns whether both have as many nodes at the start, and the same progress of each link.
+fn have_same_links(left: &Checkpoint, right: &Checkpoint) -> bool
+    ensures { IsTrue result ↔ HaveSameLinks left.now right.now }
+{
+    left.start() == right.start() && are_same_links(left.links(), right.links())
+}
+
+/// Returns whether both have the same open snapshots, of as many that were ever opened.
+fn have_same_snapshots(left: &Checkpoint, right: &Checkpoint) -> bool
+    ensures { IsTrue result ↔ HaveSameSnapshots left.now right.now }
+{
+    left.opened() == right.opened() && are_same_snapshots(left.snapshots(), right.snapshots())
+}
+
+/// Returns whether both lists have the same links.
+fn are_same_links(left: &[Intake], right: &[Intake]) -> bool
+    ensures { IsTrue result ↔ (left.now ≡ right.now) }
+{
+    left == right
+}
+
+/// Returns whether both lists have the same snapshots.
+fn are_same_snapshots(left: &[Snapshot], right: &[Snapshot]) -> bool
+    ensures { IsTrue result ↔ (left.now ≡ right.now) }
+{
+    left == right
+}
+
+/// Returns whether the keys of the one list are below the first key of the other, and no key of the other is.
+fn are_divided(left: &[Row], right: &[Row]) -> bool
+    ensures { IsTrue result ↔ AreDivided left.now right.now }
+{
+    match right.first() {
+        None => true,
+        Some(first) => {
+            let bound = first.key.as_slice();
+            are_under(left, bound) && are_from(right, bound)
+        }
+    }
+}
+
+/// Returns whether all keys of the rows are below another.
+fn are_under(rows: &[Row], bound: &[u8]) -> bool
+    ensures { IsTrue result ↔ All (λ row. is_under bound.now row.key ≡ true) rows.now }
+{
+    for row in rows {
+        if !is_under(row.key.as_slice(), bound) {
+            return false;
+        }
+    }
+    true
+}
+
+/// Returns whether no key of the rows is below another.
+fn are_from(rows: &[Row], bound: &[u8]) -> bool
+    ensures { IsTrue result ↔ All (λ row. is_from bound.now row.key ≡ true) rows.now }
+{
+    for row in rows {
+        if is_under(row.key.as_slice(), bound) {
+            return false;
+        }
+    }
+    true
+}
+
+/// Returns the rows of one list before those of the other.
+fn joined(lower: Vec<Row>, upper: Vec<Row>) -> Result<Vec<Row>, NoMemory>
+    ensures { IfOk result (λ rows. rows.items ≡ lower.items ++ upper.items) }
+{
+    let mut rows = lower;
+    let mut upper = upper;
+    rows.append(&mut upper)?;
+    Ok(rows)
+}
