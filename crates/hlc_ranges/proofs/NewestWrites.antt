@@ -1,0 +1,265 @@
+-- A key's rows are all in its store, so its newest row there is the newest of all; and at or below a cut all issued
+-- rows were accepted.
+use Rattle.std.proofs.Common.{◌≡◌, ℕ, ◌≤◌, ◌⊎◌, List, [], ◌∷◌, Some, None, refl, ap, sym, ◌∙◌}
+use Rattle.std.proofs.Common.{subst, inl, inr, arith}
+use Rattle.std.specs.Prelude.{Contains}
+use Rattle.std.proofs.lemmas.Bool.{cases_eq}
+use Rattle.std.proofs.lemmas.List.Elements.{Contains-append_left, Contains-append_right, Contains-append_cases}
+use Rattle.hlc_values.proofs.MemberLemmas.{Contains-none, Contains-first, Contains-rest, Contains-cons_cases}
+use Rattle.hlc_node.specs.declared.row.Row.{Row}
+use Rattle.hlc_node.specs.declared.item.Item.{Item}
+use Rattle.hlc_node.specs.declared.item.Body.{Body}
+use Rattle.hlc_node.specs.declared.item.Body.TheVariants.{Write, Report, Retire}
+use Rattle.hlc_node.specs.Rows.{newest, answer, IsRowSet}
+use Rattle.hlc_node.proofs.NewestLemmas.{newest_is_greatest, answer_none, answer_some}
+use Rattle.hlc_draft.proofs.PartLemmas.{newest_in_part, none_in_part}
+use Rattle.hlc_core.specs.Past.{Step, Took, Opened, Closed, Vacuumed, Trimmed, Joined, writes, body_rows, item_rows}
+use Rattle.hlc_core.proofs.PastLemmas.{body_rows-are, writes-row_set}
+use Rattle.hlc_ranges.specs.Run.{Layout, Turn, Issued, Sent, Received, Observed, Stepped, past_of, issued, IsRouted}
+use Rattle.hlc_ranges.specs.Run.{IsIssuedStep, IsLegal, step_rows, issued_writes, accepted_writes}
+use Rattle.hlc_ranges.specs.Cut.{IsCut, AreNewestAccepted, AreNewestIssued}
+use Rattle.hlc_ranges.proofs.Pasts.{writes-have, writes-from}
+use Rattle.hlc_ranges.proofs.Turns.{past-same, past-other, issued-same, issued-other_node, issued-other}
+use Rattle.hlc_ranges.proofs.Turns.{past-legal}
+use Rattle.hlc_ranges.proofs.Cuts.{issued-keeps, issued-from, complete}
+
+-- if a row set has some of the rows of a list, and the newest of a key there, it gives the same answer
+pub answer-in_part : (part all : List Row) (key : List ℕ) (at : ℕ) → IsRowSet part
+    → ((row : Row) → Contains part row → Contains all row)
+    → ((row : Row) → Contains all row → row.key ≡ key → row.stamp ≤ at → Contains part row)
+    → answer part key at ≡ answer all key at
+answer-in_part part all key at set' within back =
+    elim (newest all key at) as (λ o. newest all key at ≡ o → answer part key at ≡ answer all key at) [
+      | None ↦ λ e. answer_none part key at (none_in_part part all key at within e) ∙ sym (answer_none all key at e)
+      | Some row ↦ λ e.
+          let is = newest_is_greatest all key at row e in
+          answer_some part key at row
+          (newest_in_part part all key at row set' within is (back row is.member is.of_key is.in_bound))
+          ∙ sym (answer_some all key at row e)
+    ] refl
+
+-- a row of an item has a key of its store
+row-routed : (layout : Layout) (s node stamp : ℕ) (body : Body) (row : Row) → IsRouted layout s body
+    → Contains (body_rows node stamp body) row → layout.store_of row.key ≡ s
+row-routed layout s node stamp Report row routed m = absurd (Contains-none row m)
+row-routed layout s node stamp Retire row routed m = absurd (Contains-none row m)
+row-routed layout s node stamp (Write key value) row routed m =
+    elim (Contains-cons_cases (record { key = key; stamp = stamp; node = node; value = value }) row [] m) [
+      | inl same ↦ sym (ap (λ (r : Row). layout.store_of r.key) same) ∙ routed
+      | inr rest ↦ absurd (Contains-none row rest)
+    ]
+
+-- an accepted item was issued for its store
+accepted-issued : (layout : Layout) (run : List Turn) (s : ℕ) (item : Item) → IsLegal layout run
+    → Contains (past_of s run) (Took item) → Contains (issued s item.node run) item
+accepted-issued layout [] s item legal m = absurd (Contains-none (Took item) m)
+accepted-issued layout (Issued t x ∷ run) s item legal m =
+    issued-keeps (Issued t x) run s item.node item (accepted-issued layout run s item legal.1 m)
+accepted-issued layout (Sent n st ∷ run) s item legal m = accepted-issued layout run s item legal.1 m
+accepted-issued layout (Received n k st ∷ run) s item legal m = accepted-issued layout run s item legal.1 m
+accepted-issued layout (Observed n t at st ∷ run) s item legal m = accepted-issued layout run s item legal.1 m
+accepted-issued layout (Stepped t step ∷ run) s item legal m =
+    elim (cases_eq t s) [
+      | inr other ↦ accepted-issued layout run s item legal.1
+          (subst (λ p. Contains p (Took item)) (past-other s t step run other) m)
+      | inl same ↦
+          elim (Contains-cons_cases step (Took item) (past_of s run)
+          (subst (λ p. Contains p (Took item)) (past-same s t step run same) m)) [
+            | inr old ↦ accepted-issued layout run s item legal.1 old
+            | inl is ↦ subst (λ k. Contains (issued k item.node run) item) same
+                (subst (λ x. IsIssuedStep t x run) is legal.0.2)
+          ]
+    ]
+
+-- an item of a link after one more was issued is that one or an old one
+issued-cases : (t : ℕ) (x : Item) (run : List Turn) (s n : ℕ) (item : Item)
+    → Contains (issued s n (Issued t x ∷ run)) item → (x ≡ item) ⊎ Contains (issued s n run) item
+issued-cases t x run s n item m =
+    elim (cases_eq t s) [
+      | inr other ↦ inr (subst (λ xs. Contains xs item) (issued-other s t n x run other) m)
+      | inl same ↦
+          elim (cases_eq x.node n) [
+            | inr other ↦ inr (subst (λ xs. Contains xs item) (issued-other_node s t n x run same other) m)
+            | inl own ↦ Contains-cons_cases x item (issued s n run)
+                (subst (λ xs. Contains xs item) (issued-same s t n x run same own) m)
+          ]
+    ]
+
+-- the rows of issued items are the issued writes
+issued_writes-have : (run : List Turn) (s n : ℕ) (item : Item) (row : Row) → Contains (issued s n run) item
+    → Contains (item_rows item) row → Contains (issued_writes run) row
+issued_writes-have [] s n item row m r = absurd (Contains-none item m)
+issued_writes-have (Sent k st ∷ run) s n item row m r = issued_writes-have run s n item row m r
+issued_writes-have (Received k j st ∷ run) s n item row m r = issued_writes-have run s n item row m r
+issued_writes-have (Observed k t at st ∷ run) s n item row m r = issued_writes-have run s n item row m r
+issued_writes-have (Stepped t step ∷ run) s n item row m r = issued_writes-have run s n item row m r
+issued_writes-have (Issued t x ∷ run) s n item row m r =
+    elim (issued-cases t x run s n item m) [
+      | inl is ↦ Contains-append_right (issued_writes run) (item_rows x) row
+          (subst (λ y. Contains (item_rows y) row) (sym is) r)
+      | inr old ↦ Contains-append_left (issued_writes run) (item_rows x) row
+          (issued_writes-have run s n item row old r)
+    ]
+
+-- an issued write is the row of an issued item
+record IsOfLink (run : List Turn) (row : Row) : Type 0 where
+  pub store : ℕ
+  pub item : Item
+  pub issued : Contains (issued store item.node run) item
+  pub of : Contains (item_rows item) row
+
+of_link-keeps : (turn : Turn) (run : List Turn) (row : Row) → IsOfLink run row → IsOfLink (turn ∷ run) row
+of_link-keeps turn run row h = record {
+  store = h.store;
+  item = h.item;
+  issued = issued-keeps turn run h.store h.item.node h.item h.issued;
+  of = h.of;
+}
+
+issued_writes-from : (run : List Turn) (row : Row) → Contains (issued_writes run) row → IsOfLink run row
+issued_writes-from [] row m = absurd (Contains-none row m)
+issued_writes-from (Sent k st ∷ run) row m = of_link-keeps (Sent k st) run row (issued_writes-from run row m)
+issued_writes-from (Received k j st ∷ run) row m =
+    of_link-keeps (Received k j st) run row (issued_writes-from run row m)
+issued_writes-from (Observed k t at st ∷ run) row m =
+    of_link-keeps (Observed k t at st) run row (issued_writes-from run row m)
+issued_writes-from (Stepped t step ∷ run) row m = of_link-keeps (Stepped t step) run row (issued_writes-from run row m)
+issued_writes-from (Issued t x ∷ run) row m =
+    elim (Contains-append_cases (issued_writes run) (item_rows x) row m) [
+      | inl old ↦ of_link-keeps (Issued t x) run row (issued_writes-from run row old)
+      | inr fresh ↦ record {
+        store = t;
+        item = x;
+        issued = subst (λ xs. Contains xs x) (sym (issued-same t t x.node x run refl refl))
+            (Contains-first x (issued t x.node run));
+        of = fresh;
+      }
+    ]
+
+-- a row of a key that was issued at or below a cut is in the key's store
+pub newest-issued : (layout : Layout) (run : List Turn) (stamp : ℕ) → IsLegal layout run → IsCut layout run stamp
+    → AreNewestIssued layout run stamp
+newest-issued layout run stamp legal cut = λ key at low.
+    let s : ℕ = layout.store_of key in
+    answer-in_part (writes (past_of s run)) (issued_writes run) key at
+    (writes-row_set (layout.nodes s) (past_of s run) (past-legal layout run s legal))
+    (λ row m.
+    let w = writes-from (past_of s run) row m in
+    issued_writes-have run s w.item.node w.item row (accepted-issued layout run s w.item legal w.accepted) w.of)
+    (λ row m of_key below.
+    let w = issued_writes-from run row m in
+    let from = issued-from layout run w.store w.item.node w.item legal w.issued in
+    let at' : w.store ≡ s = sym (row-routed layout w.store w.item.node w.item.stamp w.item.body row from.routed w.of)
+    ∙ ap (λ k. layout.store_of k) of_key in
+    let e : row.stamp ≡ w.item.stamp = (body_rows-are w.item.node w.item.stamp w.item.body row w.of).1 in
+    let low' : at ≤ stamp = low in
+    let below' : row.stamp ≤ at = below in
+    let accepted = complete layout run stamp legal cut w.store w.item.node w.item w.issued (omega arith) in
+    writes-have (past_of s run) w.item row (subst (λ k. Contains (past_of k run) (Took w.item)) at' accepted) w.of)
+
+-- a write after a step is an old one, or that of the step
+pub step-writes : (step : Step) (past : List Step) (row : Row) → Contains (writes (step ∷ past)) row
+    → Contains (writes past) row ⊎ Contains (step_rows step) row
+step-writes (Took item) past row m = Contains-append_cases (writes past) (item_rows item) row m
+step-writes (Opened stamp) past row m = inl m
+step-writes (Closed id) past row m = inl m
+step-writes (Vacuumed at) past row m = inl m
+step-writes (Trimmed at dropped) past row m = inl m
+step-writes (Joined node start) past row m = inl m
+
+-- an accepted item stays one
+pub past-keeps : (t : ℕ) (step : Step) (run : List Turn) (s : ℕ) (item : Item) → Contains (past_of s run) (Took item)
+    → Contains (past_of s (Stepped t step ∷ run)) (Took item)
+past-keeps t step run s item m =
+    elim (cases_eq t s) [
+      | inr other ↦ subst (λ p. Contains p (Took item)) (sym (past-other s t step run other)) m
+      | inl same ↦ subst (λ p. Contains p (Took item)) (sym (past-same s t step run same))
+          (Contains-rest step (Took item) (past_of s run) m)
+    ]
+
+-- the writes of a store are among the accepted ones
+accepted_writes-have : (run : List Turn) (s : ℕ) (row : Row) → Contains (writes (past_of s run)) row
+    → Contains (accepted_writes run) row
+accepted_writes-have [] s row m = absurd (Contains-none row m)
+accepted_writes-have (Issued t x ∷ run) s row m = accepted_writes-have run s row m
+accepted_writes-have (Sent k st ∷ run) s row m = accepted_writes-have run s row m
+accepted_writes-have (Received k j st ∷ run) s row m = accepted_writes-have run s row m
+accepted_writes-have (Observed k t at st ∷ run) s row m = accepted_writes-have run s row m
+accepted_writes-have (Stepped t step ∷ run) s row m =
+    elim (cases_eq t s) [
+      | inr other ↦ Contains-append_left (accepted_writes run) (step_rows step) row
+          (accepted_writes-have run s row
+          (subst (λ p. Contains (writes p) row) (past-other s t step run other) m))
+      | inl same ↦
+          elim (step-writes step (past_of s run) row
+          (subst (λ p. Contains (writes p) row) (past-same s t step run same) m)) [
+            | inl old ↦ Contains-append_left (accepted_writes run) (step_rows step) row
+                (accepted_writes-have run s row old)
+            | inr fresh ↦ Contains-append_right (accepted_writes run) (step_rows step) row fresh
+          ]
+    ]
+
+-- an accepted write is the row of an item that some store accepted
+record IsOfStore (run : List Turn) (row : Row) : Type 0 where
+  pub store : ℕ
+  pub item : Item
+  pub accepted : Contains (past_of store run) (Took item)
+  pub of : Contains (item_rows item) row
+
+of_store-keeps : (t : ℕ) (step : Step) (run : List Turn) (row : Row) → IsOfStore run row
+    → IsOfStore (Stepped t step ∷ run) row
+of_store-keeps t step run row h = record {
+  store = h.store;
+  item = h.item;
+  accepted = past-keeps t step run h.store h.item h.accepted;
+  of = h.of;
+}
+
+of_store-step : (t : ℕ) (step : Step) (run : List Turn) (row : Row) → Contains (step_rows step) row
+    → IsOfStore (Stepped t step ∷ run) row
+of_store-step t (Took item) run row m = record {
+  store = t;
+  item = item;
+  accepted = subst (λ p. Contains p (Took item)) (sym (past-same t t (Took item) run refl))
+      (Contains-first (Took item) (past_of t run));
+  of = m;
+}
+of_store-step t (Opened stamp) run row m = absurd (Contains-none row m)
+of_store-step t (Closed id) run row m = absurd (Contains-none row m)
+of_store-step t (Vacuumed at) run row m = absurd (Contains-none row m)
+of_store-step t (Trimmed at dropped) run row m = absurd (Contains-none row m)
+of_store-step t (Joined node start) run row m = absurd (Contains-none row m)
+
+accepted_writes-from : (run : List Turn) (row : Row) → Contains (accepted_writes run) row → IsOfStore run row
+accepted_writes-from [] row m = absurd (Contains-none row m)
+accepted_writes-from (Issued t x ∷ run) row m =
+    (let w = accepted_writes-from run row m in
+    record { store = w.store; item = w.item; accepted = w.accepted; of = w.of })
+accepted_writes-from (Sent k st ∷ run) row m =
+    (let w = accepted_writes-from run row m in
+    record { store = w.store; item = w.item; accepted = w.accepted; of = w.of })
+accepted_writes-from (Received k j st ∷ run) row m =
+    (let w = accepted_writes-from run row m in
+    record { store = w.store; item = w.item; accepted = w.accepted; of = w.of })
+accepted_writes-from (Observed k t at st ∷ run) row m =
+    (let w = accepted_writes-from run row m in
+    record { store = w.store; item = w.item; accepted = w.accepted; of = w.of })
+accepted_writes-from (Stepped t step ∷ run) row m =
+    elim (Contains-append_cases (accepted_writes run) (step_rows step) row m) [
+      | inl old ↦ of_store-keeps t step run row (accepted_writes-from run row old)
+      | inr fresh ↦ of_store-step t step run row fresh
+    ]
+
+pub newest-accepted : (layout : Layout) (run : List Turn) → IsLegal layout run → AreNewestAccepted layout run
+newest-accepted layout run legal = λ key at.
+    let s : ℕ = layout.store_of key in
+    answer-in_part (writes (past_of s run)) (accepted_writes run) key at
+    (writes-row_set (layout.nodes s) (past_of s run) (past-legal layout run s legal))
+    (λ row m. accepted_writes-have run s row m)
+    (λ row m of_key below.
+    let w = accepted_writes-from run row m in
+    let from = issued-from layout run w.store w.item.node w.item legal
+    (accepted-issued layout run w.store w.item legal w.accepted) in
+    let at' : w.store ≡ s = sym (row-routed layout w.store w.item.node w.item.stamp w.item.body row from.routed w.of)
+    ∙ ap (λ k. layout.store_of k) of_key in
+    writes-have (past_of s run) w.item row (subst (λ k. Contains (past_of k run) (Took w.item)) at' w.accepted) w.of)

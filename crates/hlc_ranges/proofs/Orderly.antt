@@ -1,0 +1,148 @@
+-- Every link of a legal run is one of its machine and its store: the store accepted the first of its items, and all
+-- others are above its head.
+use Rattle.std.proofs.Common.{◌≡◌, ℕ, false, ◌+◌, ◌<◌, ◌≤◌, List, [], ◌∷◌, length, Some, max, refl, ap, sym, ◌∙◌}
+use Rattle.std.proofs.Common.{subst, inl, inr, arith}
+use Rattle.std.specs.Prelude.{Contains}
+use Rattle.std.proofs.lemmas.Bool.{cases_eq}
+use Rattle.hlc_node.specs.declared.item.Item.{Item}
+use Rattle.hlc_core.specs.Past.{Step, Took, Opened, Closed, Vacuumed, Trimmed, Joined, numbered, head}
+use Rattle.hlc_core.specs.Past.{IsLegal as IsLegalPast}
+use Rattle.hlc_core.specs.Replicas.{items_of}
+use Rattle.hlc_core.proofs.PastLemmas.{inside, on_link, admissible, head-same, head-other, head-joined}
+use Rattle.hlc_core.proofs.PastLemmas.{head-joined_other}
+use Rattle.hlc_ranges.specs.Run.{Layout, Turn, Issued, Sent, Received, Observed, Stepped, past_of, issued, mark_of}
+use Rattle.hlc_ranges.specs.Run.{raised_by, last_stamp, have_ended, IsIssuedStep, IsAllowed, IsLegal}
+use Rattle.hlc_ranges.proofs.Pasts.{items-same, items-other, count-by}
+use Rattle.hlc_ranges.proofs.Links.{IsLink, link-none, link-rises, link-issue, link-took, link-more, link-start}
+use Rattle.hlc_ranges.proofs.Turns.{raised-same, clock-grows, past-same, past-other, issued-same, issued-other_node}
+use Rattle.hlc_ranges.proofs.Turns.{issued-other}
+
+-- a link of a node in a past
+abbrev pub IsLinkOf : ℕ → ℕ → ℕ → List Item → List Step → Type 0
+IsLinkOf last nodes n items past = IsLink last (numbered nodes past) n items (items_of n past) (head n past)
+
+-- after a step of its store, which took only an item of the link
+pub link-step : (last nodes n : ℕ) (items : ℕ → List Item) (step : Step) (past : List Step)
+    → IsLegalPast nodes (step ∷ past)
+    → ((item : Item) → step ≡ Took item → Contains (items item.node) item)
+    → ((start : ℕ) → step ≡ Joined n start → start ≤ last)
+    → IsLinkOf last nodes n (items n) past → IsLinkOf last nodes n (items n) (step ∷ past)
+link-step last nodes n items (Opened stamp) past legal from up h = h
+link-step last nodes n items (Closed id) past legal from up h = h
+link-step last nodes n items (Vacuumed at) past legal from up h = h
+link-step last nodes n items (Trimmed at dropped) past legal from up h = h
+link-step last nodes n items (Took item) past legal from up h =
+    elim (cases_eq item.node n) [
+      | inl same ↦
+          let is = admissible _ _ _ item (sym (on_link nodes past item (inside nodes past item legal.0)) ∙ legal.0) in
+          let number : item.number ≡ length (items_of n past) =
+          is.number ∙ count-by past item.node ∙ ap (λ k. length (items_of k past)) same in
+          let took = link-took last (numbered nodes past) n (items n) (items_of n past) (head n past) item h
+          (subst (λ k. Contains (items k) item) same (from item refl)) number in
+          subst (λ top. IsLink last (numbered nodes past) n (items n) (items_of n (Took item ∷ past)) top)
+          (sym (head-same n item past same))
+          (subst (λ xs. IsLink last (numbered nodes past) n (items n) xs item.stamp) (sym (items-same n item past same))
+          took)
+      | inr other ↦
+          subst (λ top. IsLink last (numbered nodes past) n (items n) (items_of n (Took item ∷ past)) top)
+          (sym (head-other n item past other))
+          (subst (λ xs. IsLink last (numbered nodes past) n (items n) xs (head n past))
+          (sym (items-other n item past other)) h)
+    ]
+link-step last nodes n items (Joined node start) past legal from up h =
+    elim (cases_eq node n) [
+      | inl same ↦
+          let is : n ≡ numbered nodes past = sym same ∙ legal.1 in
+          subst (λ top. IsLink last (numbered nodes past + 1) n (items n) (items_of n past) top)
+          (sym (head-joined n node start past same))
+          (link-start last (numbered nodes past) n (items n) (items_of n past) (head n past) start is
+          (up start (ap (λ k. Joined k start) same)) h)
+      | inr other ↦
+          subst (λ top. IsLink last (numbered nodes past + 1) n (items n) (items_of n past) top)
+          (sym (head-joined_other n node start past other))
+          (link-more last (numbered nodes past) (numbered nodes past + 1) n (items n) (items_of n past) (head n past)
+          (omega arith) h)
+    ]
+
+-- every link fits
+abbrev pub IsOrderly : Layout → List Turn → Type 0
+IsOrderly layout run =
+    (s n : ℕ)
+    → IsLinkOf (last_stamp layout (layout.machine s n) run) (layout.nodes s) n (issued s n run) (past_of s run)
+
+-- a turn that changes only a clock
+orderly-clock : (layout : Layout) (turn : Turn) (run : List Turn) → IsOrderly layout run → (s n : ℕ)
+    → IsLinkOf (last_stamp layout (layout.machine s n) (turn ∷ run)) (layout.nodes s) n (issued s n run) (past_of s run)
+orderly-clock layout turn run h s n =
+    link-rises _ _ (numbered (layout.nodes s) (past_of s run)) n (issued s n run) (items_of n (past_of s run))
+    (head n (past_of s run)) (clock-grows layout (layout.machine s n) turn run) (h s n)
+
+orderly-issued : (layout : Layout) (t : ℕ) (item : Item) (run : List Turn) → IsAllowed layout (Issued t item) run
+    → IsOrderly layout run → IsOrderly layout (Issued t item ∷ run)
+orderly-issued layout t item run allowed h = λ s n.
+    let clocked = orderly-clock layout (Issued t item) run h s n in
+    let many : ℕ = numbered (layout.nodes s) (past_of s run) in
+    let last : ℕ = last_stamp layout (layout.machine s n) (Issued t item ∷ run) in
+    elim (cases_eq t s) [
+      | inr other ↦ subst (λ xs. IsLinkOf last (layout.nodes s) n xs (past_of s run))
+          (sym (issued-other s t n item run other)) clocked
+      | inl same ↦
+          elim (cases_eq item.node n) [
+            | inr other ↦ subst (λ xs. IsLinkOf last (layout.nodes s) n xs (past_of s run))
+                (sym (issued-other_node s t n item run same other)) clocked
+            | inl own ↦
+                let within : n < many = subst (λ k. k < many) own
+                (subst (λ k. item.node < numbered (layout.nodes k) (past_of k run)) same allowed.1) in
+                let open' = subst (λ k. have_ended (issued s k run) ≡ false) own
+                (subst (λ k. have_ended (issued k item.node run) ≡ false) same allowed.2) in
+                let number : item.number ≡ length (issued s n run) =
+                allowed.3 ∙ ap (λ k. length (issued k item.node run)) same ∙ ap (λ k. length (issued s k run)) own in
+                let machine : layout.machine t item.node ≡ layout.machine s n =
+                ap (λ k. layout.machine k item.node) same ∙ ap (λ k. layout.machine s k) own in
+                let up : last_stamp layout (layout.machine s n) run < item.stamp =
+                subst (λ k. last_stamp layout k run < item.stamp) machine allowed.4 in
+                let made = link-issue _ many n (issued s n run) (items_of n (past_of s run))
+                (head n (past_of s run)) item (h s n) within open' number up in
+                let at = raised-same (layout.machine s n) (layout.machine t item.node, item.stamp)
+                (last_stamp layout (layout.machine s n) run) machine in
+                subst (λ xs. IsLinkOf last (layout.nodes s) n xs (past_of s run))
+                (sym (issued-same s t n item run same own))
+                (link-rises item.stamp last many n (item ∷ issued s n run) (items_of n (past_of s run))
+                (head n (past_of s run)) (omega (arith, at)) made)
+          ]
+    ]
+
+orderly-stepped : (layout : Layout) (t : ℕ) (step : Step) (run : List Turn) → IsAllowed layout (Stepped t step) run
+    → IsOrderly layout run → IsOrderly layout (Stepped t step ∷ run)
+orderly-stepped layout t step run allowed h = λ s n.
+    let clocked = orderly-clock layout (Stepped t step) run h s n in
+    let last : ℕ = last_stamp layout (layout.machine s n) (Stepped t step ∷ run) in
+    elim (cases_eq t s) [
+      | inr other ↦ subst (λ past. IsLinkOf last (layout.nodes s) n (issued s n run) past)
+          (sym (past-other s t step run other)) clocked
+      | inl same ↦
+          subst (λ past. IsLinkOf last (layout.nodes s) n (issued s n run) past) (sym (past-same s t step run same))
+          (link-step last (layout.nodes s) n (λ k. issued s k run) step (past_of s run)
+          (subst (λ k. IsLegalPast (layout.nodes k) (step ∷ past_of k run)) same allowed.1)
+          (λ item is. subst (λ k. Contains (issued k item.node run) item) same
+          (subst (λ x. IsIssuedStep t x run) is allowed.2))
+          (λ start is.
+          let at : mark_of layout (Stepped t step) ≡ Some (layout.machine t n, start) =
+          ap (λ x. mark_of layout (Stepped t x)) is in
+          let machine : layout.machine t n ≡ layout.machine s n = ap (λ k. layout.machine k n) same in
+          let e : last ≡ max (last_stamp layout (layout.machine s n) run) start =
+          ap (λ o. raised_by (layout.machine s n) o (last_stamp layout (layout.machine s n) run)) at
+          ∙ raised-same (layout.machine s n) (layout.machine t n, start) _ machine in
+          omega arith)
+          clocked)
+    ]
+
+-- every legal run is orderly
+pub orderly : (layout : Layout) (run : List Turn) → IsLegal layout run → IsOrderly layout run
+orderly layout [] legal = λ s n. link-none 0 (layout.nodes s) n
+orderly layout (Issued t item ∷ run) legal = orderly-issued layout t item run legal.0 (orderly layout run legal.1)
+orderly layout (Sent m st ∷ run) legal = orderly-clock layout (Sent m st) run (orderly layout run legal.1)
+orderly layout (Received m k st ∷ run) legal = orderly-clock layout (Received m k st) run (orderly layout run legal.1)
+orderly layout (Observed m s at st ∷ run) legal =
+    orderly-clock layout (Observed m s at st) run (orderly layout run legal.1)
+orderly layout (Stepped t step ∷ run) legal = orderly-stepped layout t step run legal.0 (orderly layout run legal.1)

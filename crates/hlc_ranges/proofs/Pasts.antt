@@ -1,0 +1,134 @@
+-- What the accepted items of a node say of its link in a past.
+use Rattle.std.proofs.Common.{◌≡◌, ℕ, ◌+◌, List, [], ◌∷◌, length, refl, ap, sym}
+use Rattle.std.proofs.Common.{◌∙◌, subst, inl, inr, arith}
+use Rattle.std.specs.Prelude.{Contains, ◌==◌}
+use Rattle.std.proofs.lemmas.Bool.{cond-true, cond-false, eq-eqb, ne_eqb, cases_eq}
+use Rattle.std.proofs.lemmas.List.Elements.{Contains-append_left, Contains-append_right, Contains-append_cases}
+use Rattle.hlc_values.proofs.MemberLemmas.{Contains-none, Contains-first, Contains-rest, Contains-cons_cases}
+use Rattle.hlc_node.specs.declared.row.Row.{Row}
+use Rattle.hlc_node.specs.declared.item.Item.{Item}
+use Rattle.hlc_core.specs.Past.{Step, Took, Opened, Closed, Vacuumed, Trimmed, Joined, count, retired, writes}
+use Rattle.hlc_core.specs.Past.{item_rows}
+use Rattle.hlc_core.specs.Replicas.{items_of}
+use Rattle.hlc_core.proofs.PastLemmas.{retired-same, retired-other, count-other}
+use Rattle.hlc_ranges.specs.Run.{have_ended}
+
+pub items-same : (n : ℕ) (item : Item) (past : List Step) → item.node ≡ n
+    → items_of n (Took item ∷ past) ≡ item ∷ items_of n past
+items-same n item past e = cond-true _ _ _ (eq-eqb _ _ e)
+
+pub items-other : (n : ℕ) (item : Item) (past : List Step) → (item.node ≡ n → ⊥)
+    → items_of n (Took item ∷ past) ≡ items_of n past
+items-other n item past e = cond-false _ _ _ (ne_eqb _ _ e)
+
+-- a node retired if its last accepted item is its last one
+pub retired-by : (past : List Step) (n : ℕ) → retired n past ≡ have_ended (items_of n past)
+retired-by [] n = refl
+retired-by (Opened stamp ∷ past) n = retired-by past n
+retired-by (Closed id ∷ past) n = retired-by past n
+retired-by (Vacuumed at ∷ past) n = retired-by past n
+retired-by (Trimmed at dropped ∷ past) n = retired-by past n
+retired-by (Joined node start ∷ past) n = retired-by past n
+retired-by (Took item ∷ past) n =
+    elim (cases_eq item.node n) [
+      | inl same ↦ retired-same n item past same ∙ sym (ap have_ended (items-same n item past same))
+      | inr other ↦ retired-other n item past other ∙ retired-by past n
+          ∙ sym (ap have_ended (items-other n item past other))
+    ]
+
+pub count-by : (past : List Step) (n : ℕ) → count n past ≡ length (items_of n past)
+count-by [] n = refl
+count-by (Opened stamp ∷ past) n = count-by past n
+count-by (Closed id ∷ past) n = count-by past n
+count-by (Vacuumed at ∷ past) n = count-by past n
+count-by (Trimmed at dropped ∷ past) n = count-by past n
+count-by (Joined node start ∷ past) n = count-by past n
+count-by (Took item ∷ past) n =
+    elim (cases_eq item.node n) [
+      | inl same ↦
+          cond-true (item.node == n) (count n past + 1) (count n past) (eq-eqb _ _ same)
+          ∙ ap (λ k. k + 1) (count-by past n) ∙ sym (ap length (items-same n item past same) ∙ (omega arith))
+      | inr other ↦ count-other n item past other ∙ count-by past n
+          ∙ sym (ap length (items-other n item past other))
+    ]
+
+-- an item of a node was accepted
+pub items-accepted : (past : List Step) (n : ℕ) (item : Item) → Contains (items_of n past) item
+    → Contains past (Took item)
+items-accepted [] n item m = absurd (Contains-none item m)
+items-accepted (Opened stamp ∷ past) n item m = Contains-rest _ _ past (items-accepted past n item m)
+items-accepted (Closed id ∷ past) n item m = Contains-rest _ _ past (items-accepted past n item m)
+items-accepted (Vacuumed at ∷ past) n item m = Contains-rest _ _ past (items-accepted past n item m)
+items-accepted (Trimmed at dropped ∷ past) n item m = Contains-rest _ _ past (items-accepted past n item m)
+items-accepted (Joined node start ∷ past) n item m = Contains-rest _ _ past (items-accepted past n item m)
+items-accepted (Took first ∷ past) n item m =
+    elim (cases_eq first.node n) [
+      | inl same ↦
+          elim (Contains-cons_cases first item (items_of n past)
+          (subst (λ xs. Contains xs item) (items-same n first past same) m)) [
+            | inl is ↦ subst (λ x. Contains (Took first ∷ past) (Took x)) is (Contains-first (Took first) past)
+            | inr rest ↦ Contains-rest _ _ past (items-accepted past n item rest)
+          ]
+      | inr other ↦ Contains-rest _ _ past
+          (items-accepted past n item (subst (λ xs. Contains xs item) (items-other n first past other) m))
+    ]
+
+-- the rows of accepted items are the accepted writes
+pub writes-have : (past : List Step) (item : Item) (row : Row) → Contains past (Took item)
+    → Contains (item_rows item) row → Contains (writes past) row
+writes-have [] item row m r = absurd (Contains-none (Took item) m)
+writes-have (Opened stamp ∷ past) item row m r =
+    elim (Contains-cons_cases (Opened stamp) (Took item) past m) [
+      | inl same ↦ absurd (cc)
+      | inr rest ↦ writes-have past item row rest r
+    ]
+writes-have (Closed id ∷ past) item row m r =
+    elim (Contains-cons_cases (Closed id) (Took item) past m) [
+      | inl same ↦ absurd (cc)
+      | inr rest ↦ writes-have past item row rest r
+    ]
+writes-have (Vacuumed at ∷ past) item row m r =
+    elim (Contains-cons_cases (Vacuumed at) (Took item) past m) [
+      | inl same ↦ absurd (cc)
+      | inr rest ↦ writes-have past item row rest r
+    ]
+writes-have (Trimmed at dropped ∷ past) item row m r =
+    elim (Contains-cons_cases (Trimmed at dropped) (Took item) past m) [
+      | inl same ↦ absurd (cc)
+      | inr rest ↦ writes-have past item row rest r
+    ]
+writes-have (Joined node start ∷ past) item row m r =
+    elim (Contains-cons_cases (Joined node start) (Took item) past m) [
+      | inl same ↦ absurd (cc)
+      | inr rest ↦ writes-have past item row rest r
+    ]
+writes-have (Took first ∷ past) item row m r =
+    elim (Contains-cons_cases (Took first) (Took item) past m) [
+      | inl same ↦ (let is : first ≡ item = cc in
+          Contains-append_right (writes past) (item_rows first) row
+          (subst (λ x. Contains (item_rows x) row) (sym is) r))
+      | inr rest ↦ Contains-append_left (writes past) (item_rows first) row (writes-have past item row rest r)
+    ]
+
+-- an accepted write is the row of an accepted item
+pub record IsOfItem (past : List Step) (row : Row) : Type 0 where
+  pub item : Item
+  pub accepted : Contains past (Took item)
+  pub of : Contains (item_rows item) row
+
+of-more : (past : List Step) (step : Step) (row : Row) → IsOfItem past row → IsOfItem (step ∷ past) row
+of-more past step row h =
+    record { item = h.item; accepted = Contains-rest step (Took h.item) past h.accepted; of = h.of }
+
+pub writes-from : (past : List Step) (row : Row) → Contains (writes past) row → IsOfItem past row
+writes-from [] row m = absurd (Contains-none row m)
+writes-from (Opened stamp ∷ past) row m = of-more past _ row (writes-from past row m)
+writes-from (Closed id ∷ past) row m = of-more past _ row (writes-from past row m)
+writes-from (Vacuumed at ∷ past) row m = of-more past _ row (writes-from past row m)
+writes-from (Trimmed at dropped ∷ past) row m = of-more past _ row (writes-from past row m)
+writes-from (Joined node start ∷ past) row m = of-more past _ row (writes-from past row m)
+writes-from (Took first ∷ past) row m =
+    elim (Contains-append_cases (writes past) (item_rows first) row m) [
+      | inl old ↦ of-more past (Took first) row (writes-from past row old)
+      | inr fresh ↦ record { item = first; accepted = Contains-first (Took first) past; of = fresh }
+    ]

@@ -1,0 +1,137 @@
+-- A run of several stores and of the machines that write to them: what took place, in order, and what it says of each
+-- store, each link and each clock.
+use Rattle.std.specs.Prelude.{◌≡◌, ℕ, Bool, false, ◌<◌, ◌≤◌, List, [], ◌∷◌, ◌++◌, length, max, Option, Some, None}
+use Rattle.std.specs.Prelude.{◌==◌, if◌then◌else◌, ⊤, Contains}
+use Rattle.hlc_node.specs.declared.row.Row.{Row}
+use Rattle.hlc_node.specs.declared.item.Item.{Item}
+use Rattle.hlc_node.specs.declared.item.Body.{Body}
+use Rattle.hlc_node.specs.declared.item.Body.TheVariants.{Write, Report, Retire}
+use Rattle.hlc_node.specs.Items.{retires}
+use Rattle.hlc_core.specs.Past.{Step, Took, Joined, numbered, floor, item_rows, IsLegal as IsLegalPast}
+
+-- How nodes and keys are divided: the number of stores; the number of nodes at the start of each store; the machine of
+-- each node of each store, which may be a machine of several nodes; and the store of each key.
+pub record Layout : Type 0 where
+  pub stores : ℕ
+  pub nodes : ℕ → ℕ
+  pub machine : ℕ → ℕ → ℕ
+  pub store_of : List ℕ → ℕ
+
+-- What took place: an item was issued for a store; a machine sent a message with a stamp; a machine received the
+-- message of the turn with this number, with a stamp of its own; a machine observed a store at a stamp, with a stamp of
+-- its own; a step of a store took place.
+pub data Turn : Type 0 where
+  Issued : ℕ → Item → Turn
+  Sent : ℕ → ℕ → Turn
+  Received : ℕ → ℕ → ℕ → Turn
+  Observed : ℕ → ℕ → ℕ → ℕ → Turn
+  Stepped : ℕ → Step → Turn
+
+-- Below, a run is the list of the turns, the last one first.
+
+-- the past of a store
+abbrev pub past_of : ℕ → List Turn → List Step
+past_of s [] = []
+past_of s (Stepped t step ∷ run) = if t == s then step ∷ past_of s run else past_of s run
+past_of s (_ ∷ run) = past_of s run
+
+-- the items of a link: those issued for a store by one of its nodes, the last one first
+abbrev pub issued : ℕ → ℕ → List Turn → List Item
+issued s n [] = []
+issued s n (Issued t item ∷ run) =
+    if t == s then (if item.node == n then item ∷ issued s n run else issued s n run) else issued s n run
+issued s n (_ ∷ run) = issued s n run
+
+-- the last of some items is its node's last one
+abbrev pub have_ended : List Item → Bool
+have_ended [] = false
+have_ended (item ∷ items) = retires item.body
+
+-- the machine and the stamp of an event
+abbrev pub stamping_of : Layout → Turn → Option (ℕ × ℕ)
+stamping_of layout (Issued s item) = Some (layout.machine s item.node, item.stamp)
+stamping_of layout (Sent machine stamp) = Some (machine, stamp)
+stamping_of layout (Received machine message stamp) = Some (machine, stamp)
+stamping_of layout (Observed machine s at stamp) = Some (machine, stamp)
+stamping_of layout (Stepped s step) = None
+
+-- a node that joins starts at a stamp, which its machine sees
+abbrev pub start_of : Layout → ℕ → Step → Option (ℕ × ℕ)
+start_of layout s (Joined node start) = Some (layout.machine s node, start)
+start_of layout s _ = None
+
+-- the machine whose clock a turn raises, and the stamp
+abbrev pub mark_of : Layout → Turn → Option (ℕ × ℕ)
+mark_of layout (Stepped s step) = start_of layout s step
+mark_of layout turn = stamping_of layout turn
+
+-- the greater of the last stamp and that of a mark of this machine
+abbrev pub raised_by : ℕ → Option (ℕ × ℕ) → ℕ → ℕ
+raised_by machine None last = last
+raised_by machine (Some mark) last = if mark.0 == machine then max last mark.1 else last
+
+-- the clock of a machine: the greatest stamp of its events and of the starts of its nodes
+abbrev pub last_stamp : Layout → ℕ → List Turn → ℕ
+last_stamp layout machine [] = 0
+last_stamp layout machine (turn ∷ run) = raised_by machine (mark_of layout turn) (last_stamp layout machine run)
+
+-- the turn that comes after this many turns
+abbrev pub turn_at : List Turn → ℕ → Option Turn
+turn_at [] number = None
+turn_at (turn ∷ run) number = if number == length run then Some turn else turn_at run number
+
+-- the write has its key in this store
+abbrev pub IsRouted : Layout → ℕ → Body → Type 0
+IsRouted layout s (Write key value) = layout.store_of key ≡ s
+IsRouted layout s Report = ⊤
+IsRouted layout s Retire = ⊤
+
+-- the message of the turn with this number was sent, with a lesser stamp
+abbrev pub IsMessage : List Turn → ℕ → ℕ → Type 0
+IsMessage run number stamp =
+    (sender : ℕ) × (sent : ℕ) × (turn_at run number ≡ Some (Sent sender sent)) × (sent < stamp)
+
+-- a store takes only items that were issued for it
+abbrev pub IsIssuedStep : ℕ → Step → List Turn → Type 0
+IsIssuedStep s (Took item) run = Contains (issued s item.node run) item
+IsIssuedStep s _ run = ⊤
+
+-- The turn follows the rules after a run. An item has the next number of its link, a stamp above its machine's clock,
+-- and its store's keys; its node is one of the store's, and has not issued its last item. A message is received above
+-- its own stamp, and a store is observed up to its floor, with a stamp above that at which it was observed. A step of a
+-- store is legal, and takes only an issued item.
+abbrev pub IsAllowed : Layout → Turn → List Turn → Type 0
+IsAllowed layout (Issued s item) run =
+    (s < layout.stores) × (item.node < numbered (layout.nodes s) (past_of s run))
+    × (have_ended (issued s item.node run) ≡ false) × (item.number ≡ length (issued s item.node run))
+    × (last_stamp layout (layout.machine s item.node) run < item.stamp) × IsRouted layout s item.body
+IsAllowed layout (Sent machine stamp) run = last_stamp layout machine run < stamp
+IsAllowed layout (Received machine message stamp) run =
+    (last_stamp layout machine run < stamp) × IsMessage run message stamp
+IsAllowed layout (Observed machine s at stamp) run =
+    (last_stamp layout machine run < stamp) × (s < layout.stores)
+    × (at ≤ floor (layout.nodes s) (past_of s run)) × (at < stamp)
+IsAllowed layout (Stepped s step) run =
+    (s < layout.stores) × IsLegalPast (layout.nodes s) (step ∷ past_of s run) × IsIssuedStep s step run
+
+-- each turn followed the rules
+abbrev pub IsLegal : Layout → List Turn → Type 0
+IsLegal layout [] = ⊤
+IsLegal layout (turn ∷ run) = IsAllowed layout turn run × IsLegal layout run
+
+-- all issued writes and deletions, of all machines and for all stores
+abbrev pub issued_writes : List Turn → List Row
+issued_writes [] = []
+issued_writes (Issued s item ∷ run) = issued_writes run ++ item_rows item
+issued_writes (_ ∷ run) = issued_writes run
+
+-- the row of an item that a step accepted
+abbrev pub step_rows : Step → List Row
+step_rows (Took item) = item_rows item
+step_rows _ = []
+
+-- all accepted writes and deletions, of all stores
+abbrev pub accepted_writes : List Turn → List Row
+accepted_writes [] = []
+accepted_writes (Stepped s step ∷ run) = accepted_writes run ++ step_rows step
+accepted_writes (_ ∷ run) = accepted_writes run
