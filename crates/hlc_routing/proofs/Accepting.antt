@@ -1,0 +1,35 @@
+-- What a store's acceptance says of all stores.
+use Rattle.std.proofs.Common.{◌≡◌, ℕ, List, ◌∷◌, Some, Ok, Err, Result, sym, ◌∙◌, subst}
+use Rattle.std.specs.Prelude.{OnOk, IfErr, slice_get}
+use Rattle.hlc_node.specs.declared.item.Item.{Item}
+use Rattle.hlc_heads.specs.Heads.{AcceptedView}
+use Rattle.hlc_events.specs.declared.fault.CoreFault.{CoreFault}
+use Rattle.hlc_core.specs.Past.{Step, Took, item_refusal}
+use Rattle.hlc_core.specs.StoreView.{StoreView, nodes, Represents as CoreRepresents}
+use Rattle.hlc_core.specs.Calls.{Accepts, IsRefusal, IsWrite}
+use Rattle.hlc_ranges.specs.Run.{Layout, Turn, Stepped, past_of, IsIssuedStep}
+use Rattle.hlc_routing.specs.Ranges.{RangesView, Represents, IsOfStore, IsRefusedFor}
+use Rattle.hlc_routing.specs.declared.ranges.RangesFault.TheVariants.{Store}
+use Rattle.hlc_routing.proofs.Stepping.{steps, with_store, some-same}
+
+pub accepted : (layout : Layout) (old : RangesView) (run : List Turn) (s : ℕ) (store new : StoreView) (item : Item)
+    (result : Result AcceptedView (CoreFault × Item)) → Represents layout old run → slice_get old.stores s ≡ Some store
+    → nodes new ≡ nodes store → Accepts store new item (past_of s run) result → IsIssuedStep s (Took item) run
+    → OnOk result (Represents layout (with_store old s new) (Stepped s (Took item) ∷ run))
+accepted layout old run s store new item (Ok made) h at same taken issued' =
+    steps layout old run s store new (Took item) h at same taken.1 issued'
+accepted layout old run s store new item (Err fault) h at same taken issued' = tt
+
+pub refused : (old : RangesView) (s : ℕ) (store new : StoreView) (item : Item)
+    (result : Result AcceptedView (CoreFault × Item)) → slice_get old.stores s ≡ Some store
+    → IsOfStore old.division s item.body
+    → ((past : List Step) → CoreRepresents store past → Accepts store new item past result)
+    → IfErr result (λ fault. IsRefusedFor old s item (Store fault.0))
+refused old s store new item (Ok made) at of accepts = tt
+refused old s store new item (Err fault) at of accepts = (
+  of,
+  λ other past there represents.
+      let same : store ≡ other = some-same store other (sym at ∙ there) in
+      subst (λ x. IsRefusal (item_refusal (nodes x) past item) (IsWrite item.body) fault.0) same
+      (accepts past (subst (λ x. CoreRepresents x past) (sym same) represents)),
+)

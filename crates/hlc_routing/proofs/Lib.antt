@@ -1,0 +1,4 @@
+pub mod Boundaries
+pub mod Floors
+pub mod Stepping
+pub mod Accepting

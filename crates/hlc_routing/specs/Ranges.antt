@@ -1,0 +1,53 @@
+-- Stores with one key space, and the run that they represent.
+use Rattle.std.specs.Prelude.{◌≡◌, ℕ, ◌<◌, ◌≤◌, List, length, Some, slice_get, ⊤}
+use Rattle.hlc_node.specs.declared.item.Body.{Body}
+use Rattle.hlc_node.specs.declared.item.Body.TheVariants.{Write, Report, Retire}
+use Rattle.hlc_node.specs.declared.item.Item.{Item}
+use Rattle.hlc_core.specs.Past.{Step, item_refusal}
+use Rattle.hlc_core.specs.StoreView.{StoreView, nodes, Represents as CoreRepresents}
+use Rattle.hlc_core.specs.Checkpoint.{floor_in}
+use Rattle.hlc_core.specs.Calls.{IsRefusal, IsWrite}
+use Rattle.hlc_ranges.specs.Run.{Layout, Turn, past_of, IsLegal}
+use Rattle.hlc_routing.specs.Division.{DivisionView, store_of}
+use Rattle.hlc_routing.specs.declared.ranges.RangesFault.{RangesFault}
+use Rattle.hlc_routing.specs.declared.ranges.RangesFault.TheVariants.{NoStore, WrongStore, Store}
+
+-- the division, and what each store keeps
+pub record RangesView : Type 0 where
+  pub division : DivisionView
+  pub stores : List StoreView
+
+-- The stores represent the run: it is legal; each store represents its past, and had the layout's nodes at the start;
+-- and the layout's store of each key is the division's.
+pub record Represents (layout : Layout) (kept : RangesView) (run : List Turn) : Type 0 where
+  pub legal : IsLegal layout run
+  pub many : length kept.stores ≡ layout.stores
+  pub nodes : (s : ℕ) (store : StoreView) → slice_get kept.stores s ≡ Some store → nodes store ≡ layout.nodes s
+  pub pasts : (s : ℕ) (store : StoreView) → slice_get kept.stores s ≡ Some store
+      → CoreRepresents store (past_of s run)
+  pub routed : (key : List ℕ) → layout.store_of key ≡ store_of kept.division key
+
+-- the stamp is the floor of one of these stores
+abbrev pub IsFloorOfOne : List StoreView → ℕ → Type 0
+IsFloorOfOne stores stamp =
+    (s : ℕ) × (store : StoreView) × (slice_get stores s ≡ Some store) × (stamp ≡ floor_in store)
+
+-- the least floor of some stores
+pub record IsLeastFloor (stores : List StoreView) (stamp : ℕ) : Type 0 where
+  pub low : (s : ℕ) (store : StoreView) → slice_get stores s ≡ Some store → stamp ≤ floor_in store
+  pub one : IsFloorOfOne stores stamp
+
+-- the body is no write, or one of a key of this store
+abbrev pub IsOfStore : DivisionView → ℕ → Body → Type 0
+IsOfStore division s (Write key value) = store_of division key ≡ s
+IsOfStore division s Report = ⊤
+IsOfStore division s Retire = ⊤
+
+-- why an item is refused: no such store; a write of another store's key; or that store refuses it
+abbrev pub IsRefusedFor : RangesView → ℕ → Item → RangesFault → Type 0
+IsRefusedFor kept s item NoStore = length kept.stores ≤ s
+IsRefusedFor kept s item WrongStore = (s < length kept.stores) × (IsOfStore kept.division s item.body → ⊥)
+IsRefusedFor kept s item (Store fault) =
+    IsOfStore kept.division s item.body
+    × ((store : StoreView) (past : List Step) → slice_get kept.stores s ≡ Some store → CoreRepresents store past
+    → IsRefusal (item_refusal (nodes store) past item) (IsWrite item.body) fault)

@@ -1,0 +1,150 @@
+//! Stores with one key space.
+ghost use Rattle.std.specs.Prelude.{◌≡◌, ◌≢◌, ◌↔◌, ◌∷◌, ◌<◌, List, length, min, IsTrue, IfErr, OnOk, OnErr};
+ghost use Rattle.std.specs.Prelude.{IfSome, IfNone};
+ghost use Rattle.hlc_node.specs.declared.item.Body.{Body as ABody};
+ghost use Rattle.hlc_core.specs.Past.{Took};
+ghost use Rattle.hlc_ranges.specs.Run.{Layout, Turn, Stepped, IsIssuedStep};
+ghost use Rattle.hlc_ranges.specs.Cut.{IsCut, IsConsistent};
+ghost use Rattle.hlc_routing.specs.Division.{stores_of, store_of};
+ghost use Rattle.hlc_routing.specs.Ranges.{Represents, IsLeastFloor, IsOfStore, IsRefusedFor};
+
+use crate::division::Division;
+use hlc_clock::Stamp;
+use hlc_core::{Accepted, Core, CoreFault};
+use hlc_node::{Body, Item};
+use hlc_ranges::cuts_are_consistent;
+use std::marker::Model;
+
+/// Why stores with one key space refuse a call.
+#[derive(Clone, Copy, PartialEq, Eq, Debug)]
+pub enum RangesFault {
+    /// There is no such store.
+    NoStore,
+    /// The key belongs to another store.
+    WrongStore,
+    /// The store refuses the call.
+    Store(CoreFault),
+}
+
+/// Stores with one key space: each key belongs to one of them.
+///
+/// In contracts they represent a run: what took place in each store, and at the machines that write to them, in one
+/// order. A machine has a node in each store, and one clock for all of them.
+#[derive(Debug, Drop)]
+pub struct Ranges {
+    division: Division,
+    stores: Vec<Core>,
+}
+
+impl Model for Ranges {
+    ghost use Rattle.std.specs.Prelude.{◌≡◌, ◌<◌, length};
+    ghost use Rattle.hlc_routing.specs.Division.{stores_of};
+    ghost use Rattle.hlc_routing.specs.Ranges.{RangesView};
+
+    ghost Value = { RangesView };
+
+    ghost view = { λ ranges. record { division = ranges.division; stores = ranges.stores.items } };
+
+    ghost invariant = { λ ranges. (length ranges.stores.items ≡ stores_of ranges.division)
+        × (0 < length ranges.stores.items) };
+}
+
+impl Ranges {
+    /// Takes the stores of a division, the first one first. Returns none if there are more or fewer than it divides the
+    /// keys over.
+    pub fn of(division: Division, stores: Vec<Core>) -> Option<Ranges>
+        ensures ok { IfSome result (λ ranges. ranges ≡ record { division = division; stores = stores.items }) }
+        ensures none { IfNone result (length stores.items ≢ stores_of division) }
+    {
+        if stores.len() != division.stores() {
+            return None;
+        }
+        Some(Ranges { division, stores })
+    }
+
+    /// Returns how the keys are divided.
+    pub fn division(&self) -> &Division
+        ensures { result.now ≡ self.now.division }
+    {
+        &self.division
+    }
+
+    /// Returns the stores.
+    pub fn stores(&self) -> &[Core]
+        ensures value { result.now ≡ self.now.stores }
+        ensures len { length result.now ≡ stores_of self.now.division }
+    {
+        self.stores.as_slice()
+    }
+
+    /// Returns the store of a key, which may be any bytes.
+    pub fn store_of(&self, key: &[u8]) -> usize
+        ensures value { result ≡ store_of self.now.division key.now }
+        ensures inside { result < length self.now.stores }
+    {
+        self.division.store_of(key)
+    }
+
+    /// Returns the least floor of all stores, which is a consistent cut: each item that any machine issued at or below
+    /// it was accepted by its store, and so was all that happened before; and a read there, of a key in its store,
+    /// gives the newest of all writes. It goes through all stores.
+    pub fn cut(&self) -> Stamp
+        ensures least { IsLeastFloor self.now.stores result }
+        ensures cut { (layout : Layout) (run : List Turn) → Represents layout self.now run → IsCut layout run result }
+        ensures consistent { (layout : Layout) (run : List Turn) → Represents layout self.now run
+            → IsConsistent layout run result }
+    {
+        cuts_are_consistent();
+        let mut least = self.stores[0].floor();
+        for index in 1..self.stores.len() {
+            let floor = self.stores[index].floor();
+            let lower = lesser(least, floor);
+            least = lower;
+        }
+        least
+    }
+
+    /// Lets a store accept the next item of one of its links.
+    ///
+    /// Refused, in this order: no such store; a write of another store's key; and for the reasons of `Core::accept`. A
+    /// refusal changes nothing, and returns the item.
+    pub fn accept(&mut self, store: usize, item: Item) -> Result<Accepted, (RangesFault, Item)>
+        ensures represents { (layout : Layout) (run : List Turn) → Represents layout self.old run
+            → IsIssuedStep store (Took item) run
+            → OnOk result (Represents layout self.new (Stepped store (Took item) ∷ run)) }
+        ensures ok { OnOk result ((store < length self.old.stores) × IsOfStore self.old.division store item.body) }
+        ensures err { IfErr result (λ refused. IsRefusedFor self.old store item refused.0) }
+        ensures item { IfErr result (λ refused. refused.1 ≡ item) }
+        ensures unchanged { OnErr result (self.new ≡ self.old) }
+        ensures division { self.new.division ≡ self.old.division }
+    {
+        let is_of_store = is_of_store(&self.division, store, &item.body);
+        let Some(core) = self.stores.get_mut(store) else {
+            return Err((RangesFault::NoStore, item));
+        };
+        if !is_of_store {
+            return Err((RangesFault::WrongStore, item));
+        }
+        match core.accept(item) {
+            Ok(accepted) => Ok(accepted),
+            Err((fault, item)) => Err((RangesFault::Store(fault), item)),
+        }
+    }
+}
+
+/// Returns the lesser of the two stamps.
+fn lesser(a: Stamp, b: Stamp) -> Stamp
+    ensures { result ≡ min a b }
+{
+    if b < a { b } else { a }
+}
+
+/// Returns whether a body is no write, or one of a key of this store.
+fn is_of_store(division: &Division, store: usize, body: &Body) -> bool
+    ensures { IsTrue result ↔ IsOfStore division.now store body.now }
+{
+    match body {
+        Body::Write { key, .. } => division.store_of(key.as_slice()) == store,
+        Body::Report | Body::Retire => true,
+    }
+}
