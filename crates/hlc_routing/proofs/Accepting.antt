@@ -4,9 +4,9 @@ use Rattle.std.specs.Prelude.{OnOk, IfErr, slice_get}
 use Rattle.hlc_node.specs.declared.item.Item.{Item}
 use Rattle.hlc_heads.specs.Heads.{AcceptedView}
 use Rattle.hlc_events.specs.declared.fault.CoreFault.{CoreFault}
-use Rattle.hlc_core.specs.Past.{Step, Took, item_refusal}
+use Rattle.hlc_core.specs.Past.{Step, Took, Opened, item_refusal}
 use Rattle.hlc_core.specs.StoreView.{StoreView, nodes, Represents as CoreRepresents}
-use Rattle.hlc_core.specs.Calls.{Accepts, IsRefusal, IsWrite}
+use Rattle.hlc_core.specs.Calls.{Accepts, Opens, IsRefusal, IsWrite}
 use Rattle.hlc_ranges.specs.Run.{Layout, Turn, Stepped, past_of, IsIssuedStep}
 use Rattle.hlc_routing.specs.Ranges.{RangesView, Represents, IsOfStore, IsRefusedFor}
 use Rattle.hlc_routing.specs.declared.ranges.RangesFault.TheVariants.{Store}
@@ -33,3 +33,11 @@ refused old s store new item (Err fault) at of accepts = (
       subst (λ x. IsRefusal (item_refusal (nodes x) past item) (IsWrite item.body) fault.0) same
       (accepts past (subst (λ x. CoreRepresents x past) (sym same) represents)),
 )
+
+pub opened : (layout : Layout) (old : RangesView) (run : List Turn) (s : ℕ) (store new : StoreView) (stamp : ℕ)
+    (result : Result ℕ CoreFault) → Represents layout old run → slice_get old.stores s ≡ Some store
+    → nodes new ≡ nodes store → Opens store new stamp (past_of s run) result
+    → OnOk result (Represents layout (with_store old s new) (Stepped s (Opened stamp) ∷ run))
+opened layout old run s store new stamp (Ok id) h at same opens =
+    steps layout old run s store new (Opened stamp) h at same opens.2 tt
+opened layout old run s store new stamp (Err fault) h at same opens = tt

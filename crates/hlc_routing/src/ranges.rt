@@ -2,7 +2,7 @@
 ghost use Rattle.std.specs.Prelude.{◌≡◌, ◌≢◌, ◌↔◌, ◌∷◌, ◌<◌, List, length, min, IsTrue, IfErr, OnOk, OnErr};
 ghost use Rattle.std.specs.Prelude.{IfSome, IfNone};
 ghost use Rattle.hlc_node.specs.declared.item.Body.{Body as ABody};
-ghost use Rattle.hlc_core.specs.Past.{Took};
+ghost use Rattle.hlc_core.specs.Past.{Opened, Took};
 ghost use Rattle.hlc_ranges.specs.Run.{Layout, Turn, Stepped, IsIssuedStep};
 ghost use Rattle.hlc_ranges.specs.Cut.{IsCut, IsConsistent};
 ghost use Rattle.hlc_routing.specs.Division.{stores_of, store_of};
@@ -94,6 +94,7 @@ impl Ranges {
         ensures consistent { (layout : Layout) (run : List Turn) → Represents layout self.now run
             → IsConsistent layout run result }
     {
+        // The law of every cut, for the contract alone.
         cuts_are_consistent();
         let mut least = self.stores[0].floor();
         for index in 1..self.stores.len() {
@@ -128,6 +129,25 @@ impl Ranges {
         match core.accept(item) {
             Ok(accepted) => Ok(accepted),
             Err((fault, item)) => Err((RangesFault::Store(fault), item)),
+        }
+    }
+
+    /// Opens a snapshot of one store at a stamp, and returns its id there. Opened at one cut in every store, they are
+    /// together one of all.
+    ///
+    /// Refused: no such store; or for the reasons of `Core::open`. A refusal changes nothing.
+    pub fn open(&mut self, store: usize, stamp: Stamp) -> Result<u64, RangesFault>
+        ensures represents { (layout : Layout) (run : List Turn) → Represents layout self.old run
+            → OnOk result (Represents layout self.new (Stepped store (Opened stamp) ∷ run)) }
+        ensures unchanged { OnErr result (self.new ≡ self.old) }
+        ensures division { self.new.division ≡ self.old.division }
+    {
+        let Some(core) = self.stores.get_mut(store) else {
+            return Err(RangesFault::NoStore);
+        };
+        match core.open(stamp) {
+            Ok(id) => Ok(id),
+            Err(fault) => Err(RangesFault::Store(fault)),
         }
     }
 }
