@@ -4,9 +4,10 @@ use Rattle.std.specs.Prelude.{OnOk, IfErr, slice_get}
 use Rattle.hlc_node.specs.declared.item.Item.{Item}
 use Rattle.hlc_heads.specs.Heads.{AcceptedView}
 use Rattle.hlc_events.specs.declared.fault.CoreFault.{CoreFault}
-use Rattle.hlc_core.specs.Past.{Step, Took, Opened, item_refusal}
+use Rattle.hlc_snapshot.specs.declared.fault.NoSnapshot.{NoSnapshot}
+use Rattle.hlc_core.specs.Past.{Step, Took, Opened, Closed, item_refusal}
 use Rattle.hlc_core.specs.StoreView.{StoreView, nodes, Represents as CoreRepresents}
-use Rattle.hlc_core.specs.Calls.{Accepts, Opens, IsRefusal, IsWrite}
+use Rattle.hlc_core.specs.Calls.{Accepts, Opens, Closes, IsRefusal, IsWrite}
 use Rattle.hlc_ranges.specs.Run.{Layout, Turn, Stepped, past_of, IsIssuedStep}
 use Rattle.hlc_routing.specs.Ranges.{RangesView, Represents, IsOfStore, IsRefusedFor}
 use Rattle.hlc_routing.specs.declared.ranges.RangesFault.TheVariants.{Store}
@@ -41,3 +42,11 @@ pub opened : (layout : Layout) (old : RangesView) (run : List Turn) (s : ℕ) (s
 opened layout old run s store new stamp (Ok id) h at same opens =
     steps layout old run s store new (Opened stamp) h at same opens.2 tt
 opened layout old run s store new stamp (Err fault) h at same opens = tt
+
+pub closed : (layout : Layout) (old : RangesView) (run : List Turn) (s : ℕ) (store new : StoreView) (id : ℕ)
+    (result : Result ℕ NoSnapshot) → Represents layout old run → slice_get old.stores s ≡ Some store
+    → nodes new ≡ nodes store → Closes new id (past_of s run) result
+    → OnOk result (Represents layout (with_store old s new) (Stepped s (Closed id) ∷ run))
+closed layout old run s store new id (Ok stamp) h at same closes =
+    steps layout old run s store new (Closed id) h at same closes.1 tt
+closed layout old run s store new id (Err fault) h at same closes = tt

@@ -2,3 +2,4 @@ pub mod Boundaries
 pub mod Floors
 pub mod Stepping
 pub mod Accepting
+pub mod Reading

@@ -1,16 +1,17 @@
 //! Stores with one key space.
 ghost use Rattle.std.specs.Prelude.{◌≡◌, ◌≢◌, ◌↔◌, ◌∷◌, ◌<◌, List, length, min, IsTrue, IfErr, OnOk, OnErr};
-ghost use Rattle.std.specs.Prelude.{IfSome, IfNone};
+ghost use Rattle.std.specs.Prelude.{ℕ, Some, IfSome, IfNone, IsOkAnd, option_copied};
+ghost use Rattle.hlc_node.specs.Rows.{answer};
 ghost use Rattle.hlc_node.specs.declared.item.Body.{Body as ABody};
-ghost use Rattle.hlc_core.specs.Past.{Opened, Took};
-ghost use Rattle.hlc_ranges.specs.Run.{Layout, Turn, Stepped, IsIssuedStep};
+ghost use Rattle.hlc_core.specs.Past.{Closed, Opened, Took, stamp_of};
+ghost use Rattle.hlc_ranges.specs.Run.{Layout, Turn, Stepped, IsIssuedStep, past_of, issued_writes};
 ghost use Rattle.hlc_ranges.specs.Cut.{IsCut, IsConsistent};
 ghost use Rattle.hlc_routing.specs.Division.{stores_of, store_of};
 ghost use Rattle.hlc_routing.specs.Ranges.{Represents, IsLeastFloor, IsOfStore, IsRefusedFor};
 
 use crate::division::Division;
 use hlc_clock::Stamp;
-use hlc_core::{Accepted, Core, CoreFault};
+use hlc_core::{Accepted, Core, CoreFault, NoSnapshot};
 use hlc_node::{Body, Item};
 use hlc_ranges::cuts_are_consistent;
 use std::marker::Model;
@@ -149,6 +150,38 @@ impl Ranges {
             Ok(id) => Ok(id),
             Err(fault) => Err(RangesFault::Store(fault)),
         }
+    }
+
+    /// Closes an open snapshot of one store, and returns its stamp. It needs no memory.
+    ///
+    /// Refused: no such store; no such snapshot. A refusal changes nothing.
+    pub fn close(&mut self, store: usize, id: u64) -> Result<Stamp, RangesFault>
+        ensures represents { (layout : Layout) (run : List Turn) → Represents layout self.old run
+            → OnOk result (Represents layout self.new (Stepped store (Closed id) ∷ run)) }
+        ensures unchanged { OnErr result (self.new ≡ self.old) }
+        ensures division { self.new.division ≡ self.old.division }
+    {
+        let Some(core) = self.stores.get_mut(store) else {
+            return Err(RangesFault::NoStore);
+        };
+        match core.close(id) {
+            Ok(stamp) => Ok(stamp),
+            Err(_) => Err(RangesFault::Store(CoreFault::NoSnapshot)),
+        }
+    }
+
+    /// Returns the value of a key, or none, in a snapshot that is open in its store: `id` is the snapshot's id there.
+    /// At a cut it is the newest write of all stores, accepted or only issued. The key may be any bytes.
+    pub fn read(&self, id: u64, key: &[u8]) -> Result<Option<&[u8]>, NoSnapshot>
+        ensures { (layout : Layout) (run : List Turn) (stamp : ℕ) → Represents layout self.now run
+            → IsCut layout run stamp
+            → stamp_of id (past_of (store_of self.now.division key.now) run) ≡ Some stamp
+            → IsOkAnd result (λ value. option_copied value ≡ answer (issued_writes run) key.now stamp) }
+    {
+        // The law of every cut, for the contract alone.
+        cuts_are_consistent();
+        let store = self.store_of(key);
+        self.stores[store].read(id, key)
     }
 }
 
