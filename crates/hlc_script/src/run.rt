@@ -57,7 +57,7 @@ impl RunEnd {
 
 /// Reads a whole script, writes the reply to each of its lines, and returns how the run ended.
 ///
-/// All is written before it returns, in blocks of 8 KiB or more except for the last one. Where a write failed, a
+/// All is written before it returns, in blocks of 32 KiB or more except for the last one. Where a write failed, a
 /// beginning of the replies was written.
 pub fn run_script<R: Read, W: Write>(
     alloc: Global,

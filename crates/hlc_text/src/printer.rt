@@ -2,18 +2,16 @@
 //!
 //! Each call prints one text, whatever happens to the writer: one that has failed takes nothing more. So a caller
 //! prints all of its text, then calls `finish`, and then asks the writer once whether it failed. Before `finish` at
-//! least 8,192 bytes are written at once; only where the writer takes a part of them, the rest is written alone.
+//! least 32,768 bytes are written at once; only where the writer takes a part of them, the rest is written alone.
 ghost use Rattle.std.specs.Prelude.{◌≡◌, ◌<◌, ◌≤◌, ◌+◌, decimal, ◌++◌, [], length};
 ghost use Rattle.std.specs.List.{flat_map};
-ghost use Rattle.arrayvec.specs.ArrayVec.{array_vec_len};
 ghost use Rattle.hlc_clock.specs.Stamp.{stamp_text};
 ghost use Rattle.hlc_text.specs.Text.{byte_token, bytes_token, printed};
 ghost use Rattle.hlc_text.specs.Printing.{StartsAt, Prints, Finishes, Writes};
 
 use crate::plainness::is_own_spelling;
-use crate::short_text::ShortText;
+use crate::waiting::Waiting;
 use crate::watched::Watched;
-use arrayvec::ArrayVec;
 use hlc_clock::Stamp;
 use itoa::Buffer;
 use percent_encoding::{AsciiSet, CONTROLS, ascii_set, percent_encode};
@@ -22,11 +20,11 @@ use std::io::Write;
 /// The bytes below 128 that are escaped.
 const ESCAPED: AsciiSet = ascii_set!(CONTROLS.add(b' ').add(b'%'));
 
-/// Prints to a writer through a buffer of at most 8,192 bytes of text that waits.
+/// Prints to a writer through a buffer of text that waits.
 #[derive(Drop)]
 pub struct Printer<'a, W> {
     writer: &'a mut Watched<W>,
-    waiting: ArrayVec<u8, 8192>,
+    waiting: Waiting,
 }
 
 impl<'a, W: Write> Printer<'a, W> {
@@ -38,7 +36,7 @@ impl<'a, W: Write> Printer<'a, W> {
     {
         Printer {
             writer,
-            waiting: ArrayVec::new(),
+            waiting: Waiting::new(),
         }
     }
 
@@ -50,34 +48,49 @@ impl<'a, W: Write> Printer<'a, W> {
         self.waiting.clear();
     }
 
+    /// Makes room for a line of 128 bytes, at least.
+    #[inline(always)]
+    fn make_room(&mut self)
+        ensures nothing { Prints W.contents self.old self.new [] }
+        ensures room { length self.new.waiting ≤ 32768 }
+    {
+        if self.waiting.room() < 128 {
+            self.finish();
+        }
+    }
+
     /// Prints the text, which waits where there is room for it.
     #[inline(always)]
     pub fn put(&mut self, text: &[u8])
         ensures { Prints W.contents self.old self.new text.now }
     {
-        if self.waiting.try_extend_from_slice(text).is_err() {
+        if text.len() <= self.waiting.room() {
+            self.waiting.put(text);
+        } else {
             self.put_beyond(text);
         }
     }
 
     /// Prints a text for which there is no room.
     fn put_beyond(&mut self, text: &[u8])
-        requires { 8192 < array_vec_len self.old.waiting + length text.now }
+        requires { 32896 < length self.old.waiting + length text.now }
         ensures { Prints W.contents self.old self.new text.now }
     {
         // A full buffer is written, so that no small block is written before the end.
-        let (front, back) = text.split_at(self.waiting.remaining_capacity());
-        let _ = self.waiting.try_extend_from_slice(front);
+        let (front, back) = text.split_at(self.waiting.room());
+        self.waiting.put(front);
         self.finish();
         self.put_first(back);
     }
 
     /// Prints the text where nothing waits.
     fn put_first(&mut self, text: &[u8])
-        requires { self.old.waiting.items ≡ [] }
+        requires { self.old.waiting ≡ [] }
         ensures { Prints W.contents self.old self.new text.now }
     {
-        if self.waiting.try_extend_from_slice(text).is_err() {
+        if text.len() <= 32896 {
+            self.waiting.put(text);
+        } else {
             send(self.writer, text);
         }
     }
@@ -86,21 +99,16 @@ impl<'a, W: Write> Printer<'a, W> {
     pub fn put_number(&mut self, number: u64)
         ensures { Prints W.contents self.old self.new (decimal number) }
     {
-        if number < 10 {
-            self.put(&[b'0' + number as u8]);
-        } else {
-            let mut buffer = Buffer::new();
-            self.put(buffer.format(number).as_bytes());
-        }
+        self.make_room();
+        self.waiting.put_number(number);
     }
 
     /// Prints the parts of the stamp.
     pub fn put_stamp(&mut self, stamp: Stamp)
         ensures { Prints W.contents self.old self.new (stamp_text stamp) }
     {
-        let mut text = ShortText::new();
-        text.put_stamp(stamp);
-        self.put(text.as_slice());
+        self.make_room();
+        self.waiting.put_stamp(stamp);
     }
 
     /// Prints a line: some words, followed by the stamp.
@@ -109,11 +117,10 @@ impl<'a, W: Write> Printer<'a, W> {
         requires { length name.now ≤ 24 }
         ensures { Prints W.contents self.old self.new (printed (name.now ++ stamp_text stamp)) }
     {
-        let mut text = ShortText::new();
-        text.put(b"\n");
-        text.put_stamp(stamp);
-        text.put(name);
-        self.put(text.as_slice());
+        self.make_room();
+        self.waiting.put(name);
+        self.waiting.put_stamp(stamp);
+        self.waiting.put(b"\n");
     }
 
     /// Prints a line: some words, followed by the stamp, more words, and the number.
@@ -123,13 +130,12 @@ impl<'a, W: Write> Printer<'a, W> {
         ensures { Prints W.contents self.old self.new
             (printed ((name.now ++ stamp_text stamp) ++ middle.now ++ decimal number)) }
     {
-        let mut text = ShortText::new();
-        text.put(b"\n");
-        text.put_number(number);
-        text.put(middle);
-        text.put_stamp(stamp);
-        text.put(name);
-        self.put(text.as_slice());
+        self.make_room();
+        self.waiting.put(name);
+        self.waiting.put_stamp(stamp);
+        self.waiting.put(middle);
+        self.waiting.put_number(number);
+        self.waiting.put(b"\n");
     }
 
     /// Prints the word that spells the bytes.

@@ -70,7 +70,7 @@ impl Read for Letters {
     }
 }
 
-/// Takes all, and counts the blocks of fewer than 4,096 bytes.
+/// Takes all, and counts the blocks of fewer than 32,768 bytes.
 #[derive(Drop)]
 struct Counting {
     blocks: u64,
@@ -80,7 +80,7 @@ struct Counting {
 impl Write for Counting {
     fn write(&mut self, buf: &[u8]) -> io::Result<usize> {
         self.blocks = self.blocks.saturating_add(1);
-        if buf.len() < 8192 {
+        if buf.len() < 32_768 {
             self.small = self.small.saturating_add(1);
         }
         Ok(buf.len())
@@ -255,7 +255,7 @@ fn the_longest_input(rt: HostRuntime) {
     }
 }
 
-/// Runs a script, and returns how many blocks were written, and how many of them had fewer than 8,192 bytes.
+/// Runs a script, and returns how many blocks were written, and how many of them had fewer than 32,768 bytes.
 fn blocks_of<H: AllocGlobal + Abort>(rt: &H, text: &[u8]) -> (u64, u64) {
     let mut reader = Watched::new(Giving::whole(text));
     let mut writer = Watched::new(Counting {
@@ -286,7 +286,7 @@ fn replies_leave_in_blocks(rt: HostRuntime) -> Result<(), Fail> {
 #[test]
 fn long_values_leave_in_blocks(rt: HostRuntime) -> Result<(), Fail> {
     let mut text = Vec::from_slice(rt.alloc(), b"nodes 1\nwrite 0 5 a ")?;
-    for _ in 0..9000 {
+    for _ in 0..40_000 {
         text.push(b'x')?;
     }
     text.extend_from_slice(b"\ndeliver 0 0\nopen floor\n")?;

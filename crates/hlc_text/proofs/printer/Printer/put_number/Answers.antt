@@ -1,6 +1,7 @@
--- A number below ten is one digit.
-use Rattle.std.proofs.lemmas.Fmt.{decimal_digit}
+-- Where there is room, what is appended waits.
+use Rattle.std.proofs.Common.{refl}
+use Rattle.hlc_text.proofs.PrintLemmas.{printed_then, printed_waits}
 use Rattle.hlc_text.proofs.printer.Printer.put_number.Goals as goal
 
-pub returns-then-number-lt10 : goal.returns-then-number-lt10
-returns-then-number-lt10 g c = rw (decimal_digit c.args.number c.if-number-lt10.true) c.put.ensures
+pub returns : goal.returns
+returns g c = printed_then c.make_room.ensures.nothing (printed_waits refl c.put_number.ensures.text)
