@@ -96,6 +96,7 @@ pub(crate) fn owned(alloc: Global, spelled: &Spelled<'_>) -> Result<Bytes, NoMem
 }
 
 /// Returns the event of the words, or none.
+#[inline(always)]
 fn event_of_words<'a>(words: &mut LineWords<'a>) -> Option<Event<Spelled<'a>>>
     ensures { Reads event_words HasLine words.old result }
 {
@@ -151,6 +152,7 @@ fn delete<'a>(words: &mut LineWords<'a>) -> Option<Event<Spelled<'a>>>
 }
 
 /// Returns a report: its node and reading.
+#[inline(always)]
 fn report<'a>(words: &mut LineWords<'a>) -> Option<Event<Spelled<'a>>>
     ensures { Reads event_words HasLine (codes "report" ∷ words.old) result }
 {
@@ -175,6 +177,7 @@ fn join<'a>(words: &mut LineWords<'a>) -> Option<Event<Spelled<'a>>>
 }
 
 /// Returns the sending of a message: its node and reading.
+#[inline(always)]
 fn send<'a>(words: &mut LineWords<'a>) -> Option<Event<Spelled<'a>>>
     ensures { Reads event_words HasLine (codes "send" ∷ words.old) result }
 {
@@ -183,6 +186,7 @@ fn send<'a>(words: &mut LineWords<'a>) -> Option<Event<Spelled<'a>>>
 }
 
 /// Returns the receipt of a message: its node, reading and the number of the message.
+#[inline(always)]
 fn receive<'a>(words: &mut LineWords<'a>) -> Option<Event<Spelled<'a>>>
     ensures { Reads event_words HasLine (codes "receive" ∷ words.old) result }
 {
@@ -203,6 +207,7 @@ fn observe<'a>(words: &mut LineWords<'a>) -> Option<Event<Spelled<'a>>>
 }
 
 /// Returns a delivery: the node and number of an item.
+#[inline(always)]
 fn deliver<'a>(words: &mut LineWords<'a>) -> Option<Event<Spelled<'a>>>
     ensures { Reads event_words HasLine (codes "deliver" ∷ words.old) result }
 {

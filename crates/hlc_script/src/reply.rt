@@ -18,8 +18,27 @@ use std::io::Write;
 pub fn put_reply<W: Write>(printer: &mut Printer<'_, W>, reply: Reply)
     ensures { Prints W.contents printer.old printer.new (reply_text reply) }
 {
-    put_first_line(printer, &reply);
-    put_more(printer, &reply);
+    // The commonest replies are printed from their parts, without being stored.
+    match reply {
+        Reply::Stamped { stamp, item } => {
+            printer.put_numbered_stamp_line(b"stamp ", stamp, b" item ", item)
+        }
+        Reply::Sent { stamp, message } => {
+            printer.put_numbered_stamp_line(b"stamp ", stamp, b" message ", message)
+        }
+        Reply::Received { stamp } => printer.put_stamp_line(b"stamp ", stamp),
+        Reply::Accepted { stamp } => printer.put_stamp_line(b"accepted ", stamp),
+        other => put_lines(printer, &other),
+    }
+}
+
+/// Prints the lines of any reply.
+#[inline(never)]
+fn put_lines<W: Write>(printer: &mut Printer<'_, W>, reply: &Reply)
+    ensures { Prints W.contents printer.old printer.new (reply_text reply.now) }
+{
+    put_first_line(printer, reply);
+    put_more(printer, reply);
 }
 
 /// Prints the lines after the first one of a reply.
