@@ -22,6 +22,7 @@
 #include "hlcstore/node.hpp"
 #include "hlcstore/snapshot.hpp"
 #include "hlcstore/store.hpp"
+#include "hlcstore/slots.hpp"
 #include "hlcstore/shared.hpp"
 
 namespace hlcstore {

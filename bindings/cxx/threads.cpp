@@ -1,19 +1,28 @@
 // Four threads read a shared store, each in snapshots of its own, while a fifth one writes and vacuums. Each answer is
-// checked. Then eight readers let a writer pass, readers run beside each other, changes wait for readers, and stores
-// end beside their readers. The word, if there is one, is how often a reader looks.
+// checked. Then eight readers let a writer pass, and so do readers that always ask; readers run beside each other, more
+// than there are slots, and between the parts of a vacuum; changes wait for readers; what throws leaves no lock behind;
+// and stores end beside their readers. The word, if there is one, is how often a reader looks.
 //
 // In round r the value of each key is r, and one batch writes them all. So in a snapshot all values are the same.
+#include <algorithm>
 #include <atomic>
 #include <chrono>
 #include <cstdio>
 #include <cstdlib>
 #include <hlcstore.hpp>
 #include <memory>
+#include <new>
 #include <optional>
+#include <stdexcept>
 #include <string>
 #include <thread>
 #include <utility>
 #include <vector>
+
+// The locks of the standard library do not tell helgrind where they end. So their memory, which alone is aligned by more
+// than usual, is not used again.
+void operator delete(void*, std::align_val_t) noexcept {}
+void operator delete(void*, std::size_t, std::align_val_t) noexcept {}
 
 namespace {
 
@@ -133,20 +142,85 @@ bool readers_let_a_writer_pass(int many) {
   return in_time && !wrong && shared.read(floor_of) == timestamp::of(11);
 }
 
-// Whether readers run beside each other: each waits for the other one.
-bool readers_meet() {
+// Four threads ask for the floor without a pause, so that some reader is there at any time. Whether a writer makes its
+// changes within two seconds all the same.
+bool spinning_readers_let_a_writer_pass() {
+  shared_store shared{hlcstore::store(1)};
+  hlcstore::node writer(0);
+  std::atomic<bool> ended = false;
+  std::vector<std::thread> readers;
+  for (int number = 0; number < 4; number++) {
+    readers.emplace_back([&] {
+      timestamp last;
+      while (!ended) last = std::max(last, shared.floor());
+    });
+  }
+  const auto begin = steady_clock::now();
+  for (std::uint64_t reading = 1; reading <= 20; reading++) shared.accept_report(writer.report(reading));
+  const bool in_time = steady_clock::now() - begin < 2s;
+  ended = true;
+  for (std::thread& reader : readers) reader.join();
+  return in_time && shared.floor() == timestamp::of(20);
+}
+
+// Whether so many readers run beside each other: each waits for all others.
+bool readers_meet(int many) {
   shared_store shared{hlcstore::store(1)};
   const shared_snapshot snapshot = shared.open_snapshot();
   const auto end = steady_clock::now() + 20s;
   std::atomic<int> here = 0;
   const auto meet = [&](const auto&) {
     here++;
-    while (here < 2 && steady_clock::now() < end) std::this_thread::yield();
+    while (here < many && steady_clock::now() < end) std::this_thread::yield();
   };
-  std::thread reader([&] { snapshot.read(meet); });
+  std::vector<std::thread> readers;
+  for (int number = 1; number < many; number++) readers.emplace_back([&] { snapshot.read(meet); });
   shared.read(meet);
-  reader.join();
+  for (std::thread& reader : readers) reader.join();
   return steady_clock::now() < end;
+}
+
+// Whether a reader runs between the parts of a vacuum, which locks again at once; in one of many vacuums at least, since
+// threads run when they may.
+bool readers_run_between_parts() {
+  shared_store shared{hlcstore::store(1)};
+  hlcstore::node writer(0);
+  std::atomic<bool> ended = false, between = false;
+  std::thread reader([&] {
+    while (!ended) {
+      if (shared.rows() % keys != 0) between = true;
+    }
+  });
+  const auto end = steady_clock::now() + 20s;
+  bool right = true;
+  for (std::uint64_t round = 1; right && !between && steady_clock::now() < end; round++) {
+    shared.change([&](hlcstore::store& store) { return write_round(store, writer, keys, round); });
+    const hlcstore::vacuum_report made = shared.vacuum_in_parts(shared.floor(), 1);
+    right = made.kept == keys && made.dropped == (round > 1 ? keys : 0) && made.stamp == shared.floor();
+  }
+  ended = true;
+  reader.join();
+  return right && between;
+}
+
+// Whether a call that throws leaves no lock behind: then a change would wait for good.
+bool locks_end_with_exceptions() {
+  shared_store shared{hlcstore::store(1)};
+  const shared_snapshot snapshot = shared.open_snapshot();
+  const auto fail = [](const auto&) { throw std::runtime_error("no"); };
+  int thrown = 0;
+  for (int turn = 0; turn < 3; turn++) {
+    try {
+      if (turn == 0) shared.read(fail);
+      if (turn == 1) snapshot.read(fail);
+      if (turn == 2) shared.change(fail);
+    } catch (const std::runtime_error&) {
+      thrown++;
+    }
+    shared.close_all();
+    if (shared.floor() != timestamp()) return false;
+  }
+  return thrown == 3;
 }
 
 // Whether a call waits for a reader that is there before it.
@@ -212,7 +286,11 @@ int main(int count, char** words) {
   const int rounds = count > 1 ? std::atoi(words[1]) : 500;
   bool right = report("reads beside a writer", read_beside_a_writer(rounds) == 0);
   right = report("readers that let a writer pass", readers_let_a_writer_pass(20 * rounds)) && right;
-  right = report("readers beside each other", readers_meet()) && right;
+  right = report("readers without a pause", spinning_readers_let_a_writer_pass()) && right;
+  right = report("readers beside each other", readers_meet(2)) && right;
+  right = report("more readers than slots", readers_meet(40)) && right;
+  right = report("readers between the parts of a vacuum", readers_run_between_parts()) && right;
+  right = report("exceptions", locks_end_with_exceptions()) && right;
   right = report("changes that wait for readers", changes_wait_for_readers()) && right;
   for (int store = 0; store <= rounds / 10; store++) {
     right = report("a store that ends beside a reader", store_ends_beside_a_reader()) && right;

@@ -33,11 +33,35 @@ struct timestamp {
   friend constexpr bool operator>=(timestamp a, timestamp b) noexcept { return a.word >= b.word; }
 };
 
+// As people write it: the physical part, a point and the counter.
+inline std::string to_string(timestamp stamp) {
+  return std::to_string(stamp.physical()) + '.' + std::to_string(stamp.counter());
+}
+
 // An item that a node issued: its number among the node's items, and its stamp. Its key and value are the program's.
 struct item {
   std::uint16_t node = 0;
   std::uint64_t number = 0;
   timestamp stamp;
+
+  friend bool operator==(const item& a, const item& b) noexcept {
+    return a.node == b.node && a.number == b.number && a.stamp == b.stamp;
+  }
+  friend bool operator!=(const item& a, const item& b) noexcept { return !(a == b); }
+};
+
+enum class item_kind { write, erase, report, retire };
+
+// An item with what it says, as a value of its own: for a queue, or for several stores. A write has a key and a value,
+// a deletion a key.
+struct owned_item : item {
+  item_kind kind = item_kind::report;
+  std::string key, value;
+
+  friend bool operator==(const owned_item& a, const owned_item& b) noexcept {
+    return static_cast<const item&>(a) == b && a.kind == b.kind && a.key == b.key && a.value == b.value;
+  }
+  friend bool operator!=(const owned_item& a, const owned_item& b) noexcept { return !(a == b); }
 };
 
 // A node: a plain value, which may be copied and saved. Readings are those of a physical clock.
@@ -100,6 +124,15 @@ inline std::string encode_report(const item& item) {
 }
 inline std::string encode_retire(const item& item) {
   return detail::fetch(hlc_item_retire, item.node, item.number, item.stamp.word);
+}
+inline std::string encode(const owned_item& item) {
+  switch (item.kind) {
+    case item_kind::write: return encode_write(item, item.key, item.value);
+    case item_kind::erase: return encode_erase(item, item.key);
+    case item_kind::report: return encode_report(item);
+    case item_kind::retire: break;
+  }
+  return encode_retire(item);
 }
 
 // The records of a log that replicas share, other than items, as bytes: a node joins, with the number that it is

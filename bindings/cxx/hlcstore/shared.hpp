@@ -1,14 +1,23 @@
 // Part of hlcstore.hpp: a store for several threads, and its snapshots.
 #ifndef HLCSTORE_SHARED_HPP
 #define HLCSTORE_SHARED_HPP
+#include <cstddef>
+#include <cstdint>
+#include <functional>
 #include <memory>
 #include <mutex>
+#include <optional>
+#include <ostream>
 #include <shared_mutex>
+#include <string>
+#include <string_view>
 #include <type_traits>
 #include <utility>
+#include <vector>
 
 #include "error.hpp"
 #include "node.hpp"
+#include "slots.hpp"
 #include "snapshot.hpp"
 #include "store.hpp"
 
@@ -16,24 +25,31 @@ namespace hlcstore {
 
 namespace detail {
 
-// A lock for readers and writers, in which readers let a writer pass. Those of std::shared_mutex need not, so that a
-// writer may wait for good. Here all take the gate first, and a writer keeps it while it waits for the readers.
-class fair_mutex {
- public:
-  void lock() {
-    const std::lock_guard gate(gate_);
-    mutex_.lock();
-  }
-  void unlock() { mutex_.unlock(); }
-  void lock_shared() {
-    const std::lock_guard gate(gate_);
-    mutex_.lock_shared();
-  }
-  void unlock_shared() { mutex_.unlock_shared(); }
+// A store and its lock, which a shared store has in common with its snapshots.
+struct guarded_store {
+  explicit guarded_store(hlcstore::store owned) noexcept : store(std::move(owned)) {}
 
- private:
-  std::mutex gate_;
-  std::shared_mutex mutex_;
+  slot_mutex mutex;
+  hlcstore::store store;
+};
+
+// An open snapshot of a shared store.
+struct guarded_view {
+  std::shared_ptr<guarded_store> guarded;
+  view open;
+};
+
+// Entries of a shared store: the lock is held while a piece is fetched, and not between.
+template <class Entries>
+struct guarded : Entries {
+  using source = guarded_view;
+  guarded() = default;
+  explicit guarded(const Entries& entries) : Entries(entries) {}
+  part scan(const guarded_view& view, std::string_view from, std::string_view to, std::size_t room) const {
+    if (!view.guarded) throw error(HLC_NO_SNAPSHOT);
+    const std::shared_lock lock(view.guarded->mutex);
+    return Entries::scan(view.open, from, to, room);
+  }
 };
 
 // Whether a result goes on making calls with the store.
@@ -46,84 +62,244 @@ inline constexpr bool makes_calls =
               change_range::iterator>;
 
 // Makes a call under a lock. What it returns is used without the lock.
-template <class Call, class Argument>
-auto call_locked(Call& call, Argument& argument) {
-  using result = std::decay_t<std::invoke_result_t<Call&, Argument&>>;
+template <class Call, class... Arguments>
+auto call_locked(Call& call, Arguments&&... arguments) {
+  using result = std::decay_t<std::invoke_result_t<Call&, Arguments...>>;
   static_assert(!makes_calls<result>, "a snapshot, a range or an iterator must not leave the lock");
-  return call(argument);
+  return std::invoke(call, std::forward<Arguments>(arguments)...);
 }
 
 }  // namespace detail
 
-// A snapshot of a shared store. It closes itself under the store's lock.
+using shared_pair_range = range<detail::guarded<detail::pairs>>;
+using shared_back_range = range<detail::guarded<detail::pairs_back>>;
+using shared_key_range = range<detail::guarded<detail::keys>>;
+
+// A snapshot of a shared store. It closes itself under the store's lock. Its methods may run beside each other, except
+// those that close, move or destroy it, and each holds the lock while it reads. A range holds it while it fetches a
+// piece, so that a loop over many pairs keeps no writer waiting.
 class shared_snapshot {
  public:
+  // One that is not open: its calls throw HLC_NO_SNAPSHOT.
+  shared_snapshot() noexcept = default;
   shared_snapshot(shared_snapshot&&) noexcept = default;
-  shared_snapshot& operator=(shared_snapshot&&) = delete;
-  ~shared_snapshot() {
-    if (!mutex_) return;
-    const std::unique_lock lock(*mutex_);
-    snapshot_.close();
+  shared_snapshot& operator=(shared_snapshot&& other) noexcept {
+    if (this != &other) {
+      close();
+      guarded_ = std::move(other.guarded_);
+      snapshot_ = std::move(other.snapshot_);
+    }
+    return *this;
   }
+  ~shared_snapshot() { close(); }
 
   // Passes the snapshot to a function, beside other readers. What it returns must be no range or iterator.
   template <class Call>
   auto read(Call call) const {
-    if (!mutex_) throw error(HLC_NO_SNAPSHOT);
-    const std::shared_lock lock(*mutex_);
+    if (!guarded_) throw error(HLC_NO_SNAPSHOT);
+    const std::shared_lock lock(guarded_->mutex);
     return detail::call_locked(call, snapshot_);
+  }
+
+  std::uint64_t id() const noexcept { return snapshot_.id(); }
+  timestamp stamp() const noexcept { return snapshot_.stamp(); }
+
+  std::optional<std::string> get(std::string_view key) const {
+    return read([&](const snapshot& open) { return open.get(key); });
+  }
+  std::vector<std::optional<std::string>> get_all(const std::vector<std::string_view>& keys) const {
+    return read([&](const snapshot& open) { return open.get_all(keys); });
+  }
+  std::optional<std::pair<std::string, std::string>> last_below(std::string_view key = {}) const {
+    return read([&](const snapshot& open) { return open.last_below(key); });
+  }
+  std::string list() const {
+    return read([](const snapshot& open) { return open.list(); });
+  }
+  std::uint64_t count(std::string_view from = {}, std::string_view to = {}) const {
+    return read([&](const snapshot& open) { return open.count(from, to); });
+  }
+  std::string digest(std::string_view from = {}, std::string_view to = {}) const {
+    return read([&](const snapshot& open) { return open.digest(from, to); });
+  }
+
+  shared_pair_range::iterator begin() const& { return range().begin(); }
+  shared_pair_range::iterator begin() && = delete;
+  shared_pair_range::iterator end() const noexcept { return {}; }
+  shared_pair_range range(std::string_view from = {}, std::string_view to = {}) const& { return {view(), from, to}; }
+  shared_pair_range range(std::string_view from = {}, std::string_view to = {}) && = delete;
+  shared_back_range range_back(std::string_view from = {}, std::string_view to = {}) const& {
+    return {view(), from, to};
+  }
+  shared_back_range range_back(std::string_view from = {}, std::string_view to = {}) && = delete;
+  shared_key_range keys(std::string_view from = {}, std::string_view to = {}) const& { return {view(), from, to}; }
+  shared_key_range keys(std::string_view from = {}, std::string_view to = {}) && = delete;
+
+  // Closes the snapshot. Its calls throw HLC_NO_SNAPSHOT from then on.
+  void close() noexcept {
+    const std::shared_ptr<detail::guarded_store> guarded = std::move(guarded_);
+    if (!guarded) return;
+    const std::unique_lock lock(guarded->mutex);
+    snapshot_.close();
   }
 
  private:
   friend class shared_store;
+  friend class ranges_snapshot;
 
-  shared_snapshot(std::shared_ptr<detail::fair_mutex> mutex, snapshot owned) noexcept
-      : mutex_(std::move(mutex)), snapshot_(std::move(owned)) {}
+  shared_snapshot(std::shared_ptr<detail::guarded_store> guarded, snapshot owned) noexcept
+      : guarded_(std::move(guarded)), snapshot_(std::move(owned)) {}
 
-  std::shared_ptr<detail::fair_mutex> mutex_;
+  detail::guarded_view view() const noexcept { return {guarded_, snapshot_.view_}; }
+
+  std::shared_ptr<detail::guarded_store> guarded_;
   snapshot snapshot_;
 };
 
 // A store for several threads, under a lock: readers run beside each other, and a change alone. A change that waits
 // comes before later readers. So a function that gets the store, or one of its snapshots, uses these alone: to lock
-// again would be to wait for itself.
+// again would be to wait for itself. The other methods are those of a store, and each holds the lock while it runs.
+// Moving or destroying a shared store needs it alone. One that was moved from refuses each call with HLC_CLOSED.
 class shared_store {
- public:
-  explicit shared_store(store owned) : store_(std::move(owned)) {}
-  ~shared_store() {
-    const std::unique_lock lock(*mutex_);
-    store_.close();
+  // Makes a call of the store: beside other readers, or alone.
+  template <class Method, class... Arguments>
+  auto ask(Method method, const Arguments&... arguments) const {
+    const std::shared_lock lock(get().mutex);
+    return detail::call_locked(method, std::as_const(get().store), arguments...);
   }
+  template <class Method, class... Arguments>
+  auto make(Method method, const Arguments&... arguments) {
+    const std::unique_lock lock(get().mutex);
+    return detail::call_locked(method, get().store, arguments...);
+  }
+
+ public:
+  explicit shared_store(store owned) : guarded_(std::make_shared<detail::guarded_store>(std::move(owned))) {}
+  shared_store(shared_store&&) noexcept = default;
+  shared_store& operator=(shared_store&& other) noexcept {
+    if (this != &other) {
+      close();
+      guarded_ = std::move(other.guarded_);
+    }
+    return *this;
+  }
+  ~shared_store() { close(); }
 
   // Passes the store to a function that only asks, beside other readers.
   template <class Call>
   auto read(Call call) const {
-    const std::shared_lock lock(*mutex_);
-    return detail::call_locked(call, store_);
+    const std::shared_lock lock(get().mutex);
+    return detail::call_locked(call, std::as_const(get().store));
   }
 
   // Passes the store to a function that changes it. What it returns must be no snapshot.
   template <class Call>
   auto change(Call call) {
-    const std::unique_lock lock(*mutex_);
-    return detail::call_locked(call, store_);
+    const std::unique_lock lock(get().mutex);
+    return detail::call_locked(call, get().store);
   }
+
+  // Closes the store. Its snapshots throw HLC_CLOSED from then on.
+  void close() noexcept {
+    if (!guarded_) return;
+    const std::unique_lock lock(guarded_->mutex);
+    guarded_->store.close();
+  }
+
+  // ---- Items ----
+
+  void accept_write(const item& item, std::string_view key, std::string_view value) {
+    make(&store::accept_write, item, key, value);
+  }
+  void accept_erase(const item& item, std::string_view key) { make(&store::accept_erase, item, key); }
+  void accept_report(const item& item) { make(&store::accept_report, item); }
+  void accept_retire(const item& item) { make(&store::accept_retire, item); }
+  void accept(const owned_item& item) {
+    change([&](store& changed) { changed.accept(item); });
+  }
+  [[nodiscard]] batch_answer accept(const batch& items) {
+    return change([&](store& changed) { return changed.accept(items); });
+  }
+  [[nodiscard]] log_answer accept_log(std::string_view bytes) { return make(&store::accept_log, bytes); }
+  [[nodiscard]] records_answer apply_records(std::string_view bytes) { return make(&store::apply_records, bytes); }
+  [[nodiscard]] answer check_write(const item& item, std::string_view key, std::string_view value) const {
+    return ask(&store::check_write, item, key, value);
+  }
+  [[nodiscard]] answer check_erase(const item& item, std::string_view key) const {
+    return ask(&store::check_erase, item, key);
+  }
+  [[nodiscard]] answer check_report(const item& item) const { return ask(&store::check_report, item); }
+  node join() { return make(&store::join); }
+  node join_at(timestamp start) { return make(&store::join_at, start); }
+
+  // ---- Snapshots ----
 
   // Opens a snapshot: at the floor, or at a stamp. The store must outlive it, so a temporary one has no such call.
   shared_snapshot open_snapshot() & {
-    const std::unique_lock lock(*mutex_);
-    return {mutex_, store_.open_snapshot()};
+    const std::unique_lock lock(get().mutex);
+    return {guarded_, get().store.open_snapshot()};
   }
   shared_snapshot open_snapshot(timestamp stamp) & {
-    const std::unique_lock lock(*mutex_);
-    return {mutex_, store_.open_snapshot(stamp)};
+    const std::unique_lock lock(get().mutex);
+    return {guarded_, get().store.open_snapshot(stamp)};
   }
   shared_snapshot open_snapshot() && = delete;
   shared_snapshot open_snapshot(timestamp stamp) && = delete;
+  std::vector<snapshot_info> snapshots() const { return ask(&store::snapshots); }
+  void close_all() { make(&store::close_all); }
+
+  // ---- What the store has ----
+
+  timestamp floor() const { return ask(&store::floor); }
+  timestamp horizon() const { return ask(&store::horizon); }
+  std::uint64_t rows() const { return ask(&store::rows); }
+  std::uint64_t nodes() const { return ask(&store::nodes); }
+  store_sizes sizes() const { return ask(&store::sizes); }
+  link_state link(std::uint16_t node) const { return ask(&store::link, node); }
+  std::optional<std::uint16_t> floor_node() const { return ask(&store::floor_node); }
+  std::vector<key_version> versions(std::string_view key, timestamp above = {}, timestamp to = {UINT64_MAX}) const {
+    return ask(&store::versions, key, above, to);
+  }
+
+  // ---- Vacuum and checkpoint ----
+
+  vacuum_report vacuum() { return make(&store::vacuum); }
+  vacuum_report vacuum_to(timestamp stamp) { return make(&store::vacuum_to, stamp); }
+  partial_vacuum vacuum_part(timestamp stamp, std::string_view after = {}, std::size_t most = 1024) {
+    return make(&store::vacuum_part, stamp, after, most);
+  }
+
+  // Makes a vacuum_to by its parts, each of so many keys and alone under the lock. Readers that wait run between two
+  // parts. Where it throws, parts were made, and it may be called again.
+  vacuum_report vacuum_in_parts(timestamp stamp, std::size_t most = 1024) {
+    vacuum_report all{stamp, 0, 0, 0};
+    for (std::optional<std::string> after = ""; after;) {
+      partial_vacuum made = vacuum_part(stamp, *after, most);
+      all.kept += made.kept;
+      all.bytes += made.bytes;
+      all.dropped += made.dropped;
+      after = std::move(made.next);
+      if (after) get().mutex.let_readers_in();
+    }
+    return all;
+  }
+  [[nodiscard]] answer check_vacuum(timestamp stamp) const { return ask(&store::check_vacuum, stamp); }
+  certified certificate(timestamp stamp) const { return ask(&store::certificate, stamp); }
+  std::string checkpoint(std::uint64_t word) const { return ask(&store::checkpoint, word); }
+  void checkpoint_to(std::ostream& out, std::uint64_t word) const {
+    read([&](const store& asked) { asked.checkpoint_to(out, word); });
+  }
+  std::string increment(timestamp since, std::uint64_t word) const { return ask(&store::increment, since, word); }
 
  private:
-  std::shared_ptr<detail::fair_mutex> mutex_ = std::make_shared<detail::fair_mutex>();
-  store store_;
+  friend class ranges;
+
+  detail::guarded_store& get() const {
+    if (!guarded_) throw error(HLC_CLOSED);
+    return *guarded_;
+  }
+
+  std::shared_ptr<detail::guarded_store> guarded_;
 };
 
 }  // namespace hlcstore

@@ -238,6 +238,8 @@ using owning_key_range = owning_range<detail::keys>;
 // throw HLC_CLOSED.
 class snapshot {
  public:
+  // One that is not open: its calls throw HLC_NO_SNAPSHOT.
+  snapshot() noexcept = default;
   snapshot(snapshot&&) noexcept = default;
   snapshot& operator=(snapshot&& other) noexcept {
     if (this != &other) {
@@ -354,6 +356,7 @@ class snapshot {
 
  private:
   friend class store;
+  friend class shared_snapshot;
 
   snapshot(std::shared_ptr<hlc_store> handle, std::uint64_t id, timestamp stamp) noexcept
       : view_{std::move(handle), id}, stamp_(stamp) {}

@@ -189,6 +189,14 @@ class store {
   void accept_retire(const item& item) {
     detail::word_of(hlc_accept_retire, own(), item.node, item.number, item.stamp.word);
   }
+  void accept(const owned_item& item) {
+    switch (item.kind) {
+      case item_kind::write: return accept_write(item, item.key, item.value);
+      case item_kind::erase: return accept_erase(item, item.key);
+      case item_kind::report: return accept_report(item);
+      case item_kind::retire: return accept_retire(item);
+    }
+  }
 
   // Accepts the items in turn until one is refused.
   [[nodiscard]] batch_answer accept(const batch& items) {
