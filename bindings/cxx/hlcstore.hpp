@@ -24,6 +24,7 @@
 #include "hlcstore/store.hpp"
 #include "hlcstore/slots.hpp"
 #include "hlcstore/shared.hpp"
+#include "hlcstore/ranges.hpp"
 
 namespace hlcstore {
 

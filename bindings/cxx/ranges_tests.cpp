@@ -1,0 +1,409 @@
+// Several stores with one key space: each decision, and then machines, readers and a vacuum in threads, beside a model.
+// The words, if there are any, are how many turns the threads take, and `threads` where only some of these shall run.
+#include <algorithm>
+#include <atomic>
+#include <chrono>
+#include <condition_variable>
+#include <cstdio>
+#include <cstdlib>
+#include <deque>
+#include <hlcstore.hpp>
+#include <map>
+#include <mutex>
+#include <optional>
+#include <random>
+#include <stdexcept>
+#include <string>
+#include <string_view>
+#include <thread>
+#include <type_traits>
+#include <utility>
+#include <vector>
+
+namespace {
+
+using hlcstore::division;
+using hlcstore::machine;
+using hlcstore::ranges;
+using hlcstore::ranges_snapshot;
+using hlcstore::routed_item;
+using hlcstore::timestamp;
+using std::string;
+using std::string_view;
+using pairs = std::vector<std::pair<string, string>>;
+
+std::atomic<int> wrong = 0;
+
+#define EXPECT(condition) expect(condition, #condition, __LINE__)
+
+void expect(bool holds, const char* condition, int line) {
+  if (holds) return;
+  std::printf("line %d: %s\n", line, condition);
+  wrong++;
+}
+
+// Makes a call, and returns the number of its refusal.
+template <class Call>
+std::uint32_t refusal_of(Call call) {
+  try {
+    call();
+  } catch (const hlcstore::error& refused) {
+    return refused.code();
+  }
+  return HLC_OK;
+}
+
+// Whether a call throws an exception of this type.
+template <class Exception, class Call>
+bool throws(Call call) {
+  try {
+    call();
+  } catch (const Exception&) {
+    return true;
+  }
+  return false;
+}
+
+pairs listed(const ranges_snapshot& snapshot) { return pairs(snapshot.begin(), snapshot.end()); }
+
+timestamp at(std::uint64_t physical, std::uint64_t counter = 0) { return timestamp::of(physical, counter); }
+
+void divisions() {
+  const division keys = division::by_keys({"g", "n", "t"});
+  EXPECT(keys.stores() == 4 && keys.is_by_keys());
+  EXPECT(keys.store_of("") == 0 && keys.store_of("f\xff") == 0 && keys.store_of("g") == 1 && keys.store_of("m~") == 1);
+  EXPECT(keys.store_of("n") == 2 && keys.store_of("t") == 3 && keys.store_of(string_view("t\0", 2)) == 3);
+  // Bytes are compared without a sign.
+  EXPECT(keys.store_of("\x80") == 3 && division::by_keys({"\x80"}).store_of("~") == 0);
+  EXPECT(division::by_keys({}).stores() == 1 && division::by_keys({}).store_of("any") == 0);
+  EXPECT(throws<std::invalid_argument>([] { division::by_keys({"b", "a"}); }));
+  EXPECT(throws<std::invalid_argument>([] { division::by_keys({"a", "a"}); }));
+  // FNV-1a of no bytes, of "a" and of "foobar", from its authors' table.
+  const division large = division::by_hash(1000);
+  EXPECT(large.store_of("") == 0xcbf29ce484222325 % 1000 && large.store_of("a") == 0xaf63dc4c8601ec8c % 1000);
+  EXPECT(large.store_of("foobar") == 0x85944171f73967e8 % 1000 && !large.is_by_keys());
+  EXPECT(division::by_hash(1024).stores() == 1024 && division::by_hash(1).store_of("a") == 0);
+  EXPECT(throws<std::invalid_argument>([] { division::by_hash(0); }));
+  EXPECT(throws<std::invalid_argument>([] { division::by_hash(1025); }));
+}
+
+// Each store gets the items of its own keys alone.
+void routes() {
+  ranges stores(division::by_keys({"g", "n"}), 2);
+  machine first = stores.machine(0);
+  EXPECT(stores.stores() == 3 && stores.nodes() == 2 && first.id() == 0 && first.last() == timestamp());
+  const routed_item made = first.write(10, "g", "x");
+  EXPECT(made.store == 1 && made.item.stamp == at(10) && made.item.node == 0 && made.item.number == 0);
+  EXPECT(made.item.key == "g" && made.item.value == "x" && made.item.kind == hlcstore::item_kind::write);
+  EXPECT(throws<hlcstore::wrong_store>([&] { stores.accept(0, made.item); }));
+  EXPECT(throws<hlcstore::wrong_store>([&] { stores.accept(2, made.item); }));
+  EXPECT(throws<std::out_of_range>([&] { stores.accept(3, made.item); }));
+  EXPECT(stores.rows() == 0 && stores.store_at(0).link(0).next == 0);
+  stores.accept(made);
+  EXPECT(stores.rows() == 1 && stores.store_at(1).rows() == 1);
+  EXPECT(refusal_of([&] { stores.accept(made); }) == HLC_NOT_NEXT);
+  const routed_item gone = first.erase(5, "a");
+  EXPECT(gone.store == 0 && gone.item.stamp == at(10, 1) && gone.item.number == 0);
+  EXPECT(throws<hlcstore::wrong_store>([&] { stores.accept(1, gone.item); }));
+  stores.accept(gone);
+  EXPECT(refusal_of([&] { first.write(20, "", "x"); }) == HLC_BAD_KEY && first.last() == at(10, 1));
+  // Where the store refuses, the machine is as it was.
+  machine stale = stores.machine(1);
+  stores.write(stale, 30, "a", "y");
+  machine copy = stores.machine(0);
+  stores.write(copy, 31, "h", "z");
+  EXPECT(refusal_of([&] { stores.write(first, 40, "i", "z"); }) == HLC_NOT_NEXT && first.last() == at(10, 1));
+  EXPECT(throws<std::out_of_range>([&] {
+    machine other(division::by_hash(1), 0);
+    stores.write(other, 40, "z", "");
+  }));
+}
+
+// One clock for all stores, and the least floor as the cut.
+void clocks_and_cuts() {
+  ranges stores(division::by_keys({"g", "n"}), 2);
+  machine first = stores.machine(0), second = stores.machine(1);
+  EXPECT(stores.write(first, 10, "a", "1") == at(10) && stores.write(first, 10, "h", "2") == at(10, 1));
+  EXPECT(stores.write(first, 9, "z", "3") == at(10, 2) && first.last() == at(10, 2));
+  EXPECT(second.receive(first.send(11), 3) == at(11, 1));
+  EXPECT(stores.write(second, 4, "b", "4") == at(11, 2) && second.observe(at(15), 12) == at(15, 1));
+  EXPECT(stores.cut() == timestamp());
+  const std::vector<routed_item> reports = first.report_all(20);
+  EXPECT(reports.size() == 3 && reports[2].store == 2 && reports[2].item.stamp == at(20, 2));
+  for (const routed_item& report : reports) stores.accept(report);
+  EXPECT(stores.cut() == timestamp() && stores.floor(0) == at(11, 2));
+  stores.report_all(second, 20);
+  EXPECT(stores.floor(0) == at(20) && stores.floor(1) == at(20, 1) && stores.floor(2) == at(20, 2));
+  EXPECT(stores.cut() == at(20));
+  EXPECT(refusal_of([&] { stores.open_snapshot(at(20, 1)); }) == HLC_ABOVE_FLOOR);
+  EXPECT(stores.open_snapshot().stamp() == at(20) && stores.open_snapshot(at(20)).count() == 4);
+  // A report at a reading that is too large is refused for all stores.
+  EXPECT(refusal_of([&] { first.report_all(std::uint64_t{1} << 48); }) == HLC_READING_TOO_LARGE);
+  EXPECT(first.last() == at(20, 2) && first.report_all(20)[0].item.number == 2);
+}
+
+// A store that refuses leaves the snapshot open in none.
+void opens_in_all_or_none() {
+  ranges stores(division::by_keys({"g"}), 1);
+  machine only = stores.machine(0);
+  stores.write(only, 1, "a", "x");
+  stores.report_all(only, 5);
+  stores.vacuum_to(at(2));
+  EXPECT(stores.store_at(1).horizon() == at(2));
+  EXPECT(refusal_of([&] { stores.open_snapshot(at(1)); }) == HLC_BELOW_HORIZON);
+  EXPECT(refusal_of([&] { stores.vacuum_to(at(1)); }) == HLC_BELOW_HORIZON);
+  EXPECT(stores.vacuum_to(at(100)).stamp == at(5) && stores.store_at(1).horizon() == at(5));
+  // The second store has room for one snapshot less, of an id that is not ours.
+  std::vector<ranges_snapshot> open;
+  for (int many = 0; many < 1024; many++) open.push_back(stores.open_snapshot());
+  EXPECT(refusal_of([&] { stores.open_snapshot(); }) == HLC_TOO_MANY_SNAPSHOTS);
+  EXPECT(stores.store_at(0).snapshots().size() == 1024 && stores.store_at(1).snapshots().size() == 1024);
+  open.clear();
+  EXPECT(stores.store_at(0).snapshots().empty() && stores.store_at(1).snapshots().empty());
+}
+
+// Scans in key order over the stores, of any division, and of pieces that end anywhere.
+void scans() {
+  for (const division& divided : {division::by_keys({"key003", "key0500", "key09"}), division::by_hash(7),
+                                  division::by_keys({}), division::by_keys({"a", "b", "z"})}) {
+    ranges stores(divided, 1);
+    machine writer = stores.machine(0);
+    std::map<string, string> expected;
+    for (int i = 0; i < 1000; i += 1) {
+      char key[16];
+      std::snprintf(key, sizeof key, "key%04d", i * 7 % 1000);
+      expected[key] = string(i % 50 == 0 ? 20000 : i % 40, 'v');
+      stores.write(writer, 1, key, expected[key]);
+    }
+    stores.report_all(writer, 2);
+    const ranges_snapshot snapshot = stores.open_snapshot();
+    EXPECT(listed(snapshot) == pairs(expected.begin(), expected.end()) && snapshot.count() == 1000);
+    const auto low = expected.lower_bound("key0299"), high = expected.lower_bound("key0501");
+    EXPECT(snapshot.count("key0299", "key0501") == 202);
+    pairs found;
+    for (const auto& pair : snapshot.range("key0299", "key0501")) found.push_back(pair);
+    EXPECT(found == pairs(low, high));
+    auto next = low;
+    for (const string& key : snapshot.keys("key0299", "key0501")) EXPECT(key == (next++)->first);
+    EXPECT(next == high);
+    const auto none = snapshot.range("key0501", "key0299");
+    EXPECT(none.begin() == none.end() && snapshot.range("l").begin() == snapshot.end());
+    EXPECT(snapshot.get("key0007") == expected["key0007"] && !snapshot.get("key"));
+  }
+}
+
+void joins_and_retirements() {
+  ranges stores(division::by_keys({"g"}), 1);
+  machine first = stores.machine(0);
+  stores.report_all(first, 5);
+  machine second = stores.join();
+  EXPECT(second.id() == 1 && second.last() == at(5, 1) && stores.nodes() == 2);
+  for (std::size_t store = 0; store < 2; store++) EXPECT(stores.store_at(store).link(1).head == at(5, 1));
+  EXPECT(stores.write(second, 1, "a", "x") == at(5, 2));
+  EXPECT(refusal_of([&] { stores.machine(2); }) == HLC_NO_NODE);
+  stores.report_all(first, 9);
+  EXPECT(stores.cut() == at(5, 1));
+  // The retirement from one store alone is accepted before a restart, and the machine retires from the other one then.
+  const std::vector<routed_item> last = second.retire_all(10);
+  EXPECT(last.size() == 2 && last[1].item.kind == hlcstore::item_kind::retire && second.retire_all(11).empty());
+  EXPECT(refusal_of([&] { second.report_all(11); }) == HLC_RETIRED);
+  EXPECT(refusal_of([&] { second.write(11, "a", ""); }) == HLC_RETIRED);
+  stores.accept(last[0]);
+  machine again = stores.machine(1, last[1].item.stamp);
+  EXPECT(again.last() == last[1].item.stamp);
+  stores.retire_all(again, 1);
+  EXPECT(stores.store_at(0).link(1).retired && stores.store_at(1).link(1).retired && stores.cut() == at(9));
+  while (stores.nodes() < 1024) stores.join();
+  EXPECT(refusal_of([&] { stores.join(); }) == HLC_TOO_MANY_NODES && stores.store_at(1).nodes() == 1024);
+}
+
+// Checkpoints of all stores, restored with machines that go on.
+void restarts() {
+  const division divided = division::by_hash(3);
+  ranges stores(divided, 2);
+  machine first = stores.machine(0), second = stores.machine(1);
+  for (int i = 0; i < 100; i++) stores.write(i % 2 == 0 ? first : second, i, "key" + std::to_string(i), "x");
+  stores.report_all(first, 200);
+  stores.report_all(second, 200);
+  const ranges_snapshot before = stores.open_snapshot();
+  const std::vector<string> saved = stores.checkpoint();
+  EXPECT(throws<std::invalid_argument>([&] { ranges::restore(division::by_hash(2), saved); }));
+  EXPECT(refusal_of([&] { ranges::restore(divided, {saved[0], saved[1], "no"}); }) == HLC_BAD_BYTES);
+  ranges restored = ranges::restore(divided, saved);
+  EXPECT(restored.cut() == stores.cut() && restored.store_at(2).snapshots().empty());
+  EXPECT(listed(restored.open_snapshot(before.stamp())) == listed(before));
+  machine again = restored.machine(0, at(300));
+  EXPECT(restored.write(again, 1, "a", "y") == at(300, 1) && restored.machine(1).last() == second.last());
+  // A snapshot that outlives its stores, and one that is closed.
+  {
+    const ranges moved = std::move(stores);
+    EXPECT(before.count() == 100);
+  }
+  EXPECT(refusal_of([&] { before.get("key1"); }) == HLC_CLOSED);
+  ranges_snapshot closed = restored.open_snapshot(before.stamp());
+  closed.close();
+  closed.close();
+  EXPECT(refusal_of([&] { closed.count(); }) == HLC_NO_SNAPSHOT);
+  EXPECT(refusal_of([&] { closed.get("a"); }) == HLC_NO_SNAPSHOT);
+  EXPECT(refusal_of([&] { closed.range(); }) == HLC_NO_SNAPSHOT && restored.store_at(0).snapshots().empty());
+  closed = restored.open_snapshot();
+  EXPECT(closed.count() == 100 && restored.store_at(1).snapshots().size() == 1);
+}
+
+void ownership() {
+  static_assert(std::is_nothrow_move_assignable_v<ranges> && !std::is_copy_constructible_v<ranges>);
+  static_assert(std::is_nothrow_move_constructible_v<ranges_snapshot> &&
+                std::is_nothrow_move_assignable_v<ranges_snapshot>);
+  static_assert(!std::is_copy_constructible_v<ranges_snapshot> && std::is_copy_constructible_v<machine>);
+}
+
+// ---- Machines in threads beside a model ----
+
+// What was written, and how far the machines have come. A write stands in the model before its store has it.
+class model {
+ public:
+  void add(const string& key, timestamp stamp, std::uint16_t node, std::optional<string> value) {
+    const std::lock_guard lock(mutex_);
+    writes_[key][{stamp.word, node}] = std::move(value);
+  }
+
+  // The pairs at a stamp, up to which all writes are there.
+  pairs at(timestamp stamp) const {
+    const std::lock_guard lock(mutex_);
+    pairs found;
+    for (const auto& [key, versions] : writes_) {
+      const auto later = versions.upper_bound({stamp.word, UINT16_MAX});
+      if (later == versions.begin()) continue;
+      const auto& value = std::prev(later)->second;
+      if (value) found.emplace_back(key, *value);
+    }
+    return found;
+  }
+
+ private:
+  mutable std::mutex mutex_;
+  std::map<string, std::map<std::pair<std::uint64_t, std::uint16_t>, std::optional<string>>> writes_;
+};
+
+// Messages between machines.
+class mailbox {
+ public:
+  void put(timestamp stamp) {
+    const std::lock_guard lock(mutex_);
+    stamps_.push_back(stamp);
+  }
+  std::optional<timestamp> take() {
+    const std::lock_guard lock(mutex_);
+    if (stamps_.empty()) return std::nullopt;
+    const timestamp stamp = stamps_.front();
+    stamps_.pop_front();
+    return stamp;
+  }
+
+ private:
+  std::mutex mutex_;
+  std::deque<timestamp> stamps_;
+};
+
+struct world {
+  ranges stores;
+  model past;
+  std::vector<mailbox> mail;
+  std::atomic<bool> ended = false;
+};
+
+string random_key(std::mt19937& random) { return "key" + std::to_string(random() % 40); }
+
+// Lets a machine act at random. Its items go to the stores by themselves, or wait in the order of their links.
+void act(world& all, std::uint16_t id, int turns) {
+  std::mt19937 random(id);
+  machine acting = all.stores.machine(id);
+  std::vector<std::deque<hlcstore::owned_item>> links(all.stores.stores());
+  const auto deliver = [&](std::size_t store, std::size_t left) {
+    for (; links[store].size() > left; links[store].pop_front()) all.stores.accept(store, links[store].front());
+  };
+  const auto keep = [&](routed_item made) { links[made.store].push_back(std::move(made.item)); };
+  for (int turn = 0; turn < turns; turn++) {
+    const std::uint64_t reading = random() % 3 == 0 ? 0 : static_cast<std::uint64_t>(turn) / 4;
+    const std::uint32_t kind = random() % 16;
+    if (kind < 11) {
+      const string key = random_key(random);
+      const bool erases = kind == 0;
+      routed_item made = erases ? acting.erase(reading, key) : acting.write(reading, key, std::to_string(turn));
+      all.past.add(key, made.item.stamp, id, erases ? std::nullopt : std::optional(made.item.value));
+      keep(std::move(made));
+    } else if (kind == 11) {
+      all.mail[random() % all.mail.size()].put(acting.send(reading));
+    } else if (kind == 12) {
+      if (const auto seen = all.mail[id].take()) EXPECT(acting.receive(*seen, reading) > *seen);
+    } else if (kind == 13) {
+      const ranges_snapshot open = all.stores.open_snapshot();
+      EXPECT(acting.observe(open.stamp(), reading) > open.stamp());
+    } else {
+      for (routed_item& report : acting.report_all(reading)) keep(std::move(report));
+    }
+    deliver(random() % links.size(), random() % 4);
+  }
+  for (std::size_t store = 0; store < links.size(); store++) deliver(store, 0);
+  all.stores.report_all(acting, static_cast<std::uint64_t>(turns));
+}
+
+// Opens snapshots at the cut and below it, whose answers are the model's, and stay.
+void look(world& all, unsigned seed) {
+  std::mt19937 random(seed);
+  timestamp last;
+  while (!all.ended) {
+    const ranges_snapshot open = all.stores.open_snapshot();
+    EXPECT(open.stamp() >= last);
+    last = open.stamp();
+    const pairs expected = all.past.at(open.stamp());
+    EXPECT(listed(open) == expected && open.count() == expected.size());
+    const string key = random_key(random);
+    const auto is_it = [&](const auto& pair) { return pair.first == key; };
+    const auto found = std::find_if(expected.begin(), expected.end(), is_it);
+    EXPECT(open.get(key) == (found == expected.end() ? std::nullopt : std::optional(found->second)));
+    std::this_thread::yield();
+    EXPECT(listed(open) == expected);
+  }
+}
+
+void vacuum_on(world& all) {
+  while (!all.ended) {
+    all.stores.vacuum_to(all.stores.cut(), 5);
+    std::this_thread::yield();
+  }
+}
+
+void threads(division divided, std::uint16_t machines, int turns) {
+  world all{ranges(std::move(divided), machines), {}, std::vector<mailbox>(machines)};
+  std::vector<std::thread> writers, others;
+  for (std::uint16_t id = 0; id < machines; id++) writers.emplace_back([&all, id, turns] { act(all, id, turns); });
+  for (unsigned seed = 0; seed < 2; seed++) others.emplace_back([&all, seed] { look(all, seed); });
+  others.emplace_back([&all] { vacuum_on(all); });
+  for (std::thread& writer : writers) writer.join();
+  all.ended = true;
+  for (std::thread& other : others) other.join();
+  const ranges_snapshot open = all.stores.open_snapshot();
+  EXPECT(open.stamp() >= at(static_cast<std::uint64_t>(turns)) && listed(open) == all.past.at(open.stamp()));
+}
+
+}  // namespace
+
+int main(int count, char** words) {
+  const int turns = count > 1 ? std::atoi(words[1]) : 2000;
+  threads(division::by_keys({"key19", "key28", "key5"}), 3, turns);
+  if (count < 3) {
+    threads(division::by_hash(5), 4, turns);
+    threads(division::by_hash(1), 2, turns);
+    divisions();
+    routes();
+    clocks_and_cuts();
+    opens_in_all_or_none();
+    scans();
+    joins_and_retirements();
+    restarts();
+    ownership();
+  }
+  std::puts(wrong == 0 ? "all right" : "wrong");
+  return wrong != 0;
+}
