@@ -1,6 +1,6 @@
-// What the story does not show of hlcstore.hpp: moving and closing, ranges in pieces and of temporary snapshots, changes
-// of many keys, the longest keys and values, long certificates, batches, increments, restores that are given up, and
-// refusals as exceptions.
+// What the story does not show of hlcstore.hpp: moving and closing, ranges in pieces, as views and of temporary
+// snapshots, changes of many keys, the longest keys and values, long certificates, batches, items with their keys and
+// values, the methods of a shared store, increments, restores that are given up, and refusals as exceptions.
 #include <algorithm>
 #include <cstdio>
 #include <hlcstore.hpp>
@@ -12,11 +12,13 @@
 #include <string>
 #include <string_view>
 #include <type_traits>
+#include <unordered_set>
 #include <utility>
 #include <vector>
 
 namespace {
 
+using hlcstore::error_kind;
 using hlcstore::node;
 using hlcstore::store;
 using hlcstore::timestamp;
@@ -271,14 +273,22 @@ void refusals() {
   } catch (const std::exception& caught) {
     const auto& refused = dynamic_cast<const hlcstore::error&>(caught);
     EXPECT(refused.code() == HLC_NOT_NEXT && refused.word() == 1);
-    EXPECT(caught.what() == hlcstore::error_text(HLC_NOT_NEXT) && !hlcstore::error_text(HLC_NOT_NEXT).empty());
-    EXPECT(hlcstore::error_name(refused.code()) == "HLC_NOT_NEXT");
+    EXPECT(caught.what() == hlcstore::error_text(HLC_NOT_NEXT) + " (1)");
+    EXPECT(hlcstore::error_name(refused.code()) == "HLC_NOT_NEXT" && refused.kind() == error_kind::not_next);
+  }
+  // The word of a stamp is written as one, and none where there is no word.
+  EXPECT(hlcstore::error(HLC_ABOVE_FLOOR, 65538).what() == hlcstore::error_text(HLC_ABOVE_FLOOR) + " (1.2)");
+  EXPECT(hlcstore::error(HLC_NO_INCREMENT, 3).what() == hlcstore::error_text(HLC_NO_INCREMENT) + " (3)");
+  for (const error_kind kind : {error_kind::no_increment, error_kind::closed, error_kind::no_memory}) {
+    const auto code = static_cast<std::uint32_t>(kind);
+    EXPECT(hlcstore::error(code).what() == hlcstore::error_text(code) && !hlcstore::error_text(code).empty());
   }
   EXPECT(hlcstore::error_name(4).empty() && hlcstore::error_text(4).empty());
   for (std::uint32_t code = 0; code < 200; code++) {
     EXPECT(hlcstore::error_text(code).empty() == hlcstore::error_name(code).empty());
   }
   EXPECT(!store.check_write(made, "a", "x") && store.check_write(made, "a", "x").word == 1);
+  EXPECT(store.check_write(made, "a", "x").kind() == error_kind::not_next);
   EXPECT(store.check_erase(writer.erase(2, "a"), "a") && store.check_report({0, 1, timestamp::of(2)}));
   EXPECT(refusal_of([&] { writer.write(std::uint64_t{1} << 48, "a", ""); }) == HLC_READING_TOO_LARGE);
   EXPECT(refusal_of([&] { node::restore(0, {1}, 2); }) == HLC_NO_SUCH_NODE);
@@ -423,6 +433,104 @@ void certificates() {
   EXPECT(left.key_bytes + left.value_bytes + 10 * left.rows == made.bytes);
 }
 
+// Items with their keys and values are equal where all of them is, and stores take them as they take the parts.
+void owned_items() {
+  using hlcstore::item_kind;
+  using hlcstore::owned_item;
+  node writer(0);
+  const owned_item write{writer.write(1, "a", "x"), item_kind::write, "a", "x"};
+  const owned_item erase{writer.erase(2, "b"), item_kind::erase, "b", ""};
+  const owned_item report{writer.report(3), item_kind::report, "", ""};
+  const owned_item retire{writer.retire(4), item_kind::retire, "", ""};
+  owned_item other = write;
+  EXPECT(other == write && !(other != write) && write != erase);
+  other.value = "y";
+  EXPECT(other != write);
+  other = write;
+  other.kind = item_kind::erase;
+  EXPECT(other != write);
+  other = write;
+  other.stamp = {1};
+  EXPECT(other != write && hlcstore::item(other) != hlcstore::item(write));
+  other = write;
+  other.number = 9;
+  EXPECT(other != write);
+  store taken(1);
+  string log;
+  for (const owned_item& item : {write, erase, report, retire}) {
+    taken.accept(item);
+    log += encode(item);
+  }
+  const string saved = taken.checkpoint(0);
+  EXPECT(taken.rows() == 2 && taken.link(0).retired && taken.open_snapshot().get("a") == "x");
+  store replayed(1);
+  EXPECT(replayed.accept_log(log) && replayed.checkpoint(0) == saved);
+  hlcstore::shared_store shared{store(1)};
+  for (const owned_item& item : {write, erase, report, retire}) shared.accept(item);
+  EXPECT(shared.checkpoint(0) == saved);
+}
+
+// A shared store has the methods of a store, and can be moved, as its snapshots can.
+void shared_stores() {
+  const std::map<string, string> pairs = many_pairs();
+  store plain = filled(pairs);
+  const string saved = plain.checkpoint(7);
+  hlcstore::shared_store shared(filled(pairs));
+  EXPECT(shared.checkpoint(7) == saved && shared.rows() == pairs.size() && shared.nodes() == 1);
+  EXPECT(shared.floor() == plain.floor() && shared.horizon() == timestamp() && shared.floor_node() == 0);
+  EXPECT(shared.link(0).next == pairs.size() && shared.sizes().keys == pairs.size());
+  EXPECT(refusal_of([&] { shared.link(1); }) == HLC_NO_NODE);
+  hlcstore::shared_snapshot first = shared.open_snapshot(), none;
+  EXPECT(first.stamp() == shared.floor() && first.id() == 1 && shared.snapshots().size() == 1);
+  EXPECT((std::map<string, string>(first.begin(), first.end()) == pairs) && first.count() == pairs.size());
+  auto last = pairs.rbegin();
+  for (const auto& pair : first.range_back()) EXPECT(pair.first == (last++)->first);
+  auto next = pairs.lower_bound("key00100");
+  for (const string& key : first.keys("key00100", "key00900")) EXPECT(key == (next++)->first);
+  EXPECT(last == pairs.rend() && next == pairs.lower_bound("key00900"));
+  const hlcstore::snapshot other = plain.open_snapshot();
+  EXPECT(first.digest() == other.digest() && first.list() == other.list());
+  EXPECT(first.get("key00001") == pairs.at("key00001") && first.last_below()->first == pairs.rbegin()->first);
+  EXPECT(first.get_all({"key00001", "other"})[1] == std::nullopt);
+  EXPECT(refusal_of([&] { none.get("a"); }) == HLC_NO_SNAPSHOT && refusal_of([&] { none.range().begin(); }) != HLC_OK);
+  node writer = node::restore(0, shared.link(0).head, shared.link(0).next);
+  const hlcstore::item made = writer.write(2, "a", "x");
+  EXPECT(shared.check_write(made, "a", "x") && !shared.check_report({0, 0, timestamp::of(2)}));
+  shared.accept_write(made, "a", "x");
+  shared.accept_erase(writer.erase(3, "a"), "a");
+  EXPECT(shared.versions("a").size() == 2 && shared.check_vacuum(shared.floor()));
+  none = std::move(first);
+  EXPECT(none.count() == pairs.size() && refusal_of([&] { first.count(); }) == HLC_NO_SNAPSHOT);
+  none = shared.open_snapshot();
+  EXPECT(shared.snapshots().size() == 1 && shared.snapshots()[0].id == 2);
+  const hlcstore::vacuum_report vacuumed = shared.vacuum_in_parts(shared.floor(), 100);
+  EXPECT(vacuumed.kept == pairs.size() && vacuumed.dropped == 2 && shared.vacuum().dropped == 0);
+  EXPECT(shared.certificate(shared.floor()).kept == pairs.size() && shared.join().id() == 1);
+  hlcstore::shared_store moved = std::move(shared);
+  EXPECT(moved.rows() == pairs.size() && refusal_of([&] { shared.rows(); }) == HLC_CLOSED);
+  EXPECT(none.count() == pairs.size());
+  moved = hlcstore::shared_store(store(3));
+  EXPECT(moved.nodes() == 3 && refusal_of([&] { none.count(); }) == HLC_CLOSED);
+  moved.close_all();
+  moved.close();
+  EXPECT(refusal_of([&] { moved.rows(); }) == HLC_CLOSED);
+}
+
+#ifdef __cpp_lib_ranges
+// In C++20 ranges are views, also those that own their snapshot.
+void views() {
+  static_assert(std::ranges::view<hlcstore::pair_range> && std::ranges::input_range<hlcstore::pair_range>);
+  static_assert(std::ranges::view<hlcstore::owning_key_range> && std::ranges::view<hlcstore::joint_pair_range>);
+  static_assert(std::ranges::view<hlcstore::shared_back_range> && std::ranges::input_range<hlcstore::snapshot>);
+  store store = filled(many_pairs());
+  string found;
+  for (const string& key : store.open_snapshot().keys("key00100") | std::views::take(2)) found += key;
+  EXPECT(found == "key00100key00101" && store.snapshots().empty());
+}
+#else
+void views() {}
+#endif
+
 void parts() {
   std::map<string, string> pairs;
   for (int i = 0; i < 500; i++) pairs[key_of(i)] = "x";
@@ -533,6 +641,13 @@ void stamps() {
   writer.raise(timestamp::of(9));
   EXPECT(writer.report(1).stamp == timestamp::of(9, 1) && writer.next() == 1 && !writer.retired());
   static_assert(timestamp::of(1, 2).word == 65538);
+  static_assert(timestamp::of(1) < timestamp::of(2) && timestamp::of(2, 1) >= timestamp::of(2, 1));
+  static_assert(timestamp::of(1) != timestamp::of(2) && timestamp::of(2) > timestamp::of(1, 9));
+#if __cplusplus >= 202002L
+  static_assert((timestamp::of(1) <=> timestamp::of(2)) == std::strong_ordering::less);
+#endif
+  EXPECT((std::unordered_set<timestamp>{{1}, {2}, {1}}.size() == 2));
+  EXPECT(to_string(timestamp::of(5, 9)) == "5.9" && to_string(timestamp()) == "0.0");
   EXPECT(timestamp::of((std::uint64_t{1} << 48) - 1, 65535).word == UINT64_MAX);
   EXPECT(is_out_of_range(std::uint64_t{1} << 48, 0) && is_out_of_range(std::uint64_t{1} << 50, 0));
   EXPECT(is_out_of_range(UINT64_MAX, 0) && is_out_of_range(1, 65536) && is_out_of_range(1, UINT64_MAX));
@@ -559,6 +674,9 @@ int main() {
   restarts();
   increments();
   stamps();
+  owned_items();
+  shared_stores();
+  views();
   std::puts(wrong == 0 ? "all right" : "wrong");
   return wrong != 0;
 }

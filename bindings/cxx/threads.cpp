@@ -19,8 +19,8 @@
 #include <utility>
 #include <vector>
 
-// The locks of the standard library do not tell helgrind where they end. So their memory, which alone is aligned by more
-// than usual, is not used again.
+// The locks of the standard library do not tell helgrind where they end. So their memory, which alone is aligned by
+// more than usual, is not used again.
 void operator delete(void*, std::align_val_t) noexcept {}
 void operator delete(void*, std::size_t, std::align_val_t) noexcept {}
 
@@ -180,8 +180,8 @@ bool readers_meet(int many) {
   return steady_clock::now() < end;
 }
 
-// Whether a reader runs between the parts of a vacuum, which locks again at once; in one of many vacuums at least, since
-// threads run when they may.
+// Whether a reader runs between the parts of a vacuum, which locks again at once; in one of many vacuums at least,
+// since threads run when they may.
 bool readers_run_between_parts() {
   shared_store shared{hlcstore::store(1)};
   hlcstore::node writer(0);

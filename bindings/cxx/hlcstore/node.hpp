@@ -3,10 +3,15 @@
 #define HLCSTORE_NODE_HPP
 #include <cstddef>
 #include <cstdint>
+#include <functional>
 #include <stdexcept>
 #include <string>
 #include <string_view>
 #include <vector>
+
+#if __cplusplus >= 202002L
+#include <compare>
+#endif
 
 #include "call.hpp"
 
@@ -25,12 +30,16 @@ struct timestamp {
   constexpr std::uint64_t physical() const noexcept { return word >> 16; }
   constexpr std::uint16_t counter() const noexcept { return static_cast<std::uint16_t>(word); }
 
+#if __cplusplus >= 202002L
+  friend constexpr auto operator<=>(const timestamp&, const timestamp&) noexcept = default;
+#else
   friend constexpr bool operator==(timestamp a, timestamp b) noexcept { return a.word == b.word; }
   friend constexpr bool operator!=(timestamp a, timestamp b) noexcept { return a.word != b.word; }
   friend constexpr bool operator<(timestamp a, timestamp b) noexcept { return a.word < b.word; }
   friend constexpr bool operator>(timestamp a, timestamp b) noexcept { return a.word > b.word; }
   friend constexpr bool operator<=(timestamp a, timestamp b) noexcept { return a.word <= b.word; }
   friend constexpr bool operator>=(timestamp a, timestamp b) noexcept { return a.word >= b.word; }
+#endif
 };
 
 // As people write it: the physical part, a point and the counter.
@@ -168,4 +177,9 @@ class batch {
 };
 
 }  // namespace hlcstore
+
+template <>
+struct std::hash<hlcstore::timestamp> {
+  std::size_t operator()(hlcstore::timestamp stamp) const noexcept { return std::hash<std::uint64_t>()(stamp.word); }
+};
 #endif

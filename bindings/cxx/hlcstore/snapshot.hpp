@@ -11,6 +11,10 @@
 #include <utility>
 #include <vector>
 
+#if __cplusplus >= 202002L
+#include <ranges>
+#endif
+
 #include "call.hpp"
 #include "error.hpp"
 #include "node.hpp"
@@ -414,4 +418,12 @@ inline owning_key_range snapshot::keys(std::string_view from, std::string_view t
 }
 
 }  // namespace hlcstore
+
+// In C++20 the ranges are views, which std::views take.
+#ifdef __cpp_lib_ranges
+template <class Entries>
+inline constexpr bool std::ranges::enable_view<hlcstore::range<Entries>> = true;
+template <class Entries>
+inline constexpr bool std::ranges::enable_view<hlcstore::owning_range<Entries>> = true;
+#endif
 #endif
