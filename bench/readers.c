@@ -1,24 +1,32 @@
-/* Measures reads of one store from several threads: under the reading side of a read-write lock, each read with a copy
- * of the handle, and under a mutex. Prints million reads a second, best and median of 9 runs. */
+/* Measures reads of one store from several threads, each read with a copy of the handle: under the reading side of a
+ * read-write lock, under a mutex, under one of 16 slots by the thread, of which a writer would lock all, and without a
+ * lock, which only reads allow. Prints million reads a second, best and median of 9 runs, which take turns. */
 #include "hlcstore.h"
 #include <pthread.h>
-#include <stdbool.h>
 #include <stdio.h>
 #include <stdlib.h>
 #include <string.h>
 #include <time.h>
 
-enum { KEYS = 1000, VERSIONS = 20, READS = 400000, RUNS = 9, MOST = 4 };
+enum { KEYS = 1000, VERSIONS = 20, READS = 400000, RUNS = 9, MOST = 4, SLOTS = 16 };
+enum kind { SHARED, SINGLE, BY_SLOT, NONE, KINDS };
 
+/* Slots share no cache line. */
+struct slot {
+    _Alignas(128) pthread_rwlock_t lock;
+};
+
+static const char *const names[KINDS] = { "read-write lock", "mutex", "slots", "no lock" };
 static pthread_rwlock_t shared = PTHREAD_RWLOCK_INITIALIZER;
 static pthread_mutex_t single = PTHREAD_MUTEX_INITIALIZER;
+static struct slot slots[SLOTS];
 static hlc_store store = HLC_CLOSED_STORE;
 static uint64_t snapshot;
 
 struct reader {
     pthread_t thread;
-    bool is_shared;
-    unsigned first, reads;
+    enum kind kind;
+    unsigned slot, first, reads;
 };
 
 static void must(uint32_t code)
@@ -47,15 +55,13 @@ static void *read_all(void *at)
 {
     const struct reader *reader = at;
     for (unsigned i = 0; i < reader->reads; i++) {
-        if (reader->is_shared) {
-            pthread_rwlock_rdlock(&shared);
-            read_key(reader->first + 379 * i);
-            pthread_rwlock_unlock(&shared);
-        } else {
-            pthread_mutex_lock(&single);
-            read_key(reader->first + 379 * i);
-            pthread_mutex_unlock(&single);
-        }
+        if (reader->kind == SHARED) pthread_rwlock_rdlock(&shared);
+        if (reader->kind == SINGLE) pthread_mutex_lock(&single);
+        if (reader->kind == BY_SLOT) pthread_rwlock_rdlock(&slots[reader->slot].lock);
+        read_key(reader->first + 379 * i);
+        if (reader->kind == SHARED) pthread_rwlock_unlock(&shared);
+        if (reader->kind == SINGLE) pthread_mutex_unlock(&single);
+        if (reader->kind == BY_SLOT) pthread_rwlock_unlock(&slots[reader->slot].lock);
     }
     return NULL;
 }
@@ -76,13 +82,13 @@ static void fill(void)
 }
 
 /* Returns how many million reads a second so many threads make. */
-static double rate(unsigned threads, bool is_shared)
+static double rate(unsigned threads, enum kind kind)
 {
     struct reader readers[MOST];
     struct timespec start, end;
     clock_gettime(CLOCK_MONOTONIC, &start);
     for (unsigned i = 0; i < threads; i++) {
-        readers[i] = (struct reader){.is_shared = is_shared, .first = 77 * i, .reads = READS / threads};
+        readers[i] = (struct reader){.kind = kind, .slot = i, .first = 77 * i, .reads = READS / threads};
         if (pthread_create(&readers[i].thread, NULL, read_all, &readers[i]) != 0) exit(1);
     }
     for (unsigned i = 0; i < threads; i++) pthread_join(readers[i].thread, NULL);
@@ -98,15 +104,18 @@ static int by_rate(const void *one, const void *other)
 
 int main(void)
 {
-    double rates[2][RUNS];
+    double rates[KINDS][RUNS];
     fill();
+    for (unsigned i = 0; i < SLOTS; i++) pthread_rwlock_init(&slots[i].lock, NULL);
     for (unsigned threads = 1; threads <= MOST; threads *= 2) {
         for (int run = 0; run < RUNS; run++) {
-            for (int is_shared = 0; is_shared < 2; is_shared++) rates[is_shared][run] = rate(threads, is_shared);
+            for (int kind = 0; kind < KINDS; kind++) rates[kind][run] = rate(threads, (enum kind)kind);
         }
-        for (int i = 0; i < 2; i++) qsort(rates[i], RUNS, sizeof rates[i][0], by_rate);
-        printf("threads %u: read-write lock %.2f, %.2f; mutex %.2f, %.2f\n", threads, rates[1][0],
-               rates[1][RUNS / 2], rates[0][0], rates[0][RUNS / 2]);
+        printf("threads %u:", threads);
+        for (int kind = 0; kind < KINDS; kind++) {
+            qsort(rates[kind], RUNS, sizeof rates[kind][0], by_rate);
+            printf(" %s %.2f, %.2f%s", names[kind], rates[kind][0], rates[kind][RUNS / 2], kind < NONE ? ";" : "\n");
+        }
     }
     hlc_close(&store);
     return 0;
