@@ -142,8 +142,39 @@ void clocks_and_cuts() {
   EXPECT(first.last() == at(20, 2) && first.report_all(20)[0].item.number == 2);
 }
 
-// A store that refuses leaves the snapshot open in none.
-void opens_in_all_or_none() {
+// Two stores, of which the second was changed by itself, as no call of ranges does.
+template <class Change>
+ranges uneven(Change change) {
+  const division divided = division::by_keys({"g"});
+  ranges stores(divided, 1);
+  machine only = stores.machine(0);
+  stores.write(only, 1, "a", "x");
+  stores.report_all(only, 5);
+  std::vector<string> saved = stores.checkpoint();
+  hlcstore::store second;
+  EXPECT(second.restore(saved[1]) == at(5).word);
+  change(second);
+  saved[1] = second.checkpoint(0);
+  return ranges::restore(divided, saved);
+}
+
+// Where one store refuses, the snapshot is open in none, and the vacuum goes on from where it was.
+void one_store_refuses() {
+  ranges stores = uneven([](hlcstore::store& second) { second.vacuum_to(at(4)); });
+  EXPECT(refusal_of([&] { stores.open_snapshot(at(3)); }) == HLC_BELOW_HORIZON);
+  EXPECT(stores.store_at(0).snapshots().empty() && stores.store_at(1).snapshots().empty());
+  EXPECT(stores.open_snapshot(at(4)).count() == 1);
+  EXPECT(refusal_of([&] { stores.vacuum_to(at(3)); }) == HLC_BELOW_HORIZON && stores.store_at(0).horizon() == at(3));
+  EXPECT(stores.vacuum_to(at(4)).kept == 1 && stores.store_at(0).horizon() == at(4));
+  // A join that only the second store has: the next one is of the first store alone, at a start that serves both.
+  ranges joined = uneven([](hlcstore::store& second) { second.join_at(at(8)); });
+  EXPECT(joined.nodes() == 1 && refusal_of([&] { joined.machine(1); }) == HLC_NO_NODE);
+  const machine late = joined.join();
+  EXPECT(late.id() == 1 && late.last() == at(8) && joined.nodes() == 2 && joined.store_at(1).nodes() == 2);
+  EXPECT(joined.store_at(0).link(1).head == at(8) && joined.join().id() == 2);
+}
+
+void opens_and_vacuums() {
   ranges stores(division::by_keys({"g"}), 1);
   machine only = stores.machine(0);
   stores.write(only, 1, "a", "x");
@@ -153,7 +184,6 @@ void opens_in_all_or_none() {
   EXPECT(refusal_of([&] { stores.open_snapshot(at(1)); }) == HLC_BELOW_HORIZON);
   EXPECT(refusal_of([&] { stores.vacuum_to(at(1)); }) == HLC_BELOW_HORIZON);
   EXPECT(stores.vacuum_to(at(100)).stamp == at(5) && stores.store_at(1).horizon() == at(5));
-  // The second store has room for one snapshot less, of an id that is not ours.
   std::vector<ranges_snapshot> open;
   for (int many = 0; many < 1024; many++) open.push_back(stores.open_snapshot());
   EXPECT(refusal_of([&] { stores.open_snapshot(); }) == HLC_TOO_MANY_SNAPSHOTS);
@@ -398,7 +428,8 @@ int main(int count, char** words) {
     divisions();
     routes();
     clocks_and_cuts();
-    opens_in_all_or_none();
+    one_store_refuses();
+    opens_and_vacuums();
     scans();
     joins_and_retirements();
     restarts();
