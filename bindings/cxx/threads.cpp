@@ -1,7 +1,7 @@
 // Four threads read a shared store, each in snapshots of its own, while a fifth one writes and vacuums. Each answer is
-// checked. Then eight readers let a writer pass, and so do readers that always ask; readers run beside each other, more
-// than there are slots, and between the parts of a vacuum; changes wait for readers; what throws leaves no lock behind;
-// and stores end beside their readers. The word, if there is one, is how often a reader looks.
+// checked. Then readers let a writer pass, also where two have each slot; readers run beside each other, more than there
+// are slots, and between the parts of a vacuum; changes wait for readers; what throws leaves no lock behind; and stores
+// end beside their readers. The word, if there is one, is how often a reader looks.
 //
 // In round r the value of each key is r, and one batch writes them all. So in a snapshot all values are the same.
 #include <algorithm>
@@ -116,8 +116,8 @@ int read_beside_a_writer(int rounds) {
   return all;
 }
 
-// Eight threads always read, in turns that overlap. A writer makes ten changes meanwhile. Returns whether it did before
-// the readers gave up.
+// Threads always read, in turns that overlap, at least two by each slot. A writer makes ten changes meanwhile. Returns
+// whether it did before the readers gave up.
 bool readers_let_a_writer_pass(int many) {
   hlcstore::store filled(1);
   hlcstore::node writer(0);
@@ -128,7 +128,7 @@ bool readers_let_a_writer_pass(int many) {
   const auto end = steady_clock::now() + 20s;
   std::atomic<bool> ended = false, wrong = false;
   std::vector<std::thread> readers;
-  for (int number = 0; number < 8; number++) {
+  for (int number = 0; number < 33; number++) {
     readers.emplace_back([&] {
       while (!ended && steady_clock::now() < end) wrong = wrong || snapshot.read(digest_of) != digest;
     });
