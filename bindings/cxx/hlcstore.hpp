@@ -9,7 +9,8 @@
 //
 // Threads. Methods that are const only ask: they may run beside each other on one store, while nothing changes the
 // store. All other methods need the store alone, and so do the destructors of a store, of its snapshots, and of ranges
-// that own one. hlcstore::shared_store orders the calls of several threads.
+// that own one. hlcstore::shared_store orders the calls of several threads, and hlcstore::ranges is one key space over
+// several such stores.
 #ifndef HLCSTORE_HPP
 #define HLCSTORE_HPP
 #include <cstdint>
