@@ -1,4 +1,4 @@
--- The number lies between two powers of ten, which tells its digits.
+-- The number lies between two powers of ten, so it has that many digits.
 use Rattle.std.proofs.Common.{arith}
 use Rattle.std.proofs.lemmas.Fmt.{decimal_nonempty, length-decimal-le}
 use Rattle.hlc_text.proofs.Numbers.{decimal_long}
