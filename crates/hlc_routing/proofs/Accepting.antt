@@ -1,15 +1,14 @@
 -- What a store's acceptance says of all stores.
 use Rattle.std.proofs.Common.{◌≡◌, ℕ, List, ◌∷◌, Some, Ok, Err, Result, sym, ◌∙◌, subst}
-use Rattle.std.specs.Prelude.{OnOk, IfErr, slice_get}
+use Rattle.std.specs.Prelude.{OnOk, IfErr, slice_get, None, ⊤}
 use Rattle.hlc_node.specs.declared.item.Item.{Item}
 use Rattle.hlc_heads.specs.Heads.{AcceptedView}
 use Rattle.hlc_events.specs.declared.fault.CoreFault.{CoreFault}
-use Rattle.hlc_snapshot.specs.declared.fault.NoSnapshot.{NoSnapshot}
-use Rattle.hlc_core.specs.Past.{Step, Took, Opened, Closed, item_refusal}
+use Rattle.hlc_core.specs.Past.{Step, Took, Opened, Closed, item_refusal, open_refusal}
 use Rattle.hlc_core.specs.StoreView.{StoreView, nodes, Represents as CoreRepresents}
 use Rattle.hlc_core.specs.Calls.{Accepts, Opens, Closes, IsRefusal, IsWrite}
 use Rattle.hlc_ranges.specs.Run.{Layout, Turn, Stepped, past_of, IsIssuedStep}
-use Rattle.hlc_routing.specs.Ranges.{RangesView, Represents, IsOfStore, IsRefusedFor}
+use Rattle.hlc_routing.specs.Ranges.{RangesView, Represents, IsOfStore, IsRefusedFor, OpensIn, ClosesIn}
 use Rattle.hlc_routing.specs.declared.ranges.RangesFault.TheVariants.{Store}
 use Rattle.hlc_routing.proofs.Stepping.{steps, with_store, some-same}
 
@@ -35,18 +34,23 @@ refused old s store new item (Err fault) at of accepts = (
       (accepts past (subst (λ x. CoreRepresents x past) (sym same) represents)),
 )
 
-pub opened : (layout : Layout) (old : RangesView) (run : List Turn) (s : ℕ) (store new : StoreView) (stamp : ℕ)
-    (result : Result ℕ CoreFault) → Represents layout old run → slice_get old.stores s ≡ Some store
-    → nodes new ≡ nodes store → Opens store new stamp (past_of s run) result
-    → OnOk result (Represents layout (with_store old s new) (Stepped s (Opened stamp) ∷ run))
-opened layout old run s store new stamp (Ok id) h at same opens =
-    steps layout old run s store new (Opened stamp) h at same opens.2 tt
-opened layout old run s store new stamp (Err fault) h at same opens = tt
+pub opened : (layout : Layout) (old : RangesView) (run : List Turn) (s : ℕ) (store new : StoreView) (stamp id : ℕ)
+    → Represents layout old run → slice_get old.stores s ≡ Some store → nodes new ≡ nodes store
+    → Opens store new stamp (past_of s run) (Ok id) → OpensIn layout old (with_store old s new) s stamp run (Ok id)
+opened layout old run s store new stamp id h at same opens = (
+  subst (λ n. open_refusal n (past_of s run) stamp ≡ None) (h.nodes s store at) opens.0,
+  opens.1,
+  steps layout old run s store new (Opened stamp) h at same opens.2 tt,
+)
 
-pub closed : (layout : Layout) (old : RangesView) (run : List Turn) (s : ℕ) (store new : StoreView) (id : ℕ)
-    (result : Result ℕ NoSnapshot) → Represents layout old run → slice_get old.stores s ≡ Some store
-    → nodes new ≡ nodes store → Closes new id (past_of s run) result
-    → OnOk result (Represents layout (with_store old s new) (Stepped s (Closed id) ∷ run))
-closed layout old run s store new id (Ok stamp) h at same closes =
-    steps layout old run s store new (Closed id) h at same closes.1 tt
-closed layout old run s store new id (Err fault) h at same closes = tt
+pub not-opened : (layout : Layout) (old now : RangesView) (run : List Turn) (s : ℕ) (store new : StoreView) (stamp : ℕ)
+    (fault : CoreFault) → Represents layout old run → slice_get old.stores s ≡ Some store
+    → Opens store new stamp (past_of s run) (Err fault) → OpensIn layout old now s stamp run (Err (Store fault))
+not-opened layout old now run s store new stamp fault h at opens =
+    subst (λ n. IsRefusal (open_refusal n (past_of s run) stamp) ⊤ fault) (h.nodes s store at) opens
+
+pub closed : (layout : Layout) (old : RangesView) (run : List Turn) (s : ℕ) (store new : StoreView) (id stamp : ℕ)
+    → Represents layout old run → slice_get old.stores s ≡ Some store → nodes new ≡ nodes store
+    → Closes new id (past_of s run) (Ok stamp) → ClosesIn layout old (with_store old s new) s id run (Ok stamp)
+closed layout old run s store new id stamp h at same closes =
+    (closes.0, steps layout old run s store new (Closed id) h at same closes.1 tt)

@@ -1,13 +1,15 @@
 -- Stores with one key space, and the run that they represent.
-use Rattle.std.specs.Prelude.{◌≡◌, ℕ, ◌<◌, ◌≤◌, List, length, Some, slice_get, ⊤}
+use Rattle.std.specs.Prelude.{◌≡◌, ℕ, ◌<◌, ◌≤◌, ◌+◌, List, ◌∷◌, length, Some, None, slice_get, ⊤, Result, Ok, Err}
 use Rattle.hlc_node.specs.declared.item.Body.{Body}
 use Rattle.hlc_node.specs.declared.item.Body.TheVariants.{Write, Report, Retire}
 use Rattle.hlc_node.specs.declared.item.Item.{Item}
-use Rattle.hlc_core.specs.Past.{Step, item_refusal}
+use Rattle.hlc_core.specs.Past.{Step, Opened, Closed, item_refusal, open_refusal, opened, stamp_of}
 use Rattle.hlc_core.specs.StoreView.{StoreView, nodes, Represents as CoreRepresents}
 use Rattle.hlc_core.specs.Checkpoint.{floor_in}
 use Rattle.hlc_core.specs.Calls.{IsRefusal, IsWrite}
-use Rattle.hlc_ranges.specs.Run.{Layout, Turn, past_of, IsLegal}
+use Rattle.hlc_ranges.specs.Run.{Layout, Turn, Stepped, past_of, IsLegal}
+use Rattle.hlc_events.specs.declared.fault.CoreFault.{CoreFault}
+use Rattle.hlc_events.specs.declared.fault.CoreFault.TheVariants.{NoSnapshot}
 use Rattle.hlc_routing.specs.Division.{DivisionView, store_of}
 use Rattle.hlc_routing.specs.declared.ranges.RangesFault.{RangesFault}
 use Rattle.hlc_routing.specs.declared.ranges.RangesFault.TheVariants.{NoStore, WrongStore, Store}
@@ -51,3 +53,21 @@ IsRefusedFor kept s item (Store fault) =
     IsOfStore kept.division s item.body
     × ((store : StoreView) (past : List Step) → slice_get kept.stores s ≡ Some store → CoreRepresents store past
     → IsRefusal (item_refusal (nodes store) past item) (IsWrite item.body) fault)
+
+-- a snapshot of one store was opened, with an id one above the number of those opened there before, or refused
+abbrev pub OpensIn : Layout → RangesView → RangesView → ℕ → ℕ → List Turn → Result ℕ RangesFault → Type 0
+OpensIn layout old new s stamp run (Ok id) =
+    (open_refusal (layout.nodes s) (past_of s run) stamp ≡ None) × (id ≡ opened (past_of s run) + 1)
+    × Represents layout new (Stepped s (Opened stamp) ∷ run)
+OpensIn layout old new s stamp run (Err NoStore) = length old.stores ≤ s
+OpensIn layout old new s stamp run (Err WrongStore) = ⊥
+OpensIn layout old new s stamp run (Err (Store fault)) =
+    IsRefusal (open_refusal (layout.nodes s) (past_of s run) stamp) ⊤ fault
+
+-- the snapshot of one store was closed, and this was its stamp; or there was none with this id
+abbrev pub ClosesIn : Layout → RangesView → RangesView → ℕ → ℕ → List Turn → Result ℕ RangesFault → Type 0
+ClosesIn layout old new s id run (Ok stamp) =
+    (stamp_of id (past_of s run) ≡ Some stamp) × Represents layout new (Stepped s (Closed id) ∷ run)
+ClosesIn layout old new s id run (Err NoStore) = length old.stores ≤ s
+ClosesIn layout old new s id run (Err WrongStore) = ⊥
+ClosesIn layout old new s id run (Err (Store fault)) = (stamp_of id (past_of s run) ≡ None) × (fault ≡ NoSnapshot)

@@ -3,11 +3,11 @@ ghost use Rattle.std.specs.Prelude.{◌≡◌, ◌≢◌, ◌↔◌, ◌∷◌, 
 ghost use Rattle.std.specs.Prelude.{ℕ, Some, IfSome, IfNone, IsOkAnd, option_copied};
 ghost use Rattle.hlc_node.specs.Rows.{answer};
 ghost use Rattle.hlc_node.specs.declared.item.Body.{Body as ABody};
-ghost use Rattle.hlc_core.specs.Past.{Closed, Opened, Took, stamp_of};
+ghost use Rattle.hlc_core.specs.Past.{Took, stamp_of};
 ghost use Rattle.hlc_ranges.specs.Run.{Layout, Turn, Stepped, IsIssuedStep, past_of, issued_writes};
 ghost use Rattle.hlc_ranges.specs.Cut.{IsCut, IsConsistent};
 ghost use Rattle.hlc_routing.specs.Division.{stores_of, store_of};
-ghost use Rattle.hlc_routing.specs.Ranges.{Represents, IsLeastFloor, IsOfStore, IsRefusedFor};
+ghost use Rattle.hlc_routing.specs.Ranges.{Represents, IsLeastFloor, IsOfStore, IsRefusedFor, OpensIn, ClosesIn};
 
 use crate::division::Division;
 use hlc_clock::Stamp;
@@ -139,7 +139,7 @@ impl Ranges {
     /// Refused: no such store; or for the reasons of `Core::open`. A refusal changes nothing.
     pub fn open(&mut self, store: usize, stamp: Stamp) -> Result<u64, RangesFault>
         ensures represents { (layout : Layout) (run : List Turn) → Represents layout self.old run
-            → OnOk result (Represents layout self.new (Stepped store (Opened stamp) ∷ run)) }
+            → OpensIn layout self.old self.new store stamp run result }
         ensures unchanged { OnErr result (self.new ≡ self.old) }
         ensures division { self.new.division ≡ self.old.division }
     {
@@ -157,7 +157,7 @@ impl Ranges {
     /// Refused: no such store; no such snapshot. A refusal changes nothing.
     pub fn close(&mut self, store: usize, id: u64) -> Result<Stamp, RangesFault>
         ensures represents { (layout : Layout) (run : List Turn) → Represents layout self.old run
-            → OnOk result (Represents layout self.new (Stepped store (Closed id) ∷ run)) }
+            → ClosesIn layout self.old self.new store id run result }
         ensures unchanged { OnErr result (self.new ≡ self.old) }
         ensures division { self.new.division ≡ self.old.division }
     {

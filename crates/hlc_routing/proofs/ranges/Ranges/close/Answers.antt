@@ -1,11 +1,9 @@
--- The store's step extends the run.
-use Rattle.std.proofs.Common.{◌∷◌, refl, subst}
-use Rattle.std.specs.Prelude.{OnOk}
+-- The store's step extends the run, or the store has no such snapshot.
+use Rattle.std.proofs.Common.{refl, subst}
 use Rattle.std.proofs.lemmas.Option.{slice_get_read}
-use Rattle.hlc_core.specs.Past.{Closed}
-use Rattle.hlc_ranges.specs.Run.{Stepped, past_of}
-use Rattle.hlc_routing.specs.Ranges.{RangesView, Represents}
-use Rattle.hlc_routing.proofs.Stepping.{with_store}
+use Rattle.hlc_core.specs.Calls.{Closes}
+use Rattle.hlc_ranges.specs.Run.{past_of}
+use Rattle.hlc_routing.specs.Ranges.{RangesView}
 use Rattle.hlc_routing.proofs.Accepting.{closed}
 use Rattle.hlc_routing.proofs.ranges.Ranges.close.Goals as goal
 use Rattle.hlc_routing.proofs.ranges.Ranges.close.Goals.{in-Ok, in-Err}
@@ -16,12 +14,12 @@ returns-clause-represents c = λ layout run h.
     let lent = c.in-Some.ensures.item in
     let at = slice_get_read c.self.inside.stores.items _ c.args.store c.in-Some.core.now refl lent.3.0 lent.1 in
     let view : RangesView = record { division = c.self.inside.division; stores = c.self.inside.stores.items } in
-    let all' = closed layout view run c.args.store c.in-Some.core.now c.close.new.self c.args.id c.close.result h' at
-    c.close.ensures.nodes
-    (c.close.ensures.represents (past_of c.args.store run) (h'.pasts c.args.store c.in-Some.core.now at)) in
+    let closes = c.close.ensures.represents (past_of c.args.store run)
+    (h'.pasts c.args.store c.in-Some.core.now at) in
     elim c.match-close.branch [
-      | in-Ok w ↦ rw w.result-is (subst (λ r. OnOk r (Represents layout
-          (with_store view c.args.store c.close.new.self) (Stepped c.args.store (Closed c.args.id) ∷ run)))
-          w.in-Ok.is all')
-      | in-Err w ↦ rw w.result-is tt
+      | in-Ok w ↦ rw w.result-is (closed layout view run c.args.store c.in-Some.core.now c.close.new.self c.args.id _
+          h' at c.close.ensures.nodes
+          (subst (λ r. Closes c.close.new.self c.args.id (past_of c.args.store run) r) w.in-Ok.is closes))
+      | in-Err w ↦ rw w.result-is
+          (subst (λ r. Closes c.close.new.self c.args.id (past_of c.args.store run) r) w.in-Err.is closes, refl)
     ]

@@ -1,12 +1,10 @@
--- The store's step extends the run.
-use Rattle.std.proofs.Common.{◌∷◌, refl, subst}
-use Rattle.std.specs.Prelude.{OnOk}
+-- The store's step extends the run, or the store refuses it.
+use Rattle.std.proofs.Common.{refl, subst}
 use Rattle.std.proofs.lemmas.Option.{slice_get_read}
-use Rattle.hlc_core.specs.Past.{Opened}
-use Rattle.hlc_ranges.specs.Run.{Stepped, past_of}
-use Rattle.hlc_routing.specs.Ranges.{RangesView, Represents}
-use Rattle.hlc_routing.proofs.Stepping.{with_store}
-use Rattle.hlc_routing.proofs.Accepting.{opened}
+use Rattle.hlc_core.specs.Calls.{Opens}
+use Rattle.hlc_ranges.specs.Run.{past_of}
+use Rattle.hlc_routing.specs.Ranges.{RangesView}
+use Rattle.hlc_routing.proofs.Accepting.{opened, not-opened}
 use Rattle.hlc_routing.proofs.ranges.Ranges.open.Goals as goal
 use Rattle.hlc_routing.proofs.ranges.Ranges.open.Goals.{in-Ok, in-Err}
 
@@ -16,12 +14,14 @@ returns-clause-represents c = λ layout run h.
     let lent = c.in-Some.ensures.item in
     let at = slice_get_read c.self.inside.stores.items _ c.args.store c.in-Some.core.now refl lent.3.0 lent.1 in
     let view : RangesView = record { division = c.self.inside.division; stores = c.self.inside.stores.items } in
-    let all' = opened layout view run c.args.store c.in-Some.core.now c.open.new.self c.args.stamp c.open.result h' at
-    c.open.ensures.nodes
-    (c.open.ensures.represents (past_of c.args.store run) (h'.pasts c.args.store c.in-Some.core.now at)) in
+    let opens = c.open.ensures.represents (past_of c.args.store run) (h'.pasts c.args.store c.in-Some.core.now at) in
     elim c.match-open.branch [
-      | in-Ok w ↦ rw w.result-is (subst (λ r. OnOk r (Represents layout
-          (with_store view c.args.store c.open.new.self) (Stepped c.args.store (Opened c.args.stamp) ∷ run)))
-          w.in-Ok.is all')
-      | in-Err w ↦ rw w.result-is tt
+      | in-Ok w ↦ rw w.result-is (opened layout view run c.args.store c.in-Some.core.now c.open.new.self c.args.stamp _
+          h' at c.open.ensures.nodes
+          (subst (λ r. Opens c.in-Some.core.now c.open.new.self c.args.stamp (past_of c.args.store run) r)
+          w.in-Ok.is opens))
+      | in-Err w ↦ rw w.result-is (not-opened layout view view run c.args.store c.in-Some.core.now
+          c.open.new.self c.args.stamp _ h' at
+          (subst (λ r. Opens c.in-Some.core.now c.open.new.self c.args.stamp (past_of c.args.store run) r)
+          w.in-Err.is opens))
     ]
