@@ -1,22 +1,31 @@
 /* Measures reads of one store from several threads, each read with a copy of the handle: under the reading side of a
  * read-write lock, under a mutex, under one of 16 slots by the thread, of which a writer would lock all, and without a
- * lock, which only reads allow. Prints million reads a second, best and median of 9 runs, which take turns. */
+ * lock, which only reads allow. With LMDB defined, the same rows of LMDB too, which needs no lock: each thread has a
+ * transaction that reads, and a cursor. Prints million reads a second, best and median of 9 runs, which take turns. */
 #include "hlcstore.h"
 #include <pthread.h>
 #include <stdio.h>
 #include <stdlib.h>
 #include <string.h>
 #include <time.h>
+#ifdef LMDB
+#include <lmdb.h>
+#include <unistd.h>
+#endif
 
 enum { KEYS = 1000, VERSIONS = 20, READS = 400000, RUNS = 9, MOST = 4, SLOTS = 16 };
+#ifdef LMDB
+enum kind { SHARED, SINGLE, BY_SLOT, NONE, PAGES, KINDS };
+#else
 enum kind { SHARED, SINGLE, BY_SLOT, NONE, KINDS };
+#endif
 
 /* Slots share no cache line. */
 struct slot {
     _Alignas(128) pthread_rwlock_t lock;
 };
 
-static const char *const names[KINDS] = { "read-write lock", "mutex", "slots", "no lock" };
+static const char *const names[] = { "read-write lock", "mutex", "slots", "no lock", "LMDB" };
 static pthread_rwlock_t shared = PTHREAD_RWLOCK_INITIALIZER;
 static pthread_mutex_t single = PTHREAD_MUTEX_INITIALIZER;
 static struct slot slots[SLOTS];
@@ -51,9 +60,73 @@ static void read_key(unsigned k)
     if (len != 8 || memcmp(out, key, 8) != 0) exit(1);
 }
 
+#ifdef LMDB
+static MDB_env *env;
+static MDB_dbi rows;
+
+static void done(int code)
+{
+    if (code != 0) exit(1);
+}
+
+/* A row's key: the key, a zero, and the inverted stamp, the high byte first, so that the newest version comes first. */
+static void row_of(unsigned k, uint64_t stamp, unsigned char *row)
+{
+    key_of(k, (char *)row);
+    for (int i = 0; i < 8; i++) row[9 + i] = (unsigned char)(~stamp >> (56 - 8 * i));
+}
+
+static void fill_pages(void)
+{
+    char path[] = "/dev/shm/hlcstore-readers-XXXXXX", remove[80];
+    unsigned char row[17];
+    MDB_txn *txn;
+    if (!mkdtemp(path)) exit(1);
+    done(mdb_env_create(&env));
+    done(mdb_env_set_mapsize(env, (size_t)1 << 30));
+    done(mdb_env_open(env, path, MDB_NOSYNC | MDB_WRITEMAP | MDB_NOTLS, 0600));
+    snprintf(remove, sizeof remove, "rm -r %s", path);
+    if (system(remove) != 0) exit(1);
+    done(mdb_txn_begin(env, NULL, 0, &txn));
+    done(mdb_dbi_open(txn, NULL, 0, &rows));
+    for (unsigned i = 0; i < KEYS * VERSIONS; i++) {
+        row_of(i, (uint64_t)(i + 1) << 16, row);
+        MDB_val key = { sizeof row, row }, value = { 8, row };
+        done(mdb_put(txn, rows, &key, &value, 0));
+    }
+    done(mdb_txn_commit(txn));
+}
+
+static void read_pages(const struct reader *reader)
+{
+    MDB_txn *txn;
+    MDB_cursor *cursor;
+    unsigned char row[17];
+    char key[9];
+    done(mdb_txn_begin(env, NULL, MDB_RDONLY, &txn));
+    done(mdb_cursor_open(txn, rows, &cursor));
+    for (unsigned i = 0; i < reader->reads; i++) {
+        unsigned k = reader->first + 379 * i;
+        row_of(k, (uint64_t)(KEYS * VERSIONS) << 16, row);
+        key_of(k, key);
+        MDB_val found = { sizeof row, row }, value;
+        done(mdb_cursor_get(cursor, &found, &value, MDB_SET_RANGE));
+        if (memcmp(found.mv_data, key, 9) != 0 || value.mv_size != 8 || memcmp(value.mv_data, key, 8) != 0) exit(1);
+    }
+    mdb_cursor_close(cursor);
+    mdb_txn_abort(txn);
+}
+#endif
+
 static void *read_all(void *at)
 {
     const struct reader *reader = at;
+#ifdef LMDB
+    if (reader->kind == PAGES) {
+        read_pages(reader);
+        return NULL;
+    }
+#endif
     for (unsigned i = 0; i < reader->reads; i++) {
         if (reader->kind == SHARED) pthread_rwlock_rdlock(&shared);
         if (reader->kind == SINGLE) pthread_mutex_lock(&single);
@@ -106,6 +179,9 @@ int main(void)
 {
     double rates[KINDS][RUNS];
     fill();
+#ifdef LMDB
+    fill_pages();
+#endif
     for (unsigned i = 0; i < SLOTS; i++) pthread_rwlock_init(&slots[i].lock, NULL);
     for (unsigned threads = 1; threads <= MOST; threads *= 2) {
         for (int run = 0; run < RUNS; run++) {
@@ -114,7 +190,7 @@ int main(void)
         printf("threads %u:", threads);
         for (int kind = 0; kind < KINDS; kind++) {
             qsort(rates[kind], RUNS, sizeof rates[kind][0], by_rate);
-            printf(" %s %.2f, %.2f%s", names[kind], rates[kind][0], rates[kind][RUNS / 2], kind < NONE ? ";" : "\n");
+            printf(" %s %.2f, %.2f%s", names[kind], rates[kind][0], rates[kind][RUNS / 2], kind + 1 < KINDS ? ";" : "\n");
         }
     }
     hlc_close(&store);
