@@ -79,14 +79,14 @@ func (m *Machine) Send(reading uint64) (Stamp, error) {
 // stamp and above the machine's last one.
 //
 // Refusals: those of Node.Receive.
-func (m *Machine) Receive(reading uint64, seen Stamp) (Stamp, error) {
+func (m *Machine) Receive(seen Stamp, reading uint64) (Stamp, error) {
 	stamp, err := m.acting(m.present()).Receive(seen, reading)
 	return m.moved(stamp, err)
 }
 
 // Observe does what Receive does, after the machine read at a cut with this stamp: what it writes later is above it.
-func (m *Machine) Observe(reading uint64, seen Stamp) (Stamp, error) {
-	return m.Receive(reading, seen)
+func (m *Machine) Observe(seen Stamp, reading uint64) (Stamp, error) {
+	return m.Receive(seen, reading)
 }
 
 // acting returns the machine's node in a store, raised to the clock.

@@ -98,7 +98,7 @@ func (w *town) work(m *hlcstore.Machine, random *rand.Rand, turn int) {
 	}
 	select {
 	case got := <-w.boxes[id]:
-		must(m.Receive(clock, got.stamp))
+		must(m.Receive(got.stamp, clock))
 		w.accept(m.Write(clock, []byte(fmt.Sprintf("told%d,%d", got.sender, id)), []byte(fmt.Sprint(got.turn))))
 	default:
 	}

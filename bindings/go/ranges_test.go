@@ -100,8 +100,8 @@ func TestMachineHasOneClockAndNumbersInEachStore(t *testing.T) {
 	equal(t, must(m.Write(5, []byte("b"), nil)), hlcstore.Routed{Store: 0, Item: hlcstore.Item{
 		Node: 3, Number: 1, Stamp: at(5) + 2, Key: "b"}})
 	equal(t, must(m.Send(6)), at(6))
-	equal(t, must(m.Receive(6, at(9))), at(9)+1)
-	equal(t, must(m.Observe(20, at(9))), at(20))
+	equal(t, must(m.Receive(at(9), 6)), at(9)+1)
+	equal(t, must(m.Observe(at(9), 20)), at(20))
 	equal(t, m.Last(), at(20))
 	reports := must(m.ReportAll(20))
 	for store, number := range []uint64{2, 0, 0, 1} {

@@ -16,7 +16,7 @@ with Ranges(division, 2) as ranges:
     # A message orders what its sender wrote before it, and what its receiver writes after it, in whatever stores.
     ranges.write(first, 10, b"apple", b"red")
     message = first.send(11)
-    other.receive(12, message)
+    other.receive(message, 12)
     pear = ranges.write(other, 13, b"pear", b"green")
     ranges.write(other, 13, b"plum", b"blue")
     ranges.write(other, 13, b"quince", b"yellow")

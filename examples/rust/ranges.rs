@@ -17,7 +17,7 @@ fn main() -> Result<(), RangesError> {
 
     ranges.write(&mut lyon, 10, "apple", "red")?;
     let message = lyon.send(11)?;
-    rome.receive(12, message)?; // so what Rome writes is above what Lyon wrote, in whatever store
+    rome.receive(message, 12)?; // so what Rome writes is above what Lyon wrote, in whatever store
     let pear = ranges.write(&mut rome, 13, "pear", "green")?;
     for (key, value) in [("plum", "blue"), ("quince", "yellow"), ("zucchini", "green")] {
         ranges.write(&mut rome, 13, key, value)?;

@@ -86,13 +86,13 @@ class Machines(unittest.TestCase):
         self.assertEqual(machine.delete(4, b"z"), (3, Item.delete(3, 0, Stamp(5, 1), b"z")))
         self.assertEqual(machine.write(5, b"b", b""), (0, Item.write(3, 1, Stamp(5, 2), b"b", b"")))
         self.assertEqual(machine.send(6), Stamp(6))
-        self.assertEqual(machine.receive(6, Stamp(9)), Stamp(9, 1))
-        self.assertEqual(machine.observe(reading=20, stamp=Stamp(9)), Stamp(20))
+        self.assertEqual(machine.receive(Stamp(9), 6), Stamp(9, 1))
+        self.assertEqual(machine.observe(seen=Stamp(9), reading=20), Stamp(20))
         self.assertEqual((machine.id, machine.last, repr(machine)), (3, Stamp(20), "<Machine 3 at 20.0>"))
         reports = [Item.report(3, number, Stamp(20, 1 + i)) for i, number in enumerate((2, 0, 0, 1))]
         self.assertEqual(machine.report_all(20), list(enumerate(reports)))
         with self.assertRaises(TypeError):
-            machine.receive(Stamp(9), 6)
+            machine.receive(6, Stamp(9))
         self.assertEqual([item.kind for _, item in machine.retire_all(30)], ["retire"] * 4)
         for call in (lambda: machine.write(31, b"a", b""), lambda: machine.send(31), lambda: machine.report_all(31)):
             with self.assertRaises(Retired):
@@ -381,7 +381,7 @@ class Threads(unittest.TestCase):
         except queue.Empty:
             pass
         else:
-            machine.receive(clock, sent)
+            machine.receive(sent, clock)
             self.accept(stores, *machine.write(clock, b"told%d,%d" % (sender, machine.id), b"%d" % told))
         for report in machine.report_all(clock):
             self.accept(stores, *report)

@@ -60,7 +60,7 @@ machine = Machine(Division.by_hash(3), 0)
 with Ranges(division, machines=1) as ranges:
     assert_type(machine.write(1, b"a", memoryview(b"x")), tuple[int, Item])
     assert_type(machine.report_all(2), list[tuple[int, Item]])
-    assert_type((machine.send(3), machine.receive(4, stamp(5)), machine.last), tuple[Stamp, Stamp, Stamp])
+    assert_type((machine.send(3), machine.receive(stamp(5), 4), machine.last), tuple[Stamp, Stamp, Stamp])
     assert_type((ranges.join(), ranges.machine(0)), tuple[Machine, Machine])
     assert_type(ranges.write(machine, 5, b"a", bytearray(b"x")), Stamp)
     try:

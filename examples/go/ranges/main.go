@@ -44,7 +44,7 @@ func main() {
 	// A message orders what its sender wrote before it, and what its receiver writes after it, in whatever stores.
 	write(first, 10, "apple", "red")
 	message := must(first.Send(11))
-	must(other.Receive(12, message))
+	must(other.Receive(message, 12))
 	pear := write(other, 13, "pear", "green")
 	write(other, 13, "plum", "blue")
 	write(other, 13, "quince", "yellow")

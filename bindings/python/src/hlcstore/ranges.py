@@ -207,18 +207,18 @@ class Machine:
             self._last = self._acting(self._present()).send(reading)
             return self._last
 
-    def receive(self, reading: int, stamp: int) -> Stamp:
+    def receive(self, seen: int, reading: int) -> Stamp:
         """Receive a message with this stamp at this reading, which is no stamp. Return the stamp of the event, which is
         above that stamp and above the machine's last one."""
         if isinstance(reading, Stamp):
-            raise TypeError("the reading must not be a stamp: it comes before the stamp")
+            raise TypeError("the reading must not be a stamp: it comes after the stamp")
         with self._lock:
-            self._last = self._acting(self._present()).receive(stamp, reading)
+            self._last = self._acting(self._present()).receive(seen, reading)
             return self._last
 
-    def observe(self, reading: int, stamp: int) -> Stamp:
+    def observe(self, seen: int, reading: int) -> Stamp:
         """Do what `receive` does, after the machine read at a cut with this stamp: what it writes later is above it."""
-        return self.receive(reading, stamp)
+        return self.receive(seen, reading)
 
     def __repr__(self) -> str:
         return f"<Machine {self._id} at {self._last}>"

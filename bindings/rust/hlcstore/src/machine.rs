@@ -146,11 +146,11 @@ impl Machine {
         self.clock.send(reading)
     }
 
-    /// Receives a message with this stamp at this reading. Returns the stamp of the event, which is above that stamp
+    /// Receives a message with this stamp, at this reading. Returns the stamp of the event, which is above that stamp
     /// and above the machine's last one.
     ///
     /// Refusals: those of [`send`](Machine::send).
-    pub fn receive(&mut self, reading: u64, seen: Stamp) -> Result<Stamp> {
+    pub fn receive(&mut self, seen: Stamp, reading: u64) -> Result<Stamp> {
         self.clock.receive(seen, reading)
     }
 
@@ -158,8 +158,8 @@ impl Machine {
     /// Returns the stamp of the event.
     ///
     /// Refusals: those of [`send`](Machine::send).
-    pub fn observe(&mut self, reading: u64, seen: Stamp) -> Result<Stamp> {
-        self.receive(reading, seen)
+    pub fn observe(&mut self, seen: Stamp, reading: u64) -> Result<Stamp> {
+        self.receive(seen, reading)
     }
 
     /// Lets the node of a store issue an item, above the machine's last stamp.

@@ -231,8 +231,8 @@ fn stamps_of_a_machine_rise_in_all_stores() {
     assert_eq!(one.write(8, "plum", "").unwrap().1.number, 1);
     let message = one.send(11).unwrap();
     assert_eq!((message, one.last()), (at(11), at(11)));
-    assert_eq!(other.receive(3, message), Ok(Stamp::new(11, 1)));
-    assert_eq!(other.observe(3, at(20)), Ok(Stamp::new(20, 1)));
+    assert_eq!(other.receive(message, 3), Ok(Stamp::new(11, 1)));
+    assert_eq!(other.observe(at(20), 3), Ok(Stamp::new(20, 1)));
     let reports = other.report_all(20).unwrap();
     let expected: Vec<_> = (0..4).map(|store| (store, Item::report(1, 0, Stamp::new(20, store as u16 + 2)))).collect();
     assert_eq!(reports, expected);

@@ -146,14 +146,14 @@ impl Feed<'_> {
             8 => {
                 if let Ok((message, known)) = self.messages.try_recv() {
                     self.learn(&known);
-                    assert!(self.machine.receive(reading, message).unwrap() > message);
+                    assert!(self.machine.receive(message, reading).unwrap() > message);
                 }
             }
             9 if event % 10 == 0 => {
                 let snapshot = self.ranges.snapshot().unwrap();
                 snapshot.get(&key).unwrap();
                 self.learn(&self.model.known_at(snapshot.stamp()));
-                assert!(self.machine.observe(reading, snapshot.stamp()).unwrap() > snapshot.stamp());
+                assert!(self.machine.observe(snapshot.stamp(), reading).unwrap() > snapshot.stamp());
             }
             _ => {
                 let store = self.random.below(self.queues.len() as u64) as usize;
