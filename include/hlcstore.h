@@ -10,10 +10,10 @@
  *
  * Answers. A call returns HLC_OK, the number of the first expected refusal, or HLC_CLOSED for a closed store. Every
  * call is total: it checks lengths and numbers itself, and is proved to answer as described here, whatever is passed to
- * it by the rules below. Where hlc_restore took bytes that neither hlc_checkpoint made, nor hlc_increment_apply from
- * bytes of one store, calls are proved to be safe, but not to answer as described. After any answer but HLC_OK the
- * store, and the node, is unchanged; hlc_accept_all, hlc_items_accept, hlc_records_apply and hlc_node_restore describe
- * exceptions.
+ * it by the rules below. Where hlc_restore took bytes that neither hlc_checkpoint made, nor hlc_increment_apply,
+ * hlc_split or hlc_merge from bytes of one store, calls are proved to be safe, but not to answer as described. After
+ * any answer but HLC_OK the store, and the node, is unchanged; hlc_accept_all, hlc_items_accept, hlc_records_apply and
+ * hlc_node_restore describe exceptions.
  * Every answer writes to every pointer, with 0 where there is nothing to return. A buffer that an answer does not fill
  * keeps its bytes.
  *
@@ -89,6 +89,8 @@
  *   hlc_saving_drop                                                               other savings
  *   hlc_increment                       108 9 15                          yes     reads, with other outputs
  *   hlc_increment_apply                 108 106 110 107 111 8 110 15      yes     all, with other outputs
+ *   hlc_split                           108 106 107 15                    yes     all, with other outputs
+ *   hlc_merge                           108 106 113 107 15                yes     all, with other outputs
  *   hlc_restore                         101 106 107 15                    yes     other stores
  *   hlc_restore_start                   101 15                            yes     other restores
  *   hlc_restore_feed                    100 15                            yes     other restores
@@ -156,10 +158,10 @@ typedef enum hlc_answer {
     HLC_BAD_KEY = 12,           /* the key has no bytes, or more than 255 */
     HLC_VALUE_TOO_LONG = 13,    /* the value has more than 65,535 bytes */
     HLC_NUMBERS_SPENT = 14,     /* no link number, or id of a snapshot, is left */
-    HLC_NO_MEMORY = 15,         /* out of memory, and no other refusal is expected; of hlc_restore, hlc_restore_finish
-                                   and hlc_increment_apply it may come in place of another refusal, but of a restore
-                                   not of bytes that are damaged, cut or no frame at all; of hlc_certificate in place of
-                                   109 */
+    HLC_NO_MEMORY = 15,         /* out of memory, and no other refusal is expected; of hlc_restore, hlc_restore_finish,
+                                   hlc_increment_apply, hlc_split and hlc_merge it may come in place of another refusal,
+                                   but of a restore not of bytes that are damaged, cut or no frame at all; of
+                                   hlc_certificate in place of 109 */
     HLC_BAD_LINE = 16,          /* of hlc_check; word: the number of the first bad line */
     HLC_NOT_SHOWN = 22,         /* of hlc_check; word: the number of the first reason of docs/formats.md, 1 to 8 */
     HLC_TOO_MANY_NODES = 26,    /* 1,024 node numbers are assigned */
@@ -176,15 +178,19 @@ typedef enum hlc_answer {
                                    hlc_saving_read: a part is left, which did not fit */
     HLC_NO_SUCH_NODE = 105,     /* of hlc_node_restore: no node has issued so many items up to this stamp */
     HLC_BAD_BYTES = 106,        /* of hlc_restore, hlc_items_accept, hlc_records_apply, and of the older checkpoint of
-                                   hlc_increment_apply; word: the number of the first fault, 1 to 7 */
-    HLC_NO_CHECKPOINT = 107,    /* of hlc_restore, and of both parts of hlc_increment_apply; word: the number of the
-                                   first reason of docs/formats.md, 1 to 9 */
+                                   hlc_increment_apply; of hlc_split and hlc_merge; word: the number of the first
+                                   fault, 1 to 7 */
+    HLC_NO_CHECKPOINT = 107,    /* of hlc_restore, hlc_split and hlc_merge, and of both parts of hlc_increment_apply;
+                                   word: the number of the first reason of docs/formats.md, 1 to 9 */
     HLC_HAS_BYTES = 108,        /* the output has bytes, and keeps them; nothing took place */
     HLC_NOT_FEWEST = 109,       /* of hlc_certificate: a vacuum to the stamp would drop a row */
     HLC_NO_INCREMENT = 110,     /* of hlc_increment_apply; word: the number of the first fault of the increment's
                                    bytes, 1 to 7; or 0, where its stamp does not fit its rows and its horizon */
     HLC_NOT_LATER = 111,        /* of hlc_increment_apply: the increment is not of a later state of this store */
-    HLC_CHANGED = 112           /* of hlc_saving_read: the store changed since the saving began */
+    HLC_CHANGED = 112,          /* of hlc_saving_read: the store changed since the saving began */
+    HLC_NOT_PARTS = 113         /* of hlc_merge; word: the first that differs: 1 the nodes at the start, or the links; 2
+                                   the open snapshots, or how many were ever opened; 3 the horizons; or 4: the keys of
+                                   the left checkpoint are not all below those of the right one */
 } hlc_answer;
 
 /* The library returns 32 bits. */
@@ -553,6 +559,28 @@ hlc_answer hlc_increment(hlc_store *store, uint64_t since, uint64_t word, hlc_ou
  * before the fault is found. Copies each row of both, and takes memory for a few times that. */
 hlc_answer hlc_increment_apply(const uint8_t *older, size_t older_len, const uint8_t *increment, size_t increment_len,
                                hlc_output *output, size_t *len, uint64_t *word) HLC_CHECKED(5, 6, 7);
+
+/* Divides the bytes of a checkpoint at a key, of any bytes or none: left gets those of a checkpoint with the rows of
+ * lower keys, right those with the others, and both have the links, the open snapshots, the horizon and the word of the
+ * whole. A store that is restored from a part answers at its keys as the whole store does, and goes on from the same
+ * log: it takes each write of another key as a report of the same number and stamp (hlc_accept_report). Two different
+ * outputs, without bytes, get the bytes; left_len, right_len: how many they are. word: 0, or the refusal's word.
+ * Refusals, in this order: 108 where one of both outputs has bytes; 106, word: the number of the first fault; 107 where
+ * a part is no checkpoint, word: the number of the first reason; 15. But 15 may come in place of 106 and 107. Takes
+ * memory for a few times the bytes. */
+hlc_answer hlc_split(const uint8_t *bytes, size_t bytes_len, const uint8_t *key, size_t key_len, hlc_output *left,
+                     hlc_output *right, size_t *left_len, size_t *right_len, uint64_t *word)
+    HLC_CHECKED(5, 6, 7, 8, 9);
+
+/* Joins the bytes of two checkpoints, of which the left one has the lower keys, into those of one with the rows of
+ * both, and with the word of the left one. If both are parts of one store that took the same log, opened and closed the
+ * same snapshots and were vacuumed to the same stamp, the result is that store's. The bytes go into an output that has
+ * none; len: how many they are. word: 0, or the refusal's word. Refusals, in this order: 108; 106 for the left bytes,
+ * and then for the right ones, word: the number of the first fault; 113, word: what does not fit; 107 where what both
+ * make is no checkpoint, word: the number of the first reason; 15. But 15 may come in place of all others but 108.
+ * Takes memory for a few times the bytes. */
+hlc_answer hlc_merge(const uint8_t *left, size_t left_len, const uint8_t *right, size_t right_len, hlc_output *output,
+                     size_t *len, uint64_t *word) HLC_CHECKED(5, 6, 7);
 
 /* Opens a closed store from the bytes of hlc_checkpoint, whoever wrote them. It continues as the saved store would
  * have: the same next items, open snapshots, horizon and answers. word: the word that was saved, or the refusal's.

@@ -21,7 +21,7 @@ ABSENT = b"no key of a store, and longer than 30 bytes"
 PLENTY = 3_000_000
 # Refusals that these calls find in what they take memory for.
 LATE = {"certificate": {109}, "check": {16}, "restore": {107}, "restore_finish": {107}}
-LATE["increment_apply"] = {8, 107, 110, 111}
+LATE |= {"increment_apply": {8, 107, 110, 111}, "split": {107}, "merge": {107, 113}}
 
 
 # ---- The table of the header ----
@@ -348,6 +348,10 @@ def count_outputs_refused(calls, store, floor):
     calls.count(9, "increment", store, floor - 1, 5, Handle())
     calls.count(108, "increment_apply", bytes(60), bytes(60), full)
     calls.count(106, "increment_apply", bytes(60), bytes(60), Handle())
+    calls.count(108, "split", bytes(60), KEY % 1, Handle(), full)
+    calls.count(106, "split", bytes(60), KEY % 1, Handle(), Handle())
+    calls.count(108, "merge", bytes(60), bytes(60), full)
+    calls.count(106, "merge", bytes(60), bytes(60), Handle())
     calls.library.call("output_drop", full)
     assert calls.starved("check", b"point 1.0\npoint")[0] == 16
 

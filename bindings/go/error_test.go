@@ -29,7 +29,7 @@ var codes = map[string]hlcstore.Code{
 // Answers that never reach the caller of the package: a call that was made, and those whose cause would be its own.
 var within = map[string]bool{
 	"HLC_OK": true, "HLC_IS_OPEN": true, "HLC_OUTSIDE": true, "HLC_MORE": true, "HLC_HAS_BYTES": true,
-	"HLC_CHANGED": true,
+	"HLC_CHANGED": true, "HLC_NOT_PARTS": true,
 }
 
 func TestErrorsAreThoseOfTheHeader(t *testing.T) {

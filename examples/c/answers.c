@@ -126,6 +126,7 @@ int main(void)
     expect_text(HLC_IS_OPEN, "the store is open already, or a restore or saving is under way");
     expect_text(HLC_NO_INCREMENT, "the bytes are no increment");
     expect_text(HLC_NOT_LATER, "the increment is not of a later state of the store");
+    expect_text(HLC_NOT_PARTS, "the checkpoints are no two parts of one store");
     expect_text(HLC_CHANGED, "the store changed since the saving began");
     expect("open", hlc_open(&store, 1), 0, HLC_OK, 0);
     uint32_t code = hlc_accept_write(&store, 0, 0, AT(1), BYTES("k"), BYTES("v"), &word);

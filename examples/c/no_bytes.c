@@ -101,13 +101,17 @@ static void certify(hlc_store *store)
 
 static void save(hlc_store *store)
 {
-    hlc_output output = HLC_NO_OUTPUT;
+    hlc_output output = HLC_NO_OUTPUT, other = HLC_NO_OUTPUT;
     uint64_t word;
-    size_t len;
+    size_t len, other_len;
     uint32_t code = hlc_checkpoint(store, 0, &output, &len);
     expect("checkpoint", code, len, HLC_OK, 164);
     read_no_piece(&output, len);
     hlc_output_drop(&output);
+    code = hlc_split(NONE, NONE, &output, &other, &len, &other_len, &word);
+    expect("split, no bytes", code, len + other_len + word, HLC_BAD_BYTES, 1);
+    code = hlc_merge(NONE, NONE, &output, &len, &word);
+    expect("merge, no bytes", code, len + word, HLC_BAD_BYTES, 1);
     code = hlc_increment_apply(NONE, NONE, &output, &len, &word);
     expect("increment, no bytes", code, len + word, HLC_BAD_BYTES, 1);
     read_no_piece(&output, 0);

@@ -6,7 +6,7 @@
 
 #define BYTES(s) (const uint8_t *)(s), sizeof(s) - 1
 #define AT(l) ((uint64_t)(l) << 16)
-#define STEPS 21
+#define STEPS 23
 #define PIECE 50
 
 static long left = -1;
@@ -19,6 +19,10 @@ static size_t saved_len;
 /* An increment of the same store, in which nothing was accepted since. */
 static uint8_t increment[1024];
 static size_t increment_len;
+
+/* Both parts of the checkpoint at a key. */
+static uint8_t parts[2][1024];
+static size_t parts_len[2];
 
 void *__real_malloc(size_t size);
 void *__real_realloc(void *at, size_t size);
@@ -123,6 +127,31 @@ static uint32_t apply(void)
     return code;
 }
 
+/* Divides the checkpoint at a key. */
+static uint32_t divide(void)
+{
+    hlc_output outputs[2] = { HLC_NO_OUTPUT, HLC_NO_OUTPUT };
+    uint64_t word;
+    size_t len[2];
+    uint32_t code = hlc_split(saved, saved_len, BYTES("b"), &outputs[0], &outputs[1], &len[0], &len[1], &word);
+    if (word != 0) wrong++;
+    for (int i = 0; i < 2; i++) parts_len[i] = take(&outputs[i], code, len[i], parts[i], sizeof parts[i]);
+    return code;
+}
+
+/* Joins both parts into the checkpoint again. */
+static uint32_t join_parts(void)
+{
+    hlc_output output = HLC_NO_OUTPUT;
+    uint8_t made[1024];
+    uint64_t word;
+    size_t len;
+    uint32_t code = hlc_merge(parts[0], parts_len[0], parts[1], parts_len[1], &output, &len, &word);
+    len = take(&output, code, len, made, sizeof made);
+    if (word != 0 || (code == HLC_OK && (len != saved_len || memcmp(made, saved, len) != 0))) wrong++;
+    return code;
+}
+
 static uint32_t call(int step, hlc_store *store)
 {
     uint8_t out[1024];
@@ -151,7 +180,9 @@ static uint32_t call(int step, hlc_store *store)
     case 16: return save(store);
     case 17: return save_increment(store);
     case 18: return apply();
-    case 19: return restore(saved, saved_len);
+    case 19: return divide();
+    case 20: return join_parts();
+    case 21: return restore(saved, saved_len);
     default: return restore_in_pieces(saved, saved_len);
     }
 }

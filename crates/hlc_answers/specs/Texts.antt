@@ -47,6 +47,7 @@ answer_words answer =
     else if answer == 110 then (codes "HLC_NO_INCREMENT", codes "the bytes are no increment")
     else if answer == 111 then (codes "HLC_NOT_LATER", codes "the increment is not of a later state of the store")
     else if answer == 112 then (codes "HLC_CHANGED", codes "the store changed since the saving began")
+    else if answer == 113 then (codes "HLC_NOT_PARTS", codes "the checkpoints are no two parts of one store")
     else ([], [])
 
 abbrev pub answer_name : ℕ → List ℕ

@@ -76,6 +76,10 @@ fn words(answer: u32) -> (&'static str, &'static str)
             "the increment is not of a later state of the store",
         ),
         112 => ("HLC_CHANGED", "the store changed since the saving began"),
+        113 => (
+            "HLC_NOT_PARTS",
+            "the checkpoints are no two parts of one store",
+        ),
         _ => ("", ""),
     }
 }

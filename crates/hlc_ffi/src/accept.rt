@@ -67,8 +67,7 @@ pub extern "C" fn hlc_accept_report(
     stamp: u64,
     word: &mut u64,
 ) -> u32
-    ensures answer { IsAccepting store.old.value store.new.value
-        (an_item node number stamp a_report) result word.new }
+    ensures answer { IsAccepting store.old.value store.new.value (an_item node number stamp a_report) result word.new }
     ensures same { result ≢ 0 → store.new.value ≡ store.old.value }
     ensures nodes { nodes_in_handle store.new.value ≡ nodes_in_handle store.old.value }
 {
@@ -87,8 +86,7 @@ pub extern "C" fn hlc_accept_retire(
     stamp: u64,
     word: &mut u64,
 ) -> u32
-    ensures answer { IsAccepting store.old.value store.new.value
-        (an_item node number stamp a_retire) result word.new }
+    ensures answer { IsAccepting store.old.value store.new.value (an_item node number stamp a_retire) result word.new }
     ensures same { result ≢ 0 → store.new.value ≡ store.old.value }
     ensures nodes { nodes_in_handle store.new.value ≡ nodes_in_handle store.old.value }
 {
@@ -143,10 +141,8 @@ pub extern "C" fn hlc_check_report(
     stamp: u64,
     word: &mut u64,
 ) -> u32
-    ensures answer { IsChecking store.old.room.value
-        (an_item node number stamp a_report) result word.new }
-    ensures retire { IsChecking store.old.room.value
-        (an_item node number stamp a_retire) result word.new }
+    ensures answer { IsChecking store.old.room.value (an_item node number stamp a_report) result word.new }
+    ensures retire { IsChecking store.old.room.value (an_item node number stamp a_retire) result word.new }
     ensures same { IsGivenBack store.old.room store.new.room }
 {
     let stamp = Stamp::from_bits(stamp);
@@ -158,8 +154,7 @@ pub extern "C" fn hlc_check_report(
 /// Lets a node join. Returns 0, its number and the stamp at which its clock starts; or 26 or 15.
 #[unsafe(no_mangle)]
 pub extern "C" fn hlc_join(alloc: Global, store: &mut Store, node: &mut u16, start: &mut u64) -> u32
-    ensures answer { OnStorePast store.old.value store.new.value
-        ((result ≡ 100) × (node.new ≡ 0) × (start.new ≡ 0))
+    ensures answer { OnStorePast store.old.value store.new.value ((result ≡ 100) × (node.new ≡ 0) × (start.new ≡ 0))
         (λ old new past. ReturnsJoined old new past result node.new start.new) }
     ensures nothing { result ≢ 0 → (node.new ≡ 0) × (start.new ≡ 0) }
     ensures same { result ≢ 0 → store.new.value ≡ store.old.value }
@@ -179,8 +174,7 @@ pub extern "C" fn hlc_join_at(
     node: &mut u16,
     word: &mut u64,
 ) -> u32
-    ensures answer { OnStorePast store.old.value store.new.value
-        ((result ≡ 100) × (node.new ≡ 0) × (word.new ≡ 0))
+    ensures answer { OnStorePast store.old.value store.new.value ((result ≡ 100) × (node.new ≡ 0) × (word.new ≡ 0))
         (λ old new past. ReturnsJoinedAt old new start past result node.new word.new) }
     ensures nothing { result ≢ 0 → node.new ≡ 0 }
     ensures same { result ≢ 0 → store.new.value ≡ store.old.value }
@@ -203,8 +197,7 @@ pub extern "C" fn hlc_accept_all(
     many: &mut usize,
     word: &mut u64,
 ) -> u32
-    ensures answer { OnStorePast store.old.value store.new.value
-        ((result ≡ 100) × (many.new ≡ 0) × (word.new ≡ 0))
+    ensures answer { OnStorePast store.old.value store.new.value ((result ≡ 100) × (many.new ≡ 0) × (word.new ≡ 0))
         (λ old new past. AreEntered new entries.now bytes.now past result many.new word.new) }
     ensures nodes { nodes_in_handle store.new.value ≡ nodes_in_handle store.old.value }
 {

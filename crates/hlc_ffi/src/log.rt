@@ -43,8 +43,7 @@ pub extern "C" fn hlc_item_delete(
     out: &mut [u8],
     len: &mut usize,
 ) -> u32
-    ensures { ReturnsItem (an_item node number stamp (a_write key.now None))
-        result len.new out.old out.new }
+    ensures { ReturnsItem (an_item node number stamp (a_write key.now None)) result len.new out.old out.new }
 {
     let item = ItemRef::write(node, number, Stamp::from_bits(stamp), key, None);
     log::put(&item, out, len)
@@ -91,9 +90,8 @@ pub extern "C" fn hlc_items_accept(
     many: &mut usize,
     word: &mut u64,
 ) -> u32
-    ensures answer { OnStorePast store.old.value store.new.value
-        ((result ≡ 100) × (used.new ≡ 0) × (many.new ≡ 0) × (word.new ≡ 0))
-        (λ old new past. AreTaken (nodes old) new bytes.now past result used.new many.new word.new) }
+    ensures answer { OnStorePast store.old.value store.new.value ((result ≡ 100) × (used.new ≡ 0) × (many.new ≡ 0)
+        × (word.new ≡ 0)) (λ old new past. AreTaken (nodes old) new bytes.now past result used.new many.new word.new) }
     ensures nodes { nodes_in_handle store.new.value ≡ nodes_in_handle store.old.value }
 {
     on_core!(alloc, store, [used, many, word], |core| {
@@ -130,10 +128,9 @@ pub extern "C" fn hlc_records_apply(
     threshold: &mut u64,
     word: &mut u64,
 ) -> u32
-    ensures answer { OnStorePast store.old.value store.new.value
-        ((result ≡ 100) × (used.new ≡ 0) × (many.new ≡ 0) × (threshold.new ≡ 0) × (word.new ≡ 0))
-        (λ old new past. ReturnsApplied (nodes old) new bytes.now past result used.new many.new
-        threshold.new word.new) }
+    ensures answer { OnStorePast store.old.value store.new.value ((result ≡ 100) × (used.new ≡ 0) × (many.new ≡ 0)
+        × (threshold.new ≡ 0) × (word.new ≡ 0)) (λ old new past. ReturnsApplied (nodes old) new bytes.now past result
+        used.new many.new threshold.new word.new) }
     ensures nodes { nodes_in_handle store.new.value ≡ nodes_in_handle store.old.value }
 {
     on_core!(alloc, store, [used, many, threshold, word], |core| {

@@ -55,8 +55,7 @@ pub extern "C" fn hlc_node_write(
     number: &mut u64,
     word: &mut u64,
 ) -> u32
-    ensures { ReturnsIssued node.old node.new (a_write key.now (Some value.now)) reading
-        result number.new word.new }
+    ensures { ReturnsIssued node.old node.new (a_write key.now (Some value.now)) reading result number.new word.new }
 {
     hlc_node_calls::write(node, reading, key, Some(value), number, word)
 }
@@ -70,8 +69,7 @@ pub extern "C" fn hlc_node_delete(
     number: &mut u64,
     word: &mut u64,
 ) -> u32
-    ensures { ReturnsIssued node.old node.new (a_write key.now None) reading
-        result number.new word.new }
+    ensures { ReturnsIssued node.old node.new (a_write key.now None) reading result number.new word.new }
 {
     hlc_node_calls::write(node, reading, key, None, number, word)
 }
@@ -105,8 +103,7 @@ pub extern "C" fn hlc_node_retire(
 /// Sends a message. Returns 0 and its stamp, or a refusal and its word.
 #[unsafe(no_mangle)]
 pub extern "C" fn hlc_node_send(node: &mut NodeCore, reading: u64, word: &mut u64) -> u32
-    ensures { ReturnsStamped node.old node.new (expected_event node.old (node.old.last ∷ []) reading)
-        result word.new }
+    ensures { ReturnsStamped node.old node.new (expected_event node.old (node.old.last ∷ []) reading) result word.new }
 {
     hlc_node_calls::send(node, reading, word)
 }

@@ -37,9 +37,8 @@ pub extern "C" fn hlc_restore_finish(
 ) -> u32
     ensures answer { HasFinished restoring.old.value restoring.new.value
         store.old.value store.new.value result word.new }
-    ensures represents { (fed : List ℕ) (saved : ℕ) (past : List Step)
-        → HasReadAll restoring.old.value fed → BytesRepresent fed saved past
-        → RestoresPast store.old.value store.new.value saved past result word.new }
+    ensures represents { (fed : List ℕ) (saved : ℕ) (past : List Step) → HasReadAll restoring.old.value fed
+        → BytesRepresent fed saved past → RestoresPast store.old.value store.new.value saved past result word.new }
 {
     *word = 0;
     let Some(reader) = restoring.take(alloc) else {

@@ -33,8 +33,7 @@ pub extern "C" fn hlc_open_snapshot(
     stamp: u64,
     id: &mut u64,
 ) -> u32
-    ensures answer { OnStorePast store.old.value store.new.value
-        ((result ≡ 100) × (id.new ≡ 0))
+    ensures answer { OnStorePast store.old.value store.new.value ((result ≡ 100) × (id.new ≡ 0))
         (λ old new past. ReturnsOpened old new stamp past result id.new) }
     ensures same { result ≢ 0 → store.new.value ≡ store.old.value }
     ensures nodes { nodes_in_handle store.new.value ≡ nodes_in_handle store.old.value }
@@ -52,8 +51,7 @@ pub extern "C" fn hlc_open_snapshot_at_floor(
     id: &mut u64,
     stamp: &mut u64,
 ) -> u32
-    ensures answer { OnStorePast store.old.value store.new.value
-        ((result ≡ 100) × (id.new ≡ 0) × (stamp.new ≡ 0))
+    ensures answer { OnStorePast store.old.value store.new.value ((result ≡ 100) × (id.new ≡ 0) × (stamp.new ≡ 0))
         (λ old new past. ReturnsOpenedAtFloor old new past result id.new stamp.new) }
     ensures nothing { result ≢ 0 → stamp.new ≡ 0 }
     ensures same { result ≢ 0 → store.new.value ≡ store.old.value }
@@ -73,10 +71,8 @@ pub extern "C" fn hlc_read(
     out: &mut [u8],
     len: &mut usize,
 ) -> u32
-    ensures answer { OnReaderPast store.old.room.value
-        ((result ≡ 100) × (len.new ≡ 0) × (out.new ≡ out.old))
-        (λ core past. ReturnsRead (stamp_of id past) (writes past) key.now
-        result len.new out.old out.new) }
+    ensures answer { OnReaderPast store.old.room.value ((result ≡ 100) × (len.new ≡ 0) × (out.new ≡ out.old))
+        (λ core past. ReturnsRead (stamp_of id past) (writes past) key.now result len.new out.old out.new) }
     ensures same { IsGivenBack store.old.room store.new.room }
 {
     *len = 0;
@@ -91,8 +87,7 @@ pub extern "C" fn hlc_close_snapshot(
     id: u64,
     stamp: &mut u64,
 ) -> u32
-    ensures answer { OnStorePast store.old.value store.new.value
-        ((result ≡ 100) × (stamp.new ≡ 0))
+    ensures answer { OnStorePast store.old.value store.new.value ((result ≡ 100) × (stamp.new ≡ 0))
         (λ old new past. ReturnsClosed new id past result stamp.new) }
     ensures same { result ≢ 0 → store.new.value ≡ store.old.value }
     ensures nodes { nodes_in_handle store.new.value ≡ nodes_in_handle store.old.value }
@@ -130,8 +125,7 @@ pub extern "C" fn hlc_floor(store: &mut Reader, stamp: &mut u64) -> u32
 /// Returns 0 and the number of stored rows, or 2^64 - 1 where that is greater. It takes no memory.
 #[unsafe(no_mangle)]
 pub extern "C" fn hlc_rows(store: &mut Reader, rows: &mut u64) -> u32
-    ensures answer { OnReader store.old.room.value
-        ((result ≡ 100) × (rows.new ≡ 0))
+    ensures answer { OnReader store.old.room.value ((result ≡ 100) × (rows.new ≡ 0))
         (λ core. (result ≡ 0) × (rows.new ≡ narrowed (length core.rows))) }
     ensures same { IsGivenBack store.old.room store.new.room }
 {
@@ -165,10 +159,8 @@ pub extern "C" fn hlc_sizes(
 /// fit, the bytes: of each key its length in eight bytes, the key, and the same of its value; or 10. No memory.
 #[unsafe(no_mangle)]
 pub extern "C" fn hlc_list(store: &mut Reader, id: u64, out: &mut [u8], len: &mut usize) -> u32
-    ensures answer { OnReaderPast store.old.room.value
-        ((result ≡ 100) × (len.new ≡ 0) × (out.new ≡ out.old))
-        (λ core past. ReturnsListing (stamp_of id past) (writes past)
-        result len.new out.old out.new) }
+    ensures answer { OnReaderPast store.old.room.value ((result ≡ 100) × (len.new ≡ 0) × (out.new ≡ out.old))
+        (λ core past. ReturnsListing (stamp_of id past) (writes past) result len.new out.old out.new) }
     ensures nothing { result ≢ 0 → (len.new ≡ 0) × (out.new ≡ out.old) }
     ensures same { IsGivenBack store.old.room store.new.room }
 {
@@ -254,8 +246,7 @@ pub extern "C" fn hlc_changes(
     len: &mut usize,
     many: &mut usize,
 ) -> u32
-    ensures answer { OnReaderPast store.old.room.value
-        (ListsNothing result len.new many.new out.old out.new)
+    ensures answer { OnReaderPast store.old.room.value (ListsNothing result len.new many.new out.old out.new)
         (λ core past. ReturnsChanges (stamp_of before past) (stamp_of after past) (writes past)
         from.now to.now result len.new many.new out.old out.new) }
     ensures same { IsGivenBack store.old.room store.new.room }
@@ -278,9 +269,8 @@ pub extern "C" fn hlc_versions(
     len: &mut usize,
     many: &mut usize,
 ) -> u32
-    ensures answer { OnReader store.old.room.value
-        (ListsNothing result len.new many.new out.old out.new) (λ core. ReturnsVersions core
-        key.now above to result len.new many.new out.old out.new) }
+    ensures answer { OnReader store.old.room.value (ListsNothing result len.new many.new out.old out.new) (λ core.
+        ReturnsVersions core key.now above to result len.new many.new out.old out.new) }
     ensures same { IsGivenBack store.old.room store.new.room }
 {
     of_core!(store, [len, many], |core| {
@@ -298,8 +288,7 @@ pub extern "C" fn hlc_count(
     many: &mut u64,
 ) -> u32
     ensures answer { OnReaderPast store.old.room.value ((result ≡ 100) × (many.new ≡ 0))
-        (λ core past. ReturnsCount (stamp_of id past) (writes past)
-        from.now to.now result many.new) }
+        (λ core past. ReturnsCount (stamp_of id past) (writes past) from.now to.now result many.new) }
     ensures same { IsGivenBack store.old.room store.new.room }
 {
     of_core!(store, [many], |core| count(core, id, from, to, many))
@@ -315,10 +304,8 @@ pub extern "C" fn hlc_digest(
     out: &mut [u8],
     len: &mut usize,
 ) -> u32
-    ensures answer { OnReaderPast store.old.room.value
-        ((result ≡ 100) × (len.new ≡ 0) × (out.new ≡ out.old))
-        (λ core past. ReturnsDigest (stamp_of id past) (writes past) from.now to.now
-        result len.new out.old out.new) }
+    ensures answer { OnReaderPast store.old.room.value ((result ≡ 100) × (len.new ≡ 0) × (out.new ≡ out.old))
+        (λ core past. ReturnsDigest (stamp_of id past) (writes past) from.now to.now result len.new out.old out.new) }
     ensures same { IsGivenBack store.old.room store.new.room }
 {
     of_core!(store, [len], |core| digest(core, id, from, to, out, len))
@@ -339,8 +326,7 @@ pub extern "C" fn hlc_read_all(
 ) -> u32
     ensures answer { OnReaderPast store.old.room.value
         (ListsNothing result len.new many.new out.old out.new) (λ core past. ReturnsAll
-        (stamp_of id past) (writes past) places.now bytes.now
-        result len.new many.new out.old out.new) }
+        (stamp_of id past) (writes past) places.now bytes.now result len.new many.new out.old out.new) }
     ensures same { IsGivenBack store.old.room store.new.room }
 {
     of_core!(store, [len, many], |core| {

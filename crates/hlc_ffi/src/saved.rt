@@ -1,4 +1,4 @@
-//! The calls that save a store as bytes, whole or since a stamp, and make one of bytes.
+//! The calls that save a store as bytes, whole or since a stamp; divide and join such bytes; and make a store of them.
 ghost use Rattle.std.specs.Prelude.{◌≡◌, ◌≢◌, ⊤, List, ℕ, None, MatchOption, MatchResult};
 ghost use Rattle.hlc_core.specs.Past.{Step};
 ghost use Rattle.hlc_core.specs.StoreView.{Represents};
@@ -6,6 +6,8 @@ ghost use Rattle.hlc_saved.specs.Saved.{AreOfStore, BytesRepresent};
 ghost use Rattle.hlc_ffi.specs.Handle.{IsRestoring, RestoresPast, OnReader, IsGivenBack};
 ghost use Rattle.hlc_ffi.specs.Outputs.{OnOutput};
 ghost use Rattle.hlc_increment_calls.specs.Increments.{AreAdvanced, AreIncrementOf, IsNotAdvanced, IsRefusedIncrement};
+ghost use Rattle.hlc_split_calls.specs.Halves.{AreHalves, AreJoined, IsNotDivided, IsNotJoined};
+ghost use Rattle.hlc_split_calls.specs.Outputs.{OnOutputs};
 
 use crate::handle::{into_output, of_core};
 use hlc_calls::saved;
@@ -13,6 +15,8 @@ use hlc_core::Stamp;
 use hlc_handle::{Output, Reader, Slot, Store, opened};
 use hlc_increment_calls::apply::apply;
 use hlc_increment_calls::increment::increment;
+use hlc_split_calls::merge::joined;
+use hlc_split_calls::split::into_outputs;
 use std::alloc::Global;
 
 /// Saves a store and a word of the caller's as bytes in an output. Returns 0 and how many they are; or 108, or 15.
@@ -24,15 +28,12 @@ pub extern "C" fn hlc_checkpoint(
     output: &mut Output,
     len: &mut usize,
 ) -> u32
-    ensures saved { OnReader store.old.room.value (result ≡ 100) (λ core.
-        OnOutput output.old.value output.new.value result len.new ⊤
-        (λ bytes. AreOfStore bytes word core) (result ≡ 15)) }
+    ensures saved { OnReader store.old.room.value (result ≡ 100) (λ core. OnOutput output.old.value output.new.value
+        result len.new ⊤ (λ bytes. AreOfStore bytes word core) (result ≡ 15)) }
     ensures represents { OnReader store.old.room.value (result ≡ 100) (λ core.
         OnOutput output.old.value output.new.value result len.new ⊤
-        (λ bytes. (past : List Step) → Represents core past → BytesRepresent bytes word past)
-        (result ≡ 15)) }
-    ensures nothing { result ≢ 0 → (len.new ≡ 0)
-        × (output.new.value ≡ output.old.value) }
+        (λ bytes. (past : List Step) → Represents core past → BytesRepresent bytes word past) (result ≡ 15)) }
+    ensures nothing { result ≢ 0 → (len.new ≡ 0) × (output.new.value ≡ output.old.value) }
     ensures same { IsGivenBack store.old.room store.new.room }
 {
     *len = 0;
@@ -55,11 +56,9 @@ pub extern "C" fn hlc_increment(
     horizon: &mut u64,
 ) -> u32
     ensures saved { OnReader store.old.room.value (result ≡ 100) (λ core.
-        OnOutput output.old.value output.new.value result len.new ⊤
-        (λ bytes. AreIncrementOf bytes word since core)
+        OnOutput output.old.value output.new.value result len.new ⊤ (λ bytes. AreIncrementOf bytes word since core)
         (IsRefusedIncrement core since result horizon.new)) }
-    ensures nothing { result ≢ 0 → (len.new ≡ 0)
-        × (output.new.value ≡ output.old.value) }
+    ensures nothing { result ≢ 0 → (len.new ≡ 0) × (output.new.value ≡ output.old.value) }
     ensures same { IsGivenBack store.old.room store.new.room }
 {
     *horizon = 0;
@@ -88,12 +87,48 @@ pub extern "C" fn hlc_increment_apply(
 ) -> u32
     ensures answer { OnOutput output.old.value output.new.value result len.new (word.new ≡ 0)
         (λ made. AreAdvanced older.now bytes.now made) (IsNotAdvanced older.now bytes.now result word.new) }
-    ensures nothing { result ≢ 0 → (len.new ≡ 0)
-        × (output.new.value ≡ output.old.value) }
+    ensures nothing { result ≢ 0 → (len.new ≡ 0) × (output.new.value ≡ output.old.value) }
 {
     *len = 0;
     *word = 0;
     into_output!(alloc, output, len, apply(alloc, older, bytes, word))
+}
+
+/// Divides the bytes of a checkpoint at a key into two outputs. Returns 0, or 108, or as `halves` does.
+#[unsafe(no_mangle)]
+pub extern "C" fn hlc_split(
+    alloc: Global,
+    bytes: &[u8],
+    key: &[u8],
+    left: &mut Output,
+    right: &mut Output,
+    left_len: &mut usize,
+    right_len: &mut usize,
+    word: &mut u64,
+) -> u32
+    ensures { OnOutputs left.old.value left.new.value right.old.value right.new.value result left_len.new
+        right_len.new word.new (AreHalves bytes.now key.now) (IsNotDivided bytes.now key.now result word.new) }
+{
+    into_outputs(alloc, bytes, key, left, right, left_len, right_len, word)
+}
+
+/// Joins the bytes of two checkpoints into those of one. Returns 0, or 108, or as `joined` does.
+#[unsafe(no_mangle)]
+pub extern "C" fn hlc_merge(
+    alloc: Global,
+    left: &[u8],
+    right: &[u8],
+    output: &mut Output,
+    len: &mut usize,
+    word: &mut u64,
+) -> u32
+    ensures answer { OnOutput output.old.value output.new.value result len.new (word.new ≡ 0)
+        (λ bytes. AreJoined left.now right.now bytes) (IsNotJoined left.now right.now result word.new) }
+    ensures nothing { result ≢ 0 → (len.new ≡ 0) × (output.new.value ≡ output.old.value) }
+{
+    *len = 0;
+    *word = 0;
+    into_output!(alloc, output, len, joined(alloc, left, right, word))
 }
 
 /// Opens a closed store from the bytes of `hlc_checkpoint`. Returns 0 and their word; or 101 for an open store, which

@@ -18,9 +18,8 @@ pub extern "C" fn hlc_saving_start(
     word: u64,
     len: &mut u64,
 ) -> u32
-    ensures answer { OnReader store.old.room.value
-        ((result ≡ 100) × (len.new ≡ 0) × (saving.new.value ≡ saving.old.value))
-        (λ core. HasBegun saving.old.value saving.new.value word core result len.new) }
+    ensures answer { OnReader store.old.room.value ((result ≡ 100) × (len.new ≡ 0) × (saving.new.value ≡
+        saving.old.value)) (λ core. HasBegun saving.old.value saving.new.value word core result len.new) }
     ensures same { IsGivenBack store.old.room store.new.room }
 {
     of_core!(store, [len], |core| begin(alloc, saving, core, word, len))

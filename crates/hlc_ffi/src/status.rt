@@ -44,9 +44,8 @@ pub extern "C" fn hlc_link(
     head: &mut u64,
     retired: &mut bool,
 ) -> u32
-    ensures answer { OnReaderPast store.old.room.value
-        ((result ≡ 100) × (next.new ≡ 0) × (head.new ≡ 0) × (retired.new ≡ false))
-        (λ core past. ReturnsLink (nodes core) node past result next.new head.new retired.new) }
+    ensures answer { OnReaderPast store.old.room.value ((result ≡ 100) × (next.new ≡ 0) × (head.new ≡ 0) × (retired.new
+        ≡ false)) (λ core past. ReturnsLink (nodes core) node past result next.new head.new retired.new) }
     ensures same { IsGivenBack store.old.room store.new.room }
 {
     *next = 0;
@@ -68,9 +67,8 @@ pub extern "C" fn hlc_floor_node(store: &mut Reader, node: &mut u64) -> u32
 /// Returns 0, the id and the stamp of the open snapshot at a place, by rising ids; or 10 after the last.
 #[unsafe(no_mangle)]
 pub extern "C" fn hlc_snapshot(store: &mut Reader, place: u64, id: &mut u64, stamp: &mut u64) -> u32
-    ensures answer { OnReaderPast store.old.room.value
-        ((result ≡ 100) × (id.new ≡ 0) × (stamp.new ≡ 0)) (λ core past. ReturnsSnapshot
-        (slice_get (open_snapshots past) place) result id.new stamp.new) }
+    ensures answer { OnReaderPast store.old.room.value ((result ≡ 100) × (id.new ≡ 0) × (stamp.new ≡ 0)) (λ core past.
+        ReturnsSnapshot (slice_get (open_snapshots past) place) result id.new stamp.new) }
     ensures same { IsGivenBack store.old.room store.new.room }
 {
     *id = 0;

@@ -27,13 +27,10 @@ pub extern "C" fn hlc_vacuum(
     bytes: &mut u64,
     dropped: &mut u64,
 ) -> u32
-    ensures answer { OnStore store.old.value store.new.value
-        (result ≡ 100) (λ old new. result ≡ 0 → (past : List Step) → Represents old past
-        → ReturnsVacuumedAtFloor old new past floor.new kept.new bytes.new dropped.new) }
-    ensures shortage { OnStore store.old.value store.new.value (result ≡ 100)
-        (λ old new. result ≢ 0 → result ≡ 15) }
-    ensures nothing { result ≢ 0
-        → (floor.new ≡ 0) × (kept.new ≡ 0) × (bytes.new ≡ 0) × (dropped.new ≡ 0) }
+    ensures answer { OnStore store.old.value store.new.value (result ≡ 100) (λ old new. result ≡ 0 → (past : List Step)
+        → Represents old past → ReturnsVacuumedAtFloor old new past floor.new kept.new bytes.new dropped.new) }
+    ensures shortage { OnStore store.old.value store.new.value (result ≡ 100) (λ old new. result ≢ 0 → result ≡ 15) }
+    ensures nothing { result ≢ 0 → (floor.new ≡ 0) × (kept.new ≡ 0) × (bytes.new ≡ 0) × (dropped.new ≡ 0) }
     ensures same { result ≢ 0 → store.new.value ≡ store.old.value }
     ensures nodes { nodes_in_handle store.new.value ≡ nodes_in_handle store.old.value }
 {
@@ -51,9 +48,8 @@ pub extern "C" fn hlc_vacuum(
 /// Returns why `hlc_vacuum_to` would refuse: 0, or 8 and the floor, or 9 and the horizon (GC threshold). No memory.
 #[unsafe(no_mangle)]
 pub extern "C" fn hlc_check_vacuum(store: &mut Reader, at: u64, word: &mut u64) -> u32
-    ensures answer { OnReader store.old.room.value
-        ((result ≡ 100) × (word.new ≡ 0)) (λ core. (past : List Step) → Represents core past
-        → ReturnsVacuumChecked core at past result word.new) }
+    ensures answer { OnReader store.old.room.value ((result ≡ 100) × (word.new ≡ 0)) (λ core. (past : List Step)
+        → Represents core past → ReturnsVacuumChecked core at past result word.new) }
     ensures same { IsGivenBack store.old.room store.new.room }
 {
     *word = 0;
@@ -152,8 +148,7 @@ pub extern "C" fn hlc_certificate(
         OnOutput output.old.value output.new.value result len.new (word.new ≡ 0)
         (λ text. (past : List Step) → Represents core past
         → ReturnsCertificate core stamp past word.new kept.new bytes.new text)
-        ((past : List Step) → Represents core past
-        → ReturnsNoCertificate core stamp past result word.new)) }
+        ((past : List Step) → Represents core past → ReturnsNoCertificate core stamp past result word.new)) }
     ensures nothing { result ≢ 0 → (kept.new ≡ 0) × (bytes.new ≡ 0) × (len.new ≡ 0)
         × (output.new.value ≡ output.old.value) }
     ensures same { IsGivenBack store.old.room store.new.room }

@@ -55,6 +55,7 @@ pub const HLC_NOT_FEWEST: u32 = 109;
 pub const HLC_NO_INCREMENT: u32 = 110;
 pub const HLC_NOT_LATER: u32 = 111;
 pub const HLC_CHANGED: u32 = 112;
+pub const HLC_NOT_PARTS: u32 = 113;
 
 #[repr(C)]
 #[derive(Clone, Copy, Debug, PartialEq, Eq)]
@@ -395,6 +396,26 @@ unsafe extern "C" {
         older_len: usize,
         increment: *const u8,
         increment_len: usize,
+        output: *mut hlc_output,
+        len: *mut usize,
+        word: *mut u64,
+    ) -> u32;
+    pub fn hlc_split(
+        bytes: *const u8,
+        bytes_len: usize,
+        key: *const u8,
+        key_len: usize,
+        left: *mut hlc_output,
+        right: *mut hlc_output,
+        left_len: *mut usize,
+        right_len: *mut usize,
+        word: *mut u64,
+    ) -> u32;
+    pub fn hlc_merge(
+        left: *const u8,
+        left_len: usize,
+        right: *const u8,
+        right_len: usize,
         output: *mut hlc_output,
         len: *mut usize,
         word: *mut u64,

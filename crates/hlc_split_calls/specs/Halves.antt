@@ -1,0 +1,96 @@
+-- How the bytes of the halves of a checkpoint are returned, and those of what two checkpoints are joined into.
+use Rattle.std.specs.Prelude.{◌≡◌, ℕ, ◌⊎◌, List, Ok, Err, ◌++◌}
+use Rattle.hlc_wire.specs.declared.fault.WireFault.{WireFault}
+use Rattle.hlc_wire.specs.Faults.{fault_code}
+use Rattle.hlc_core.specs.StoreView.{StoreView, with_rows_left}
+use Rattle.hlc_checkpoint.specs.Checkpoint.{IsFirstReason}
+use Rattle.hlc_checkpoint.specs.RestoreFaults.{fault_code as reason_code}
+use Rattle.hlc_checkpoint.specs.declared.checkpoint.RestoreFault.{RestoreFault}
+use Rattle.hlc_checkpoint.specs.declared.checkpoint.RestoreFault.TheVariants as reasons
+use Rattle.hlc_body.specs.Reading.{saved}
+use Rattle.hlc_saved.specs.Saved.{AreOf}
+use Rattle.hlc_split.specs.Split.{is_under, is_from, part_of}
+use Rattle.hlc_split.specs.Merge.{IsReason, merge_code}
+use Rattle.hlc_split.specs.declared.joining.MergeFault.{MergeFault}
+use Rattle.hlc_split.specs.declared.joining.MergeFault.TheVariants as faults
+
+-- the bytes are those of this word and checkpoint
+abbrev pub IsRead : List ℕ → ℕ → StoreView → Type 0
+IsRead bytes word kept = saved bytes ≡ Ok (word, kept)
+
+-- out of memory
+abbrev pub IsShort : ℕ → ℕ → Type 0
+IsShort code word = (code ≡ 15) × (word ≡ 0)
+
+-- the first fault of the bytes of a checkpoint is returned; or out of memory
+abbrev pub IsNotRead : List ℕ → ℕ → ℕ → Type 0
+IsNotRead bytes code word =
+    IsShort code word
+    ⊎ ((fault : WireFault) × (saved bytes ≡ Err fault) × (code ≡ 106) × (word ≡ fault_code fault))
+
+-- the answer for a reason why a state is no checkpoint, or for out of memory, and its word
+abbrev pub reason_answer : RestoreFault → ℕ
+reason_answer reasons.NoMemory = 15
+reason_answer reason = 107
+
+abbrev pub reason_word : RestoreFault → ℕ
+reason_word reasons.NoMemory = 0
+reason_word reason = reason_code reason
+
+-- the first reason why the state is no checkpoint is returned; or out of memory, and it is one
+abbrev pub IsNoCheckpoint : StoreView → ℕ → ℕ → Type 0
+IsNoCheckpoint kept code word =
+    (reason : RestoreFault) × IsFirstReason kept reason × (code ≡ reason_answer reason) × (word ≡ reason_word reason)
+
+-- the bytes are those of the two parts of the checkpoint of these bytes: that of the keys below this one, and that of
+-- the others; each has the word of the whole
+pub record AreHalves (bytes key left right : List ℕ) : Type 0 where
+  pub word : ℕ
+  pub kept : StoreView
+  pub of : IsRead bytes word kept
+  pub below : AreOf left word (part_of (is_under key) kept)
+  pub rest : AreOf right word (part_of (is_from key) kept)
+
+-- no bytes were made: the checkpoint was not read, or a part of it is none; or memory ran out
+abbrev pub IsNotDivided : List ℕ → List ℕ → ℕ → ℕ → Type 0
+IsNotDivided bytes key code word =
+    IsNotRead bytes code word
+    ⊎ ((own : ℕ) × (kept : StoreView) × IsRead bytes own kept
+    × (IsNoCheckpoint (part_of (is_under key) kept) code word
+    ⊎ IsNoCheckpoint (part_of (is_from key) kept) code word))
+
+-- the left state with the rows of both, those of the left one first
+abbrev pub join_of : StoreView → StoreView → StoreView
+join_of left right = with_rows_left left (left.rows ++ right.rows) left.horizon
+
+-- the bytes are those of the checkpoint into which those of the left and of the right bytes are joined, with the word
+-- of the left ones; nothing but memory was a reason against it
+pub record AreJoined (left right bytes : List ℕ) : Type 0 where
+  pub word : ℕ
+  pub other : ℕ
+  pub lower : StoreView
+  pub upper : StoreView
+  pub of_left : IsRead left word lower
+  pub of_right : IsRead right other upper
+  pub fit : IsReason lower upper faults.NoMemory
+  pub spelled : AreOf bytes word (join_of lower upper)
+
+-- the answer for a reason why two checkpoints are not joined, or for out of memory, and its word
+abbrev pub merge_answer : MergeFault → ℕ
+merge_answer faults.NoMemory = 15
+merge_answer fault = 113
+
+abbrev pub merge_word : MergeFault → ℕ
+merge_word faults.NoMemory = 0
+merge_word fault = merge_code fault
+
+-- no bytes were made: the left or else the right bytes were not read; or both are not joined, for the first reason; or
+-- what both make is no checkpoint
+abbrev pub IsNotJoined : List ℕ → List ℕ → ℕ → ℕ → Type 0
+IsNotJoined left right code word =
+    IsNotRead left code word
+    ⊎ (IsNotRead right code word
+    ⊎ ((own : ℕ) × (other : ℕ) × (lower : StoreView) × (upper : StoreView) × IsRead left own lower
+    × IsRead right other upper
+    × (((fault : MergeFault) × IsReason lower upper fault × (code ≡ merge_answer fault) × (word ≡ merge_word fault))
+    ⊎ IsNoCheckpoint (join_of lower upper) code word)))
