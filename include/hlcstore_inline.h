@@ -58,6 +58,7 @@ static inline const char *hlc_strerror(uint32_t answer)
     case HLC_NO_INCREMENT: return "the bytes are no increment";
     case HLC_NOT_LATER: return "the increment is not of a later state of the store";
     case HLC_CHANGED: return "the store changed since the saving began";
+    case HLC_NOT_PARTS: return "the checkpoints are no two parts of one store";
     }
     return other;
 }

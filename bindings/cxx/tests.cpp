@@ -279,6 +279,8 @@ void refusals() {
   // The word of a stamp is written as one, and none where there is no word.
   EXPECT(hlcstore::error(HLC_ABOVE_FLOOR, 65538).what() == hlcstore::error_text(HLC_ABOVE_FLOOR) + " (1.2)");
   EXPECT(hlcstore::error(HLC_NO_INCREMENT, 3).what() == hlcstore::error_text(HLC_NO_INCREMENT) + " (3)");
+  EXPECT(hlcstore::error(HLC_NOT_PARTS, 4).what() == hlcstore::error_text(HLC_NOT_PARTS) + " (4)");
+  EXPECT(hlcstore::error(HLC_NOT_PARTS, 4).kind() == error_kind::not_parts);
   for (const error_kind kind : {error_kind::no_increment, error_kind::closed, error_kind::no_memory}) {
     const auto code = static_cast<std::uint32_t>(kind);
     EXPECT(hlcstore::error(code).what() == hlcstore::error_text(code) && !hlcstore::error_text(code).empty());

@@ -39,6 +39,7 @@ const (
 	ErrNotFewest        = Code(C.HLC_NOT_FEWEST)         // a vacuum to the stamp would drop a row
 	ErrNoIncrement      = Code(C.HLC_NO_INCREMENT)       // word: the number of the fault, or 0, see ApplyIncrement
 	ErrNotLater         = Code(C.HLC_NOT_LATER)          // the increment is not of a later state of this store
+	ErrNotParts         = Code(C.HLC_NOT_PARTS)          // word: the number of what differs, see hlcstore.h
 )
 
 // Name returns the name of the refusal in hlcstore.h, for example HLC_NOT_NEXT, or nothing for an unknown number.

@@ -24,12 +24,13 @@ var codes = map[string]hlcstore.Code{
 	"HLC_NO_VALUE": hlcstore.ErrNoValue, "HLC_NO_SUCH_NODE": hlcstore.ErrNoSuchNode, "HLC_BAD_BYTES": hlcstore.ErrBadBytes,
 	"HLC_NO_CHECKPOINT": hlcstore.ErrNoCheckpoint, "HLC_NOT_FEWEST": hlcstore.ErrNotFewest,
 	"HLC_NO_INCREMENT": hlcstore.ErrNoIncrement, "HLC_NOT_LATER": hlcstore.ErrNotLater,
+	"HLC_NOT_PARTS": hlcstore.ErrNotParts,
 }
 
 // Answers that never reach the caller of the package: a call that was made, and those whose cause would be its own.
 var within = map[string]bool{
 	"HLC_OK": true, "HLC_IS_OPEN": true, "HLC_OUTSIDE": true, "HLC_MORE": true, "HLC_HAS_BYTES": true,
-	"HLC_CHANGED": true, "HLC_NOT_PARTS": true,
+	"HLC_CHANGED": true,
 }
 
 func TestErrorsAreThoseOfTheHeader(t *testing.T) {
@@ -83,6 +84,7 @@ func TestErrorsAsText(t *testing.T) {
 		{Code: hlcstore.ErrClosed}:                     "hlcstore: the store is closed, or no restore or saving is under way",
 		{Code: hlcstore.ErrNoIncrement}:                "hlcstore: " + hlcstore.ErrNoIncrement.Text(),
 		{Code: hlcstore.ErrBadBytes, Word: 3}:          "hlcstore: " + hlcstore.ErrBadBytes.Text() + " (3)",
+		{Code: hlcstore.ErrNotParts, Word: 4}:         "hlcstore: the checkpoints are no two parts of one store (4)",
 		{Code: hlcstore.Code(4_000_000_000)}:           "hlcstore: unknown refusal 4000000000",
 		{Code: hlcstore.ErrCounterFull, Word: 5 << 16}: "hlcstore: " + hlcstore.ErrCounterFull.Text() + " (5.0)",
 	}

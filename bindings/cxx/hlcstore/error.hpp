@@ -47,7 +47,8 @@ enum class error_kind : std::uint32_t {
   not_fewest = HLC_NOT_FEWEST,
   no_increment = HLC_NO_INCREMENT,
   not_later = HLC_NOT_LATER,
-  changed = HLC_CHANGED
+  changed = HLC_CHANGED,
+  not_parts = HLC_NOT_PARTS
 };
 
 // A refusal: the number of the answer, and the word that comes with it. Making one takes no memory.
@@ -84,6 +85,7 @@ class error : public std::exception {
       case error_kind::not_shown:
       case error_kind::bad_bytes:
       case error_kind::no_checkpoint:
+      case error_kind::not_parts:
         std::snprintf(out, room, " (%" PRIu64 ")", word_);
         break;
       case error_kind::no_increment:

@@ -88,7 +88,7 @@ def increment():
     return saved, store.increment(stamp(2))
 
 
-# For each class, but NoMemory: a call that raises it, and its word.
+# For each class, but NoMemory, and NotParts of a call that Python does not make: a call that raises it, and its word.
 REFUSED = {
     hlcstore.NoNode: (lambda: Store(0), 0),
     hlcstore.ReadingTooLarge: (lambda: Node(0).report(2**48), 0),
@@ -162,7 +162,7 @@ class Refusals(unittest.TestCase):
         named = {code: name for code, name in names.items() if name and name not in WITHOUT_CLASS}
         classes = {kind.code: kind.__name__ for kind in Error.__subclasses__()}
         self.assertEqual(classes, {code: class_name(name) for code, name in named.items()})
-        self.assertEqual(set(REFUSED) | {hlcstore.NoMemory}, set(Error.__subclasses__()))
+        self.assertEqual(set(REFUSED) | {hlcstore.NoMemory, hlcstore.NotParts}, set(Error.__subclasses__()))
         self.assertLessEqual(set(classes.values()), set(hlcstore.__all__))
 
     def test_other_numbers_have_no_text(self):

@@ -144,6 +144,10 @@ class Changed(Error):
     code = _native.HLC_CHANGED
 
 
+class NotParts(Error):
+    code = _native.HLC_NOT_PARTS
+
+
 REFUSALS: dict[int, type[Error]] = {refusal.code: refusal for refusal in Error.__subclasses__()}
 
 # In tracebacks and pickles they have the name by which a program knows them.

@@ -42,6 +42,7 @@ HLC_NOT_FEWEST: Final[int]
 HLC_NO_INCREMENT: Final[int]
 HLC_NOT_LATER: Final[int]
 HLC_CHANGED: Final[int]
+HLC_NOT_PARTS: Final[int]
 
 def apply_increment(older: ReadableBuffer, increment: ReadableBuffer) -> bytes: ...
 def check(certificate: ReadableBuffer, /) -> Checked: ...

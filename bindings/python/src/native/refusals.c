@@ -34,6 +34,7 @@ static const struct {
     REFUSAL(HLC_NO_INCREMENT),
     REFUSAL(HLC_NOT_LATER),
     REFUSAL(HLC_CHANGED),
+    REFUSAL(HLC_NOT_PARTS),
 #undef REFUSAL
 };
 

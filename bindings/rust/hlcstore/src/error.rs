@@ -83,6 +83,8 @@ pub enum ErrorKind {
     NotLater,
     /// The store changed while its checkpoint was written in pieces.
     Changed,
+    /// Two checkpoints are no neighbouring parts of one store. The word is the number of the first thing that differs.
+    NotParts,
     /// An answer that this version of the crate does not know.
     Other,
 }
@@ -136,6 +138,7 @@ impl Error {
             sys::HLC_NO_INCREMENT => ErrorKind::NoIncrement,
             sys::HLC_NOT_LATER => ErrorKind::NotLater,
             sys::HLC_CHANGED => ErrorKind::Changed,
+            sys::HLC_NOT_PARTS => ErrorKind::NotParts,
             _ => ErrorKind::Other,
         }
     }
@@ -159,7 +162,8 @@ impl fmt::Display for Error {
             | ErrorKind::BadLine
             | ErrorKind::NotShown
             | ErrorKind::BadBytes
-            | ErrorKind::NoCheckpoint => write!(f, " ({})", self.word),
+            | ErrorKind::NoCheckpoint
+            | ErrorKind::NotParts => write!(f, " ({})", self.word),
             ErrorKind::NoIncrement if self.word > 0 => write!(f, " ({})", self.word),
             _ => Ok(()),
         }

@@ -245,6 +245,9 @@ fn texts_are_those_of_the_library() {
     assert_eq!(error.to_string(), "the bytes are no increment (1)");
     let error = check_certificate("no line\n").unwrap_err();
     assert_eq!(error.to_string(), "a line of the certificate is bad (1)");
+    let error = Error::new(113, 4);
+    assert_eq!(error.kind(), ErrorKind::NotParts);
+    assert_eq!(error.to_string(), "the checkpoints are no two parts of one store (4)");
     let error = Item::report(1, 0, Stamp::ZERO);
     assert_eq!(store.accept(error).unwrap_err().to_string(), "no node has this number");
     let error: Box<dyn std::error::Error> = Box::new(store.accept_all(&[item(0, 5)]).unwrap_err());
