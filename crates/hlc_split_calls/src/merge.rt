@@ -12,7 +12,6 @@ use std::alloc::Global;
 /// the bytes; or 106 and the number of the first fault of the left bytes, or else of the right ones; or 113 and the
 /// number of the first reason why both are not joined; or 107 and the number of the first reason why what both make is
 /// no checkpoint; or 15.
-#[tactic(auto, using(crate::proofs::Refused::not_joined))]
 pub fn joined(alloc: Global, left: &[u8], right: &[u8], word: &mut u64) -> Result<Box<Vec<u8>>, u32>
     ensures ok { IfOk result (λ bytes. AreJoined left.now right.now bytes.value.items) }
     ensures nothing { IfOk result (λ _. word.new ≡ 0) }

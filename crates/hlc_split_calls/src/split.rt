@@ -12,7 +12,6 @@ use std::alloc::Global;
 /// Divides the bytes of a checkpoint at a key: those of the rows with lower keys, and those of the others, both with
 /// the word of the whole. Returns them; or 106 and the number of the first fault of the bytes; or 107 and the number of
 /// the first reason why a half is no checkpoint; or 15.
-#[tactic(auto, using(crate::proofs::Refused::not_below, crate::proofs::Refused::not_rest))]
 pub fn halves(
     alloc: Global,
     bytes: &[u8],
