@@ -607,6 +607,13 @@ void increments() {
   EXPECT(copy.horizon() == second && copy.floor() == store.floor() && copy.snapshots().empty());
   EXPECT(copy.vacuum_to(second).dropped == 2 && copy.checkpoint(3) == store.checkpoint(3));
   EXPECT(refusal_of([&] { store.increment(floor, 4); }) == HLC_BELOW_HORIZON);
+  const auto parts = hlcstore::split_checkpoint(newer, "b");
+  EXPECT(parts.first.size() < newer.size() && parts.second.size() < newer.size());
+  EXPECT(hlcstore::merge_checkpoints(parts.first, parts.second) == newer);
+  hlcstore::store below;
+  EXPECT(below.restore(parts.first) == 3 && below.floor() == store.floor());
+  EXPECT(refusal_of([&] { hlcstore::split_checkpoint("", "b"); }) == HLC_BAD_BYTES);
+  EXPECT(refusal_of([&] { hlcstore::merge_checkpoints(parts.second, parts.first); }) == HLC_NOT_PARTS);
   EXPECT(refusal_of([&] { hlcstore::apply_increment("", increment); }) == HLC_BAD_BYTES);
   EXPECT(refusal_of([&] { hlcstore::apply_increment(first, ""); }) == HLC_NO_INCREMENT);
   EXPECT(refusal_of([&] { hlcstore::apply_increment(first, first); }) == HLC_NO_INCREMENT);

@@ -585,6 +585,27 @@ static inline hlcgo_made hlcgo_increment_apply(const uint8_t *older, size_t olde
     return made;
 }
 
+typedef struct {
+    hlcgo_made left, right;
+} hlcgo_parts;
+
+static inline hlcgo_parts hlcgo_split(const uint8_t *bytes, size_t bytes_len, const uint8_t *key, size_t key_len)
+{
+    hlcgo_parts made = { { 0 }, { 0 } };
+    made.left.code = hlc_split(bytes, bytes_len, key, key_len, &made.left.output, &made.right.output, &made.left.len,
+                               &made.right.len, &made.left.word);
+    made.right.code = made.left.code;
+    made.right.word = made.left.word;
+    return made;
+}
+
+static inline hlcgo_made hlcgo_merge(const uint8_t *left, size_t left_len, const uint8_t *right, size_t right_len)
+{
+    hlcgo_made made = { 0 };
+    made.code = hlc_merge(left, left_len, right, right_len, &made.output, &made.len, &made.word);
+    return made;
+}
+
 static inline hlcgo_part hlcgo_output_read(hlc_output *output, size_t from, uint8_t *out, size_t out_len)
 {
     hlcgo_part part = { 0 };

@@ -67,6 +67,36 @@ func ApplyIncrement(w io.Writer, older, increment []byte) (int64, error) {
 	return writeOutput(w, C.hlcgo_increment_apply(olderAt, olderLen, incrementAt, incrementLen))
 }
 
+// SplitCheckpoint divides the bytes of a checkpoint at a key, and writes those of both parts: below gets the rows of
+// lower keys, from the others. Each has the links, the open snapshots, the horizon and the word of the whole, and goes on
+// from the same log: it takes each write of another key as a report.
+//
+// Refusals, in this order: ErrBadBytes; ErrNoCheckpoint, of either part. ErrNoMemory may come in place of each; and
+// errors of the writers, of which the second gets nothing where the first one fails.
+func SplitCheckpoint(below, from io.Writer, checkpoint, key []byte) error {
+	checkpointAt, checkpointLen := pointer(checkpoint)
+	keyAt, keyLen := pointer(key)
+	made := C.hlcgo_split(checkpointAt, checkpointLen, keyAt, keyLen)
+	if _, err := writeOutput(below, made.left); err != nil {
+		C.hlc_output_drop(&made.right.output)
+		return err
+	}
+	_, err := writeOutput(from, made.right)
+	return err
+}
+
+// MergeCheckpoints joins the bytes of two neighbouring parts of a checkpoint, of which the left one has the lower keys,
+// and writes those of the whole, with the word of the left one.
+//
+// Refusals, in this order: ErrBadBytes, of the left bytes and then of the right ones; ErrNotParts, with the number of
+// the first thing that differs, see hlcstore.h; ErrNoCheckpoint. ErrNoMemory may come in place of each; and errors of
+// the writer.
+func MergeCheckpoints(w io.Writer, left, right []byte) (int64, error) {
+	leftAt, leftLen := pointer(left)
+	rightAt, rightLen := pointer(right)
+	return writeOutput(w, C.hlcgo_merge(leftAt, leftLen, rightAt, rightLen))
+}
+
 // The most bytes that are copied from C at once.
 const mostCopied = 64 << 10
 

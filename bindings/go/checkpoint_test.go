@@ -210,6 +210,31 @@ func TestIncrementMakesANewerCheckpoint(t *testing.T) {
 	equal(t, digestOf(t, restored), digestOf(t, store))
 }
 
+func TestCheckpointIsSplitAndMerged(t *testing.T) {
+	whole := checkpointOf(t, filled(t, 10), 7)
+	var below, from, merged bytes.Buffer
+	ok(t, hlcstore.SplitCheckpoint(&below, &from, whole, []byte(keyOf(5))))
+	restored, word, err := hlcstore.RestoreBytes(below.Bytes())
+	ok(t, err)
+	equal(t, word, 7)
+	rest, word, err := hlcstore.RestoreBytes(from.Bytes())
+	ok(t, err)
+	equal(t, word, 7)
+	equal(t, must(restored.Rows()), 5)
+	equal(t, must(rest.Rows()), 5)
+	written, err := hlcstore.MergeCheckpoints(&merged, below.Bytes(), from.Bytes())
+	ok(t, err)
+	equal(t, written, int64(len(whole)))
+	equal(t, merged.String(), string(whole))
+	merged.Reset()
+	_, err = hlcstore.MergeCheckpoints(&merged, from.Bytes(), below.Bytes())
+	refused(t, err, hlcstore.ErrNotParts, 4)
+	_, err = hlcstore.MergeCheckpoints(&merged, below.Bytes(), checkpointOf(t, open(t, 2), 7))
+	refused(t, err, hlcstore.ErrNotParts, 1)
+	refused(t, hlcstore.SplitCheckpoint(&merged, &merged, whole[:9], nil), hlcstore.ErrBadBytes, 1)
+	equal(t, merged.Len(), 0)
+}
+
 func TestRefusalsOfIncrements(t *testing.T) {
 	store := filled(t, 10)
 	older := checkpointOf(t, store, 0)

@@ -84,7 +84,7 @@ func TestErrorsAsText(t *testing.T) {
 		{Code: hlcstore.ErrClosed}:                     "hlcstore: the store is closed, or no restore or saving is under way",
 		{Code: hlcstore.ErrNoIncrement}:                "hlcstore: " + hlcstore.ErrNoIncrement.Text(),
 		{Code: hlcstore.ErrBadBytes, Word: 3}:          "hlcstore: " + hlcstore.ErrBadBytes.Text() + " (3)",
-		{Code: hlcstore.ErrNotParts, Word: 4}:         "hlcstore: the checkpoints are no two parts of one store (4)",
+		{Code: hlcstore.ErrNotParts, Word: 4}:          "hlcstore: the checkpoints are no two parts of one store (4)",
 		{Code: hlcstore.Code(4_000_000_000)}:           "hlcstore: unknown refusal 4000000000",
 		{Code: hlcstore.ErrCounterFull, Word: 5 << 16}: "hlcstore: " + hlcstore.ErrCounterFull.Text() + " (5.0)",
 	}

@@ -113,6 +113,31 @@ inline std::string apply_increment(std::string_view older, std::string_view incr
   return made.text(len);
 }
 
+// The bytes of the two parts of a checkpoint at a key: the first has the rows of lower keys, the second the others. Each
+// has the links, the open snapshots, the horizon and the word of the whole, and goes on from the same log: it takes each
+// write of another key as a report.
+inline std::pair<std::string, std::string> split_checkpoint(std::string_view checkpoint, std::string_view key) {
+  detail::output left, right;
+  std::uint64_t word;
+  std::size_t left_len, right_len;
+  const std::uint32_t code = hlc_split(detail::bytes(checkpoint), checkpoint.size(), detail::bytes(key), key.size(),
+                                       left.raw(), right.raw(), &left_len, &right_len, &word);
+  detail::check(code, word);
+  return {left.text(left_len), right.text(right_len)};
+}
+
+// The bytes of the checkpoint that two neighbouring parts become, of which the left one has the lower keys. It has the
+// word of the left one. Where they do not fit it throws HLC_NOT_PARTS, with the number of the first thing that differs.
+inline std::string merge_checkpoints(std::string_view left, std::string_view right) {
+  detail::output made;
+  std::uint64_t word;
+  std::size_t len;
+  const std::uint32_t code =
+      hlc_merge(detail::bytes(left), left.size(), detail::bytes(right), right.size(), made.raw(), &len, &word);
+  detail::check(code, word);
+  return made.text(len);
+}
+
 // A restore from the bytes of a checkpoint in pieces of any size. `store::restore` ends it.
 class restoring {
  public:
