@@ -25,7 +25,7 @@ static inline const char *hlc_strerror(uint32_t answer)
 {
     const char *const other = "the number is no answer";
     /* In C++ an enum has no number beyond its greatest one. */
-    if (answer > HLC_CHANGED) return other;
+    if (answer > HLC_NOT_PARTS) return other;
     switch ((hlc_answer)answer) {
     case HLC_OK: return "the call was made";
     case HLC_NO_NODE: return "no node has this number";
