@@ -4,7 +4,6 @@
 use hlcstore::{ErrorKind, Node, Stamp, Store};
 use std::fs;
 use std::io;
-use std::sync::Mutex;
 
 const RLIMIT_AS: i32 = 9;
 const MORE: u64 = 64 << 20;
@@ -19,9 +18,6 @@ unsafe extern "C" {
     fn getrlimit(resource: i32, limit: *mut Limit) -> i32;
     fn setrlimit(resource: i32, limit: *const Limit) -> i32;
 }
-
-/// The limit is that of the process, so the tests take turns.
-static TURN: Mutex<()> = Mutex::new(());
 
 /// Makes a call while the process may take only so many bytes more.
 fn limited<T>(call: impl FnOnce() -> T) -> T {
@@ -39,9 +35,14 @@ fn limited<T>(call: impl FnOnce() -> T) -> T {
     result
 }
 
+/// The limit is that of the process, in which the thread of another test may just begin: so all is one test.
 #[test]
 fn lack_of_memory_is_an_error() {
-    let _turn = TURN.lock();
+    a_store_without_memory_is_as_it_was();
+    a_checkpoint_in_pieces_needs_no_memory_for_all_of_it();
+}
+
+fn a_store_without_memory_is_as_it_was() {
     let store = Store::open(1).unwrap();
     let mut node = Node::new(0, Stamp::ZERO);
     let value = vec![b'v'; 65_535];
@@ -77,9 +78,7 @@ fn lack_of_memory_is_an_error() {
     assert_eq!(snapshot.get(b"key").unwrap().as_deref(), Some(&value[..]));
 }
 
-#[test]
-fn checkpoint_in_pieces_needs_no_memory_for_all_of_it() {
-    let _turn = TURN.lock();
+fn a_checkpoint_in_pieces_needs_no_memory_for_all_of_it() {
     let store = Store::open(1).unwrap();
     let mut node = Node::new(0, Stamp::ZERO);
     let value = vec![b'v'; 65_535];
