@@ -1,5 +1,6 @@
 // hlcstore through its C library, for calls.cc: one node, whose items are accepted one at a time.
 #include "hlcstore.h"
+#include "hlcstore_inline.h"
 #include "peer.hh"
 
 class Store {
@@ -36,24 +37,24 @@ class Store {
     return true;
   }
 
+  // In pieces of 64 KiB, as a program would that goes through many keys: a pair of a piece is still near when it is read.
   uint64_t list(uint64_t id, uint64_t) {
-    // With room for 16 bytes a key and all bytes of keys and values, a listing is one pass.
-    uint64_t rows, keys, key_bytes, value_bytes;
-    check(hlc_sizes(&store_, &rows, &keys, &key_bytes, &value_bytes));
-    const size_t most = 16 * keys + key_bytes + value_bytes;
-    if (listing_.size() < most) listing_.resize(most);
-    size_t len;
-    check(hlc_list(&store_, ids_[id], listing_.data(), listing_.size(), &len));
     uint64_t count = 0;
-    for (size_t at = 0; at < len; count++) {
-      at = behind(at);
-      at = behind(at);
-      touch({reinterpret_cast<char*>(&listing_[at - 1]), 1});
+    string from;
+    for (uint32_t code = HLC_MORE; code == HLC_MORE;) {
+      size_t len, pairs;
+      code = hlc_scan(&store_, ids_[id], bytes(from), from.size(), nullptr, 0, out_, sizeof out_, &len, &pairs);
+      if (code != HLC_MORE) check(code);
+      hlc_bytes rest = {out_, len}, last = {};
+      for (hlc_pair pair; hlc_next_pair(&rest, &pair); last = pair.key) touch(text_of(pair.value));
+      count += pairs;
+      // On from the first key after the last one of the piece.
+      from.assign(text_of(last)).push_back(0);
     }
     return count;
   }
 
-  void tidy() { std::vector<uint8_t>().swap(listing_); }
+  void tidy() {}
 
   void vacuum(const Points&, uint64_t) {
     uint64_t floor, kept, bytes, dropped;
@@ -71,17 +72,10 @@ class Store {
     if (code != HLC_OK) give_up("a call was refused");
   }
   static const uint8_t* bytes(string_view text) { return reinterpret_cast<const uint8_t*>(text.data()); }
-
-  // Returns the place after a text, which is preceded by its length in eight bytes.
-  size_t behind(size_t at) const {
-    uint64_t len;
-    std::memcpy(&len, &listing_[at], 8);
-    return at + 8 + len;
-  }
+  static string_view text_of(hlc_bytes bytes) { return {reinterpret_cast<const char*>(bytes.at), bytes.len}; }
 
   hlc_store store_ = HLC_CLOSED_STORE;
   uint64_t number_ = 0;
   std::vector<uint64_t> ids_;
-  std::vector<uint8_t> listing_;
   uint8_t out_[65536];
 };

@@ -5,7 +5,7 @@ use Rattle.std.specs.Prelude.{IfSome}
 use Rattle.std.proofs.lemmas.List.{get_or_default}
 use Rattle.hlc_node.specs.Rows.{newest}
 use Rattle.hlc_order.specs.Newest.{IsNewestBelow}
-use Rattle.hlc_column.specs.Cells.{cells_of, AreBeside}
+use Rattle.hlc_column.specs.Cells.{Cell, cells_of, AreBeside}
 use Rattle.hlc_column.specs.Rows.{rows_of, at_place}
 use Rattle.hlc_column.proofs.Beside.{newest_found, newest_missing}
 
@@ -35,3 +35,13 @@ best_is_newest ss ns vs bound (Some i) b (inside, within, top) =
           let h = (top k (omega (arith, below, inside)) (subst (λ s. s ≤ bound) (sym same) within)).2 same alike in
           omega (arith, h, below),
     )
+
+-- the same, of cells that are those of the lists, at a bound that is the given one
+pub placed : (cells : List Cell) (ss ns : List ℕ) (vs : List (Option (List ℕ))) (b bound : ℕ) (place : Option ℕ)
+    → AreBeside ss ns vs → cells_of ss ns vs ≡ cells → b ≡ bound → IsNewestBelow ss ns b (length ss) place
+    → IfSome place (λ i. i < length cells)
+    × ((key : List ℕ) → at_place (rows_of key cells) place ≡ newest (rows_of key cells) key bound)
+placed cells ss ns vs b bound place beside are is h =
+    subst (λ (cs : List Cell). IfSome place (λ i. i < length cs)
+    × ((key : List ℕ) → at_place (rows_of key cs) place ≡ newest (rows_of key cs) key bound)) are
+    (best_is_newest ss ns vs bound place beside (subst (λ b. IsNewestBelow ss ns b (length ss) place) is h))

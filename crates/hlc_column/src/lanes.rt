@@ -75,18 +75,16 @@ impl<'a> Lanes<'a> {
         self.stamps.len().min(beside).max(self.order.len())
     }
 
-    /// Reads the lengths of the lists, and the last stamp, value and position of the index, for a caller that goes
-    /// through many keys and then reads the newest row of each: none of these reads waits for those of another key. The
-    /// number that it returns has no meaning. It only keeps the compiler from leaving the reads out.
+    /// Reads the last stamp, position of the index and value, with the value's first and last byte, for a caller that
+    /// goes through many keys and then reads the newest row of each: none of these reads waits for those of another
+    /// key. The number that it returns has no meaning. It only keeps the compiler from leaving the reads out.
+    #[inline]
     pub fn fetched(&self) -> u64 {
         let last = self.order.last().copied().unwrap_or(0);
         let stamp = self.stamps.last().copied().unwrap_or(0);
-        let bytes = self
-            .values
-            .last()
-            .map_or(0, |value| length_of(value.as_slice()));
+        let value = self.values.last().map_or(0, fetched_value);
         stamp
-            .wrapping_add(bytes as u64)
+            .wrapping_add(value)
             .wrapping_add(self.nodes.len() as u64)
             .wrapping_add(last as u64)
     }
@@ -154,6 +152,16 @@ impl<'a> Lanes<'a> {
         self.value_at(place)
     }
 
+    /// Returns the same value by a pass over all rows, without the index. Of a few rows it is faster.
+    pub(crate) fn answer_of_few(&self, bound: Stamp) -> Option<&'a [u8]>
+        ensures { (key : List ℕ) → option_copied result ≡ answer (rows_of key self.now) key bound }
+    {
+        let Some(place) = newest_from(self.stamps, self.nodes, 0, bound.bits(), None) else {
+            return None;
+        };
+        self.value_at(place)
+    }
+
     /// Returns the value of the row at a position that `newest` or `newest_on` returned, if there
     /// is one.
     pub fn value_of(&self, place: Option<usize>) -> Option<&'a [u8]>
@@ -206,6 +214,17 @@ impl<'a> Lanes<'a> {
     {
         self.stamps
     }
+}
+
+/// Reads the first and the last byte of a value, as `fetched` does.
+#[inline]
+pub(crate) fn fetched_value(value: &ValueOrMark) -> u64 {
+    let Some(bytes) = value.as_slice() else {
+        return 0;
+    };
+    let first = bytes.first().copied().unwrap_or(0);
+    let last = bytes.last().copied().unwrap_or(0);
+    first as u64 + last as u64
 }
 
 /// Copies a value, if there is one.

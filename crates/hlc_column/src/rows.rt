@@ -1,10 +1,13 @@
 //! The rows of one key in as little memory as they need.
-ghost use Rattle.std.specs.Prelude.{◌≡◌, ◌≤◌, ◌++◌, ◌∷◌, [], length, true, IfOk, IfErr, OnOk, OnErr};
+ghost use Rattle.std.specs.Prelude.{◌≡◌, ◌≤◌, ◌++◌, ◌∷◌, [], ℕ, List, length, true, IfOk, IfErr, OnOk, OnErr};
+ghost use Rattle.std.specs.Prelude.{option_copied};
 ghost use Rattle.std.specs.List.{items_where_true};
+ghost use Rattle.hlc_node.specs.Rows.{answer};
 ghost use Rattle.hlc_column.specs.Forms.{cells_in_form, has_room};
+ghost use Rattle.hlc_column.specs.Rows.{rows_of};
 
 use crate::few::Few;
-use crate::lanes::Lanes;
+use crate::lanes::{Lanes, fetched_value};
 use crate::lists::Lists;
 use crate::single::Single;
 use hlc_clock::Stamp;
@@ -86,6 +89,35 @@ impl Rows {
         }
     }
 
+    /// Returns the value that a reader at the bound sees, or None for a deletion mark or if there is no row. One row in
+    /// place costs one comparison.
+    #[inline]
+    pub fn answer(&self, bound: Stamp) -> Option<&[u8]>
+        ensures { (key : List ℕ) → option_copied result ≡ answer (rows_of key self.now) key bound }
+    {
+        match &self.form {
+            Form::Empty => None,
+            Form::One { stamp, value, .. } => answer_of_one(*stamp, value, bound),
+            Form::Two(block) => block.lanes().answer_of_few(bound),
+            Form::Four(block) => block.lanes().answer_of_few(bound),
+            Form::Many(lists) => lists.lanes().answer(bound),
+        }
+    }
+
+    /// Reads the last row wherever it is stored, for a caller that goes through many keys and then reads the newest row
+    /// of each: none of these reads waits for those of another key. The number that it returns has no meaning. It only
+    /// keeps the compiler from leaving the reads out.
+    #[inline]
+    pub fn fetched(&self) -> u64 {
+        match &self.form {
+            Form::Empty => 0,
+            Form::One { value, .. } => fetched_value(value),
+            Form::Two(block) => block.lanes().fetched(),
+            Form::Four(block) => block.lanes().fetched(),
+            Form::Many(lists) => lists.lanes().fetched(),
+        }
+    }
+
     /// Appends a row. If memory runs out, nothing is changed. The first row needs none, and neither does the fourth
     /// after a third; if only memory for the index runs out, the push succeeds, and reads scan more rows until a later
     /// row extends the index.
@@ -117,6 +149,18 @@ impl Rows {
         let form = replace(&mut self.form, Form::Empty);
         self.form = kept(form, keep);
     }
+}
+
+/// Returns the value of the only row, if it is at or below the bound.
+#[inline]
+fn answer_of_one(stamp: u64, value: &ValueOrMark, bound: Stamp) -> Option<&[u8]>
+    ensures { (key : List ℕ) (node : ℕ) → option_copied result
+        ≡ answer (rows_of key (record { stamp = stamp; node = node; value = value.now } ∷ [])) key bound }
+{
+    if stamp > bound.bits() {
+        return None;
+    }
+    value.as_slice()
 }
 
 /// Stores a row in place.

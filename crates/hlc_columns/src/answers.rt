@@ -118,7 +118,7 @@ fn fetch_ahead(leaf: &[(Bytes, KeyRows)]) -> usize {
     let count = leaf.len().min(AHEAD);
     let mut sum = 0u64;
     for i in 0..count {
-        sum = sum.wrapping_add(leaf[i].1.lanes().fetched());
+        sum = sum.wrapping_add(leaf[i].1.fetched());
     }
     // The sum has no meaning, but without this test the compiler could leave the reads out.
     if sum == u64::MAX { 0 } else { count }
@@ -140,7 +140,7 @@ fn next_answer<'a>(walk: &mut Walk<'a>, bound: Stamp) -> Option<(&'a [u8], &'a [
         walk.old result walk.new }
 {
     while let Some(entry) = walk.next() {
-        if let Some(value) = entry.1.lanes().answer(bound) {
+        if let Some(value) = entry.1.answer(bound) {
             return Some((entry.0.as_slice(), value));
         }
     }
@@ -265,7 +265,7 @@ fn next_answer_back<'a>(walk: &mut WalkBack<'a>, bound: Stamp) -> Option<(&'a [u
         walk.old result walk.new }
 {
     while let Some(entry) = walk.next() {
-        if let Some(value) = entry.1.lanes().answer(bound) {
+        if let Some(value) = entry.1.answer(bound) {
             return Some((entry.0.as_slice(), value));
         }
     }

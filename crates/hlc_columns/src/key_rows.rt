@@ -1,6 +1,8 @@
 //! The rows of one key as the index stores them.
-ghost use Rattle.std.specs.Prelude.{◌≡◌, ◌≤◌, ◌++◌, ◌∷◌, [], length, nat_lt, OnOk, OnErr};
+ghost use Rattle.std.specs.Prelude.{◌≡◌, ◌≤◌, ◌++◌, ◌∷◌, [], ℕ, List, length, nat_lt, option_copied, OnOk, OnErr};
 ghost use Rattle.std.specs.List.{items_where_true};
+ghost use Rattle.hlc_node.specs.Rows.{answer};
+ghost use Rattle.hlc_column.specs.Rows.{rows_of};
 
 use hlc_clock::Stamp;
 use hlc_column::{Lanes, Rows};
@@ -49,6 +51,20 @@ impl KeyRows {
         ensures { result ≡ self.now }
     {
         self.rows.lanes()
+    }
+
+    /// Returns the value that a reader at the bound sees, or None for a deletion mark or if there is no row.
+    #[inline]
+    pub(crate) fn answer(&self, bound: Stamp) -> Option<&[u8]>
+        ensures { (key : List ℕ) → option_copied result ≡ answer (rows_of key self.now) key bound }
+    {
+        self.rows.answer(bound)
+    }
+
+    /// Reads the last row, as `Rows::fetched` does.
+    #[inline]
+    pub(crate) fn fetched(&self) -> u64 {
+        self.rows.fetched()
     }
 
     /// Appends a row. If memory runs out, nothing is changed.
