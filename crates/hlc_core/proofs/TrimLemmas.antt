@@ -1,9 +1,9 @@
 -- A part of a vacuum: rows that no reader needs are dropped, and the horizon is moved to its stamp.
 use Rattle.std.proofs.Common.{◌≡◌, ℕ, ◌+◌, ◌≤◌, List, ◌∷◌, Bool, length, leb, None, refl, ap, sym, ◌∙◌, subst, arith}
-use Rattle.std.specs.Prelude.{not}
+use Rattle.std.specs.Prelude.{not, Ok}
 use Rattle.std.specs.List.Sorted.{IsPermutation}
 use Rattle.std.proofs.lemmas.List.Elements.{All-filter}
-use Rattle.hlc_clock.specs.Points.{PointsAscend}
+use Rattle.hlc_clock.specs.Points.{ArePoints, PointsAscend}
 use Rattle.hlc_clock.proofs.PointLemmas.{points-ascend, points-last}
 use Rattle.hlc_node.specs.declared.row.Row.{Row}
 use Rattle.hlc_node.specs.Rows.{IsRowSet}
@@ -15,12 +15,19 @@ use Rattle.hlc_witness.proofs.CostLemmas.{fewest_rows_are_cheapest, fewest_rows_
 use Rattle.hlc_draft.specs.Vacuumed.{IsVacuumOf, rows_to}
 use Rattle.hlc_vacuum.specs.Representing.{RowsRepresent, RepresentsAfterVacuum, count_above}
 use Rattle.hlc_draft.specs.declared.report.Report.{Report}
+use Rattle.hlc_draft.specs.Report.{report_of}
+use Rattle.hlc_columns.specs.Answers.{in_part}
+use Rattle.hlc_vacuum.specs.declared.part.PartPlan.{PartPlan}
+use Rattle.hlc_vacuum.specs.Part.{IsPartVacuum}
 use Rattle.hlc_vacuum.proofs.RepresentingLemmas.{vacuums_compose, vacuums_are_certified}
-use Rattle.hlc_core.specs.Past.{Step, Trimmed, horizon, vacuumed, trimmed, open_snapshots, writes, vacuum_refusal}
+use Rattle.hlc_core.specs.Past.{Step, Trimmed, floor, horizon, vacuumed, trimmed, open_snapshots, writes, vacuum_refusal}
 use Rattle.hlc_core.specs.Stored.{AreVacuumPoints}
-use Rattle.hlc_core.specs.StoreView.{StoreView, nodes, with_rows_left, Represents}
-use Rattle.hlc_core.specs.Parts.{rows_of_keys, Trims}
-use Rattle.hlc_core.proofs.PastLemmas.{vacuum-above, writes-limits}
+use Rattle.hlc_core.specs.StoreView.{StoreView, nodes, with_rows_left, HasNodes, Represents}
+use Rattle.hlc_core.specs.Checkpoint.{floor_in}
+use Rattle.hlc_core.specs.PlanAt.{IsPartPlanAt}
+use Rattle.hlc_core.specs.Parts.{rows_of_keys, Trims, VacuumsPart}
+use Rattle.hlc_core.proofs.PastLemmas.{vacuum-above, vacuum-none, writes-limits}
+use Rattle.hlc_core.proofs.Sound.{floor-in}
 use Rattle.hlc_core.proofs.PartLemmas.{represent-of_keys, represent-parts}
 use Rattle.hlc_core.proofs.VacuumLemmas.{fewer-open, more-open, low-open}
 
@@ -112,3 +119,21 @@ trims kept at past rows is_of report h none are apart others made at_stamp numbe
             (All-filter (λ row. is_of row.key) IsInLimits (writes past) (writes-limits (nodes kept) past h.legal));
       };
     }
+
+-- what was planned for a part at a stamp from the horizon to the floor, and carried out, is part of a vacuum to it
+pub part-trims : (kept : StoreView) (at : ℕ) (past : List Step) (after : List ℕ) (most : ℕ) (part : PartPlan)
+    (rows : List Row) → HasNodes kept.start kept.links → Represents kept past → at ≤ floor_in kept → kept.horizon ≤ at
+    → IsPartPlanAt kept at after most part
+    → IsPartVacuum kept.rows rows (in_part after part.end) (report_of part.plan)
+    → VacuumsPart kept (with_rows_left kept rows at) at after most past (Ok (report_of part.plan, part.end))
+part-trims kept at past after most part rows has h low high planned made =
+    let floor-is = floor-in kept past has h in
+    let below : at ≤ floor (nodes kept) past = omega (arith, low, floor-is) in
+    let above : horizon past ≤ at = (let e = h.horizon in omega (arith, high, e)) in
+    let none = vacuum-none (nodes kept) past at below above in
+    let points = subst (λ xs. ArePoints (stamps_to at xs) at part.plan.points) h.snapshots planned.points in (
+      none,
+      record { columns = planned.made.columns; next = planned.made.next; is = planned.made.end },
+      trims kept at past rows (in_part after part.end) (report_of part.plan) h none points made.row_set made.others
+          made.vacuumed (points-last _ _ _ planned.points) made.kept made.dropped made.bytes,
+    )

@@ -136,12 +136,6 @@ VacuumsTo old new at past (Ok report) =
     (vacuum_refusal (nodes old) past at ≡ None) × Vacuums old new at past report
 VacuumsTo old new at past (Err fault) = IsRefusal (vacuum_refusal (nodes old) past at) ⊤ fault
 
--- the same with the report made twice
-abbrev pub VacuumsPairTo : StoreView → StoreView → ℕ → List Step → Result (AReport × AReport) CoreFault → Type 0
-VacuumsPairTo old new at past (Ok reports) =
-    (vacuum_refusal (nodes old) past at ≡ None) × (reports.0 ≡ reports.1) × Vacuums old new at past reports.0
-VacuumsPairTo old new at past (Err fault) = IsRefusal (vacuum_refusal (nodes old) past at) ⊤ fault
-
 -- a vacuum to a stamp took place, and these are the numbers of its report
 pub record VacuumsCounted (old new : StoreView) (at : ℕ) (past : List Step) (numbers : Numbers) : Type 0 where
   pub report : AReport

@@ -56,14 +56,6 @@ VacuumsPart old new at after most past (Ok made) =
     × Trims old new at past (in_part after made.1) made.0
 VacuumsPart old new at after most past (Err fault) = IsRefusal (vacuum_refusal (nodes old) past at) ⊤ fault
 
--- the same with the report and the end made twice
-abbrev pub VacuumsPartPair
-    : StoreView → StoreView → ℕ → List ℕ → ℕ → List Step
-    → Result ((Report × Option (List ℕ)) × (Report × Option (List ℕ))) CoreFault → Type 0
-VacuumsPartPair old new at after most past (Ok made) =
-    (made.0 ≡ made.1) × VacuumsPart old new at after most past (Ok made.0)
-VacuumsPartPair old new at after most past (Err fault) = VacuumsPart old new at after most past (Err fault)
-
 -- part of a vacuum to the stamp took place, and these are the numbers of its report
 pub record TrimsCounted (old new : StoreView) (at : ℕ) (past : List Step) (is_of : List ℕ → Bool)
     (numbers : Numbers) : Type 0 where

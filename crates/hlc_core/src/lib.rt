@@ -7,6 +7,7 @@ mod exact;
 mod laws;
 mod link;
 mod listing;
+mod planned;
 mod reply;
 mod rows;
 mod step;
@@ -31,5 +32,6 @@ pub use laws::{
     retired_nodes_leave_the_greatest_stamp, the_floor_never_falls, there_is_one_listing,
 };
 pub use listing::{Listing, Pair};
+pub use planned::Planned;
 pub use reply::CoreReply;
 pub use store::Core;

@@ -4,14 +4,11 @@ ghost use Rattle.hlc_core.specs.StoreView.{nodes};
 ghost use Rattle.hlc_core.specs.History.{RepresentsHistory, Steps, IsQuestion, IsVacuum, IsRefused, IsPlain, IsReplyTo};
 ghost use Rattle.hlc_events.specs.declared.event.CoreEvent.{CoreEvent as AnEvent};
 ghost use Rattle.hlc_core.specs.declared.reply.CoreReply.{CoreReply as AReply};
-ghost use Rattle.hlc_draft.specs.Report.{blank_report};
 
 use crate::reply::CoreReply;
 use crate::store::Core;
-use hlc_clock::Stamp;
 use hlc_events::{CoreEvent, CoreFault};
 use hlc_node::Bytes;
-use hlc_vacuum::BoxedReport;
 use hlc_values::NoMemory;
 
 impl Core {
@@ -74,7 +71,9 @@ impl Core {
                 Ok(stamp) => Ok(CoreReply::Closed(stamp)),
                 Err(_) => Ok(CoreReply::Refused(CoreFault::NoSnapshot)),
             },
-            CoreEvent::Vacuum => self.vacuum_boxed(),
+            CoreEvent::Vacuum | CoreEvent::VacuumTo(_) | CoreEvent::VacuumPart { .. } => {
+                self.vacuum_step(event)
+            }
             CoreEvent::JoinAt(start) => match self.join_at(*start) {
                 Ok(node) => Ok(CoreReply::Joined {
                     node,
@@ -82,79 +81,21 @@ impl Core {
                 }),
                 Err(fault) => returned(fault),
             },
-            CoreEvent::VacuumTo(at) => self.vacuum_to_boxed(*at),
-            CoreEvent::VacuumPart { at, after, most } => {
-                self.vacuum_part_boxed(*at, after.as_slice(), *most)
-            }
         }
     }
 
-    /// Returns a block for the report of a later vacuum.
-    pub fn report_block(&self) -> Result<BoxedReport, NoMemory>
-        ensures { IfOk result (λ boxed. boxed ≡ blank_report) }
-    {
-        BoxedReport::blank(self.alloc)
-    }
-
-    /// Returns the reply to a vacuum. The block of its report is allocated before anything changes.
-    fn vacuum_boxed(&mut self) -> Result<CoreReply, NoMemory>
+    /// Returns the reply to a vacuum, or to part of one. All memory is allocated before anything changes.
+    fn vacuum_step(&mut self, event: &CoreEvent) -> Result<CoreReply, NoMemory>
+        requires { IsVacuum event.now }
         ensures represents { (history : List (AnEvent × AReply)) → RepresentsHistory self.old history
-            → Steps self.old self.new CoreEvent.Vacuum history result }
+            → Steps self.old self.new event.now history result }
         ensures err { OnErr result (self.new ≡ self.old) }
         ensures refused { IfOk result (λ reply. IsRefused reply → self.new ≡ self.old) }
-        ensures form { IfOk result (λ reply. IsReplyTo CoreEvent.Vacuum reply) }
+        ensures form { IfOk result (λ reply. IsReplyTo event.now reply) }
         ensures nodes { nodes self.new ≡ nodes self.old }
     {
-        let block = self.report_block()?;
-        let report = self.vacuum()?;
-        Ok(CoreReply::Vacuumed(block.with(report)))
-    }
-
-    /// Returns the reply to a vacuum to a stamp. The block of its report is allocated before anything changes.
-    fn vacuum_to_boxed(&mut self, at: Stamp) -> Result<CoreReply, NoMemory>
-        ensures represents { (history : List (AnEvent × AReply)) → RepresentsHistory self.old history
-            → Steps self.old self.new (CoreEvent.VacuumTo at) history result }
-        ensures err { OnErr result (self.new ≡ self.old) }
-        ensures refused { IfOk result (λ reply. IsRefused reply → self.new ≡ self.old) }
-        ensures form { IfOk result (λ reply. IsReplyTo (CoreEvent.VacuumTo at) reply) }
-        ensures nodes { nodes self.new ≡ nodes self.old }
-    {
-        if let Err(fault) = self.check_vacuum(at) {
-            return Ok(CoreReply::Refused(fault));
-        }
-        let block = self.report_block()?;
-        match self.vacuum_to(at) {
-            Ok(report) => Ok(CoreReply::Vacuumed(block.with(report))),
-            Err(fault) => returned(fault),
-        }
-    }
-
-    /// Returns the reply to a part of a vacuum. The block of its report is allocated before anything changes.
-    fn vacuum_part_boxed(
-        &mut self,
-        at: Stamp,
-        after: &[u8],
-        most: usize,
-    ) -> Result<CoreReply, NoMemory>
-        ensures represents { (history : List (AnEvent × AReply)) → RepresentsHistory self.old history
-            → Steps self.old self.new (CoreEvent.VacuumPart at after.now most) history result }
-        ensures err { OnErr result (self.new ≡ self.old) }
-        ensures refused { IfOk result (λ reply. IsRefused reply → self.new ≡ self.old) }
-        ensures form { IfOk result
-            (λ reply. IsReplyTo (CoreEvent.VacuumPart at after.now most) reply) }
-        ensures nodes { nodes self.new ≡ nodes self.old }
-    {
-        if let Err(fault) = self.check_vacuum(at) {
-            return Ok(CoreReply::Refused(fault));
-        }
-        let block = self.report_block()?;
-        match self.vacuum_part(at, after, most) {
-            Ok((report, end)) => Ok(CoreReply::VacuumedPart {
-                report: block.with(report),
-                end,
-            }),
-            Err(fault) => returned(fault),
-        }
+        let planned = self.planned(event)?;
+        Ok(self.finish(planned))
     }
 
     /// Returns the reply to a read, with a copy of the value.

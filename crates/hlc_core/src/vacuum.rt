@@ -2,8 +2,8 @@
 ghost use Rattle.std.specs.Prelude.{◌≡◌, ◌≤◌, IfOk, OnErr, List};
 ghost use Rattle.hlc_core.specs.Past.{Step, floor};
 ghost use Rattle.hlc_core.specs.StoreView.{nodes, Represents};
-ghost use Rattle.hlc_core.specs.Parts.{VacuumsPart, VacuumsPartPair, VacuumsPartCounted};
-ghost use Rattle.hlc_core.specs.Calls.{Vacuums, VacuumsTo, VacuumsPairTo, VacuumsCounted, VacuumsToCounted};
+ghost use Rattle.hlc_core.specs.Parts.{VacuumsPart, VacuumsPartCounted};
+ghost use Rattle.hlc_core.specs.Calls.{Vacuums, VacuumsTo, VacuumsCounted, VacuumsToCounted};
 ghost use Rattle.hlc_core.specs.Certified.{Certifies};
 ghost use Rattle.hlc_core.specs.Checkpoint.{floor_in};
 
@@ -108,54 +108,6 @@ impl Core {
         Ok(self.carry_out(at, plan))
     }
 
-    /// Does the same as `vacuum_to`, but several threads plan the rows. Of several rows it may keep another one.
-    pub fn vacuum_to_parallel(
-        &mut self,
-        rt: &(impl Threads + Sync),
-        at: Stamp,
-    ) -> Result<Report, CoreFault>
-        ensures represents { (past : List Step) → Represents self.old past
-            → VacuumsTo self.old self.new at past result }
-        ensures err { OnErr result (self.new ≡ self.old) }
-        ensures nodes { nodes self.new ≡ nodes self.old }
-    {
-        self.check_vacuum(at)?;
-        let plan = self.plan_parallel(rt, at)?;
-        Ok(self.carry_out(at, plan))
-    }
-
-    /// Does the same as `vacuum_to`, and returns the report twice. All memory is allocated before anything changes.
-    pub fn vacuum_pair_to(&mut self, at: Stamp) -> Result<(Report, Report), CoreFault>
-        ensures represents { (past : List Step) → Represents self.old past
-            → VacuumsPairTo self.old self.new at past result }
-        ensures alike { IfOk result (λ reports. reports.0 ≡ reports.1) }
-        ensures err { OnErr result (self.new ≡ self.old) }
-        ensures nodes { nodes self.new ≡ nodes self.old }
-    {
-        self.check_vacuum(at)?;
-        let plan = self.plan(at)?;
-        let report = plan.report()?;
-        Ok((self.carry_out(at, plan), report))
-    }
-
-    /// Does the same as `vacuum_to_parallel`, and returns the report twice, allocated before anything changes.
-    pub fn vacuum_pair_to_parallel(
-        &mut self,
-        rt: &(impl Threads + Sync),
-        at: Stamp,
-    ) -> Result<(Report, Report), CoreFault>
-        ensures represents { (past : List Step) → Represents self.old past
-            → VacuumsPairTo self.old self.new at past result }
-        ensures alike { IfOk result (λ reports. reports.0 ≡ reports.1) }
-        ensures err { OnErr result (self.new ≡ self.old) }
-        ensures nodes { nodes self.new ≡ nodes self.old }
-    {
-        self.check_vacuum(at)?;
-        let plan = self.plan_parallel(rt, at)?;
-        let report = plan.report()?;
-        Ok((self.carry_out(at, plan), report))
-    }
-
     /// Does the same as `vacuum_to`, and returns the numbers of the report alone, as `vacuum_counted` does.
     pub fn vacuum_to_counted(&mut self, at: Stamp) -> Result<Numbers, CoreFault>
         ensures represents { (past : List Step) → Represents self.old past
@@ -191,26 +143,6 @@ impl Core {
         self.check_vacuum(at)?;
         let part = self.plan_next(at, after, most)?;
         Ok(self.carry_out_part(at, part))
-    }
-
-    /// Does the same, and returns the report and the key twice. All memory is allocated before anything changes.
-    pub fn vacuum_part_pair(
-        &mut self,
-        at: Stamp,
-        after: &[u8],
-        most: usize,
-    ) -> Result<((Report, Option<Bytes>), (Report, Option<Bytes>)), CoreFault>
-        ensures represents { (past : List Step) → Represents self.old past
-            → VacuumsPartPair self.old self.new at after.now most past result }
-        ensures alike { IfOk result (λ made. made.0 ≡ made.1) }
-        ensures err { OnErr result (self.new ≡ self.old) }
-        ensures nodes { nodes self.new ≡ nodes self.old }
-    {
-        self.check_vacuum(at)?;
-        let part = self.plan_next(at, after, most)?;
-        let report = part.plan.report()?;
-        let end = part.end.clone()?;
-        Ok((self.carry_out_part(at, part), (report, end)))
     }
 
     /// Does the same as `vacuum_part`, and returns the numbers of the report alone, as `vacuum_counted` does.

@@ -7,13 +7,8 @@ use Rattle.std.specs.Prelude.{if◌then◌else◌}
 use Rattle.std.specs.Option.{ForSome}
 use Rattle.hlc_events.specs.declared.event.CoreEvent.{CoreEvent}
 use Rattle.hlc_core.specs.declared.reply.CoreReply.{CoreReply}
-use Rattle.hlc_draft.specs.declared.report.Report.{Report}
-use Rattle.hlc_events.specs.declared.event.CoreEvent.TheVariants.{VacuumTo}
-use Rattle.hlc_core.specs.declared.reply.CoreReply.TheVariants.{Vacuumed}
-use Rattle.hlc_core.specs.Past.{vacuum_refusal}
 use Rattle.hlc_core.specs.StoreView.{StoreView, nodes, Represents}
-use Rattle.hlc_core.specs.Calls.{Vacuums}
-use Rattle.hlc_core.specs.History.{RepresentsHistory, IsStep, IsExpected, IsLegalHistory, past_of}
+use Rattle.hlc_core.specs.History.{RepresentsHistory, IsStep, IsLegalHistory}
 use Rattle.hlc_server.specs.declared.entry.Entry.{Entry}
 use Rattle.hlc_server.specs.Trails.{history_after, history_of, IsAudited, HasHistory, entry, with_entry, entries_of}
 use Rattle.hlc_server.specs.declared.trail.Trail.{Trail}
@@ -79,19 +74,3 @@ audited_first core audit trail total represents is none = λ t some. first t (sy
         let empty : t ≡ [] = cond-empty audit t are in
         subst (λ l. IsAudited core l total) (sym empty)
         (record { legal = tt; represents = record { legal = tt; core = represents; left = tt }; counted = sym none })
-
--- A vacuum to a stamp is a step of each history that the core represented.
-pub vacuum_is_step : (old new : StoreView) (at : ℕ) (history : List (CoreEvent × CoreReply)) (report : Report)
-    → nodes new ≡ nodes old → RepresentsHistory old history → vacuum_refusal (nodes old) (past_of history) at ≡ None
-    → Vacuums old new at (past_of history) report → IsStep old new (VacuumTo at) history (Vacuumed report)
-vacuum_is_step old new at history report same represents none made = (
-  (none, made.expected),
-  record {
-    legal = subst (λ n. IsExpected n (past_of history) (VacuumTo at) (Vacuumed report) × IsLegalHistory n history)
-        (sym same)
-        ((none, made.expected), represents.legal);
-    core = made.represents;
-    left = tt;
-  },
-  tt,
-)

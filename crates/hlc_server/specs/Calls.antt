@@ -65,11 +65,6 @@ pub record IsReplied (old new : StoreView) (event : CoreEvent) (reply : CoreRepl
   pub step : (history : List (CoreEvent × CoreReply)) → RepresentsHistory old history
       → IsStep old new event history reply
 
--- a call of the core with its reply made twice; out of memory, it is not made
-abbrev pub RepliesTwice : StoreView → StoreView → CoreEvent → Result (CoreReply × CoreReply) AllocError → Type 0
-RepliesTwice old new event made =
-    MatchResult made (λ replies. (replies.0 ≡ replies.1) × IsReplied old new event replies.0) (λ shortage. new ≡ old)
-
 -- A call of the core was made and entered: the trail has one entry more where there is one.
 pub record IsEntered (old new : StoreView) (before after : Option (List Entry)) (caller : ℕ) (event : CoreEvent)
     (reply : CoreReply) : Type 0 where

@@ -6,9 +6,8 @@ ghost use Rattle.hlc_server.specs.Calls.{IsResultFor, IsLockedCall};
 use crate::caller::{Called, Caller};
 use crate::entry::{CallResult, NotDone, Receipt};
 use crate::guarded::Guarded;
-use crate::planning::plan_call;
-use crate::writing::make_call;
-use hlc_core::{CoreEvent, CoreReply, Stamp};
+use crate::writing::{make_call, plan_call};
+use hlc_core::{CoreEvent, CoreReply};
 use std::sync::ledger::{Book, Ledger};
 use std::thread::Threads;
 
@@ -41,21 +40,6 @@ pub fn vacuum_guarded<L: Ledger>(
 {
     let mut caller = caller;
     let returned = guarded.call_by_threads(rt, &mut caller, CoreEvent::Vacuum);
-    (caller, returned)
-}
-
-/// Does the same for a vacuum to a stamp, which several threads plan.
-pub fn vacuum_to_guarded<L: Ledger>(
-    rt: &(impl Threads + Sync),
-    guarded: &mut Guarded<L>,
-    caller: Caller<L>,
-    at: Stamp,
-) -> Called<L>
-    ensures called { IsLockedCall guarded.old guarded.new (AnEvent.VacuumTo at) result.1 }
-    ensures returned { IsResultFor caller (AnEvent.VacuumTo at) result }
-{
-    let mut caller = caller;
-    let returned = guarded.call_by_threads(rt, &mut caller, CoreEvent::VacuumTo(at));
     (caller, returned)
 }
 

@@ -80,6 +80,14 @@ impl<L: Ledger> Guarded<L> {
         Ok((guarded, callers))
     }
 
+    /// Lends the core, for reading.
+    pub fn core(&self) -> &Core
+        ensures core { result.now ≡ self.now.core }
+        ensures history { HasHistory self.now.core self.now.calls }
+    {
+        &self.core
+    }
+
     /// Returns how many calls were made. Whenever nobody is in a call, the core represents a legal history of as many
     /// calls, with a trail or without. A trail is such a history.
     pub fn calls(&self) -> u64

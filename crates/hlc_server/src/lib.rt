@@ -10,14 +10,13 @@ mod exact;
 mod guarded;
 mod lock;
 mod locked;
-mod planning;
 mod settle;
 mod shared;
 mod trail;
 mod writing;
 
 pub use caller::{Called, Caller};
-pub use calling::{step_guarded, vacuum_guarded, vacuum_to_guarded};
+pub use calling::{step_guarded, vacuum_guarded};
 pub use end::{Served, WorkEnd};
 pub use entry::{CallResult, Entry, NotDone, Receipt};
 pub use guarded::Guarded;

@@ -1,17 +1,20 @@
 //! A store that threads share.
-ghost use Rattle.std.specs.Prelude.{◌≡◌, ◌<◌, ⊤, IfOk, MatchResult, map};
+ghost use Rattle.std.specs.Prelude.{◌≡◌, ℕ, ◌<◌, ⊤, IfOk, MatchResult, map};
 ghost use Rattle.std.specs.List.{range_with_len};
 ghost use Rattle.std.specs.Option.{is_some};
+ghost use Rattle.std.specs.Fn.{FnOnceReturnsAt};
+ghost use Rattle.hlc_core.specs.StoreView.{StoreView};
 ghost use Rattle.hlc_core.specs.Calls.{new_refusal, IsRefusal};
 ghost use Rattle.hlc_events.specs.declared.event.CoreEvent.{CoreEvent as AnEvent};
 ghost use Rattle.hlc_server.specs.Seats.{fresh_seat};
 ghost use Rattle.hlc_server.specs.Calls.{IsResultFor};
+ghost use Rattle.hlc_server.specs.Trails.{HasHistory};
 
 use crate::caller::{Called, Caller};
 use crate::entry::CallResult;
 use crate::guarded::Guarded;
 use crate::lock::StoreLock;
-use hlc_core::{Bytes, CoreEvent, CoreFault, Item, Stamp};
+use hlc_core::{Bytes, Core, CoreEvent, CoreFault, Item, Stamp};
 use std::alloc::Global;
 use std::marker::Model;
 use std::sync::Wait;
@@ -21,7 +24,8 @@ use std::thread::Threads;
 /// A store that threads share, protected by one lock. Each call takes the lock once.
 ///
 /// A call returns its caller, with the receipt of the call; or the reason why it was not made, and the event. `call`
-/// and `call_by_threads` leave the caller with its owner. `settle` can check afterwards what the callers got.
+/// and `call_by_threads` leave the caller with its owner, and make the call of any event. `look` only reads. `settle`
+/// can check afterwards what the callers got.
 #[derive(Drop)]
 pub struct Shared<L: Ledger> {
     pub(crate) lock: StoreLock<L>,
@@ -104,9 +108,22 @@ impl<L: Ledger> Shared<L> {
         }
     }
 
-    /// Makes the call that an event asks for. This thread alone plans a vacuum; `vacuum` and `vacuum_to` let several
-    /// plan it.
-    pub fn step<R: Wait>(&self, rt: &R, caller: Caller<L>, event: CoreEvent) -> Called<L>
+    /// Lends the core for reading, with the lock taken for as long: its checkpoint, ranges, versions, sizes, links and so
+    /// on. It is no call: nothing is counted, and no receipt returned. The core represents a legal history, as whenever
+    /// nobody is in a call.
+    pub fn look<R: Wait, T, F: FnOnce(&Core) -> T>(&self, rt: &R, reader: F) -> T
+        requires { F.IsAlwaysCallable reader }
+        ensures { (core : StoreView) × (calls : ℕ) × HasHistory core calls
+            × FnOnceReturnsAt F.FnOnce reader core result }
+    {
+        match &self.lock {
+            StoreLock::Audited(lock) => reader(lock.lock(rt).guarded.core()),
+            StoreLock::Plain(lock) => reader(lock.lock(rt).guarded.core()),
+        }
+    }
+
+    /// Makes the call that an event asks for, and returns its caller.
+    fn step<R: Wait>(&self, rt: &R, caller: Caller<L>, event: CoreEvent) -> Called<L>
         ensures { IsResultFor caller event result }
     {
         let mut caller = caller;
@@ -127,17 +144,6 @@ impl<L: Ledger> Shared<L> {
         ensures { IsResultFor caller AnEvent.Join result }
     {
         self.step(rt, caller, CoreEvent::Join)
-    }
-
-    /// Lets a node join at a stamp, where its clock starts. The reply has its number and that start: the node's side is
-    /// made from them, as after `join`. The node's items at or below the start are refused.
-    ///
-    /// The reply is a refusal, in this order: 1,024 node numbers are already assigned; the start is below the floor. A
-    /// refusal leaves the store unchanged but for its trail. Where it runs out of memory, no call is made.
-    pub fn join_at<R: Wait>(&self, rt: &R, caller: Caller<L>, start: Stamp) -> Called<L>
-        ensures { IsResultFor caller (AnEvent.JoinAt start) result }
-    {
-        self.step(rt, caller, CoreEvent::JoinAt(start))
     }
 
     /// Opens a snapshot at a stamp.
@@ -182,43 +188,5 @@ impl<L: Ledger> Shared<L> {
         let mut caller = caller;
         let returned = self.call_by_threads(rt, &mut caller, CoreEvent::Vacuum);
         (caller, returned)
-    }
-
-    /// Drops the rows at or below a stamp that no reader needs, with a plan by several threads. The store is locked for
-    /// the whole call. The rows above the stamp stay, and snapshots can be opened from the stamp on.
-    ///
-    /// The reply is a refusal, in this order: the stamp is above the floor; it is below the horizon (GC threshold), the
-    /// stamp of the last vacuum. A refusal leaves the store unchanged but for its trail. Where it runs out of memory,
-    /// no call is made.
-    pub fn vacuum_to<R: Wait + Threads + Sync>(
-        &self,
-        rt: &R,
-        caller: Caller<L>,
-        at: Stamp,
-    ) -> Called<L>
-        ensures { IsResultFor caller (AnEvent.VacuumTo at) result }
-    {
-        let mut caller = caller;
-        let returned = self.call_by_threads(rt, &mut caller, CoreEvent::VacuumTo(at));
-        (caller, returned)
-    }
-
-    /// Does a part of `vacuum_to`, for the first keys above `after`, at most `most` keys, so that the store is locked
-    /// for a short time only. The reply has the report of these keys and the last of them, above which the next part
-    /// begins, or none if no key is left. The first part begins with the empty key. Any thread's calls may come between
-    /// two parts.
-    ///
-    /// The reply is a refusal in the same cases as that to `vacuum_to`. Where it runs out of memory, no call is made.
-    pub fn vacuum_part<R: Wait>(
-        &self,
-        rt: &R,
-        caller: Caller<L>,
-        at: Stamp,
-        after: Bytes,
-        most: usize,
-    ) -> Called<L>
-        ensures { IsResultFor caller (AnEvent.VacuumPart at after most) result }
-    {
-        self.step(rt, caller, CoreEvent::VacuumPart { at, after, most })
     }
 }

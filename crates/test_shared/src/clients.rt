@@ -32,10 +32,10 @@ fn call<L: Ledger, R: Wait + Threads + Sync>(
         CoreEvent::List(id) => shared.list(rt, caller, id),
         CoreEvent::Close(id) => shared.close(rt, caller, id),
         CoreEvent::Vacuum => shared.vacuum(rt, caller),
-        CoreEvent::JoinAt(start) => shared.join_at(rt, caller, start),
-        CoreEvent::VacuumTo(at) => shared.vacuum_to(rt, caller, at),
-        CoreEvent::VacuumPart { at, after, most } => {
-            shared.vacuum_part(rt, caller, at, after, most)
+        event => {
+            let mut caller = caller;
+            let returned = shared.call_by_threads(rt, &mut caller, event);
+            (caller, returned)
         }
     }
 }

@@ -122,6 +122,12 @@ fn has_vacuumed<L: Ledger, R: Abort>(rt: &R, client: &Client<L>) {
     }
 }
 
+/// Checks what is read under the lock after that vacuum: the writes at 2.0 and 3.0, the horizon and the floor.
+fn looks<L: Ledger, R: Wait + Abort>(rt: &R, shared: &Shared<L>) {
+    let found = shared.look(rt, |core| (core.rows(), core.horizon(), core.floor()));
+    must_be(rt, found, (2, at_second(2), at_second(3)));
+}
+
 /// A vacuum to 4.0 is refused, since that is above the floor; one to 2.0 is made; and then one to 1.0 is refused.
 fn vacuums<L: Ledger, R: Wait + Threads + Abort + Sync>(
     rt: &R,
@@ -134,6 +140,7 @@ fn vacuums<L: Ledger, R: Wait + Threads + Abort + Sync>(
     let client = refuses(rt, shared, client, CoreEvent::VacuumTo(at_second(4)), above);
     let client = client.asks(rt, shared, CoreEvent::VacuumTo(at_second(2)));
     has_vacuumed(rt, &client);
+    looks(rt, shared);
     let below = CoreFault::BelowHorizon {
         horizon: at_second(2),
     };

@@ -1,0 +1,20 @@
+-- The part was planned for an event that asks for it: so it is a step of each history.
+use Rattle.std.proofs.Common.{subst, sym}
+use Rattle.hlc_draft.specs.declared.report.Report.{Report}
+use Rattle.hlc_core.specs.declared.reply.CoreReply.TheVariants.{VacuumedPart}
+use Rattle.hlc_core.specs.declared.planned.Planned.{Planned}
+use Rattle.hlc_core.specs.History.{IsStep, past_of}
+use Rattle.hlc_core.specs.Planned.{IsPlannedFor}
+use Rattle.hlc_core.proofs.StepLemmas.{part_is_step}
+use Rattle.hlc_core.proofs.store.Core.finish.Goals as goal
+
+pub returns-in-Part-clause-step : goal.returns-in-Part-clause-step
+returns-in-Part-clause-step c = λ event history planned represents.
+    let made = c.carry_out_part-report in
+    let of = (subst (λ (p : Planned). IsPlannedFor c.args.self.now event p) c.in-Part.is planned).1 in
+    subst (λ (report : Report). IsStep c.args.self.now made.new.self event history (VacuumedPart report made.result.1))
+    (sym c.with-in-Part.ensures)
+    (subst (λ e. IsStep c.args.self.now made.new.self e history (VacuumedPart made.result.0 made.result.1)) (sym of.is)
+    (part_is_step c.args.self.now made.new.self c.in-Part.at of.after of.most history made.result.0 made.result.1
+    made.ensures.nodes represents
+    (made.ensures.vacuums (past_of history) of.after of.most represents.core of.planned)))
