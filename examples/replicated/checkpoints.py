@@ -23,6 +23,15 @@ class Checkpoints:
             for old in self.paths()[KEEP:]:
                 old.unlink()
 
+    def newest(self):
+        """Returns the status of the newest file, or None."""
+        for path in self.paths():
+            try:
+                return path.stat()
+            except FileNotFoundError:
+                pass  # it was removed just now
+        return None
+
     def oldest(self):
         """Returns the revision behind which the log is still needed, which is 0 until there are enough checkpoints."""
         paths = self.paths()
@@ -32,10 +41,14 @@ class Checkpoints:
 def write_durably(path, content):
     """Writes a file that is there whole after a crash, or not at all."""
     part = path.with_name("new")
-    with open(part, "wb") as file:
-        file.write(content)
-        file.flush()
-        os.fsync(file.fileno())
+    try:
+        with open(part, "wb") as file:
+            file.write(content)
+            file.flush()
+            os.fsync(file.fileno())
+    except OSError:
+        part.unlink(missing_ok=True)  # the file system is full: what was written would only fill it
+        raise
     part.rename(path)
     folder = os.open(path.parent, os.O_RDONLY)
     os.fsync(folder)

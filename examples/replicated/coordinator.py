@@ -1,50 +1,75 @@
 """The coordinator: decides what all replicas have to do alike, and puts it into the log.
 
-    coordinator.py RETENTION MEMBER..
+    coordinator.py --retention-ms 60000 --members HOST:PORT .. --listen HOST:PORT
 
 It lets nodes join, says from which stamp on reads are possible, retires nodes whose writers are lost, and cuts the log.
-RETENTION is for how many milliseconds reads stay possible. Others ask it by keys: `ask/join/NAME` for a node for this
-name, and `ask/lost/NAME` to retire the node of a name. Where no node can join, a text that says so replaces the
-request. The coordinator ends when its standard input ends. Another one may be started at any time: it takes over, and
-this one ends. The line `retire` ends it after it has retired its own node: then no other one can be started.
+Others ask it by keys: `ask/join/NAME` for a node for this name, and `ask/lost/NAME` to retire the node of a name. Where
+no node can join, a text that says so replaces the request. Over HTTP it answers how all others are. Another coordinator
+may be started at any time: it takes over, and this one ends with status 3. A first SIGTERM or SIGINT ends it; the floor
+waits for the next one. With --piped it ends with its standard input, of which the line `retire` ends it after it has
+retired its own node: then no other one can be started. The line `clock MS` sets its clock off by so many milliseconds.
 
 The coordinator is a node itself, number 0, which only reports. So no replica's floor is above the coordinator's last
 stamp when a replica comes to an entry that the coordinator appended behind it: a node that joins starts there.
 """
 
-import argparse
 import json
-import os
-import sys
-import threading
+import re
 import time
 
-from hlcstore import Node, join_record, threshold_record
-
+import alarms
+import exported
+import hlcstore
+import life
 import log
+import logs
+import metrics
+import serve
+import settings
+import sight
 from clock import reading
 from etcd import Etcd, delete, put
+from hlcstore import Node, join_record, threshold_record
+from members import Members
 
 JOIN, LOST = b"ask/join/", b"ask/lost/"
 PERIOD = 0.03  # seconds from one report to the next
 UPKEEP = 2.0  # seconds from one threshold, and one cut, to the next
+GRACE = 1.0  # seconds for answers that are under way when it ends
+LOOK_PATIENCE = 2.0  # seconds without an answer of etcd after which a look has failed
 NUMBER = log.COORDINATOR
 NEW = {"next": 0, "last": 0, "nodes": 1, "plans": 0, "threshold": 0}
 MOST_NODES = 1024  # numbers that a store can assign: a further join would be refused by every replica
+SETTINGS = [
+    settings.Setting("retention_ms", settings.number(0), "milliseconds for which reads stay possible", 60_000),
+    settings.MEMBERS, settings.LISTEN, settings.LOG_LEVEL,
+]  # fmt: skip
 
 
-class Coordinator:
-    def __init__(self, retention, members):
-        self.retention = retention
+class Coordinator(serve.Answerer):
+    def __init__(self, retention, members, process=None, piped=False):
+        super().__init__()
+        self.retention, self.piped = retention, piped
+        self.life = process or life.Life()
+        self.pages = {"/": serve.page, "/metrics": self.metrics}
+        self.counters = metrics.Counters()
         self.etcd = Etcd(members)
+        self.etcd.ending = self.life.asked
+        self.members, self.sight = Members(members), sight.Sight(self.links)
+        self.offset, self.appended, self.cut = 0, time.monotonic(), 0
         self.link = log.Link(self.etcd, NUMBER)
         try:
             self.head = self.link.claim(NEW)
         except log.Retired:
-            raise SystemExit("the coordinator's node retired: no coordinator can be started for this log") from None
+            raise life.Never("the coordinator's node retired: no coordinator can be started for this log") from None
         self.node = Node.restore(NUMBER, self.head["last"], self.head["next"])
-        print("node", NUMBER, flush=True)
+        self.report("node", NUMBER)
         self.retires = False
+
+    def report(self, *words):
+        """Says on its output, to the program that started it, how far it is."""
+        if self.piped:
+            print(*words, flush=True)
 
     # ---- Appending ----
 
@@ -52,10 +77,12 @@ class Coordinator:
         state = {"next": self.node.next, "last": self.node.last, "retired": self.node.retired}
         self.head = self.head | state | changed
         self.link.append(key, value, self.head, also)
+        self.appended = time.monotonic()
+        self.counters.add("appends")
 
     def append_item(self, issue):
         number = self.node.next
-        self.append(log.batch_key(NUMBER, number), bytes(issue(reading(self.node))))
+        self.append(log.batch_key(NUMBER, number), bytes(issue(reading(self.node, self.offset))))
 
     def append_plan(self, record, also=(), **changed):
         """Appends a record that is no item, together with what changes by it."""
@@ -79,9 +106,13 @@ class Coordinator:
             delete(JOIN + name),
         ]
         self.append_plan(join_record(number, start), also, nodes=number + 1)
+        self.counters.add("joins")
+        logs.info("a node joins", node=number, name=name.decode(errors="replace"), start=sight.stamp_text(start))
 
     def refuse_join(self, name, text):
         """Replaces a request by its answer, for the writer that asked."""
+        self.counters.add("joins_refused")
+        logs.warning(f"refuses a join: {text}", name=name.decode(errors="replace"))
         refusal = log.to_json({"refused": text})
         self.etcd.transact([self.link.is_mine()], [put(JOIN + name, refusal)])
 
@@ -105,6 +136,8 @@ class Coordinator:
             state |= {"next": node.next, "last": node.last, "retired": True}
             also = [delete(request), delete(b"node/" + name)]
             link.append(log.batch_key(number, node.next - 1), item, state, also, mine)
+            self.counters.add("lost")
+            logs.warning("retires the node of a lost writer", node=number, name=name.decode(errors="replace"))
         except log.Retired:  # the writer has retired it just now
             self.etcd.transact(mine, [delete(request)])
         except log.Fenced:  # the writer has come back just now; the request stays, for the next round
@@ -129,52 +162,92 @@ class Coordinator:
             self.append_plan(threshold_record(threshold), threshold=threshold)
         revision = min(words["checkpoint"] for words in replicas)
         if revision:
-            log.cut(self.etcd, self.link, revision)
+            self.cut = log.cut(self.etcd, self.link, revision)
 
     def work(self):
         kept_up = time.monotonic()
-        while not self.retires:
+        while not self.retires and not self.life.asked.is_set():
             self.append_item(self.node.report)
             self.answer()
             if time.monotonic() - kept_up >= UPKEEP:
                 self.keep_up()
                 kept_up = time.monotonic()
             time.sleep(PERIOD)
-        self.append_item(self.node.retire)
+        if self.retires:
+            self.append_item(self.node.retire)
+            logs.warning("its node retired: no coordinator can be started for this log any more")
 
-    def obey(self):
-        for line in sys.stdin:
-            if line.strip() == "retire":
+    def command(self, words):
+        """Carries a line of standard input out, and returns whether it knows it."""
+        match words:
+            case ["retire"]:
                 self.retires = True
-            else:
-                print("unknown:", line.strip(), file=sys.stderr, flush=True)
-        if not self.retires:
-            os._exit(0)
+            case ["clock", offset] if re.fullmatch(r"-?[0-9]+", offset):
+                self.offset = int(offset)
+            case _:
+                return False
+        return True
 
+    # ---- Answers ----
 
-def milliseconds(word):
-    number = int(word)
-    if number < 0:
-        raise ValueError
-    return number
+    def links(self):
+        """Returns of each node, as the log has it: the next number, the head, and whether it retired."""
+        heads = self.sight.last.heads
+        return [[*heads[node]] for node in sorted(heads)] or [[0, 0, False]]
 
+    def state(self):
+        now, links = time.time(), self.links()
+        heads = [head for _, head, retired in links if not retired]
+        floor = min(heads) if heads else max(head for _, head, _ in links)
+        state = {"program": "coordinator", "name": "coordinator", "threshold": self.head["threshold"], "snapshots": []}
+        state["coordinator"] = self.seen(now)
+        state |= sight.state(self.sight, links, floor, now, self.etcd.trouble)
+        return state | {"alarms": alarms.alarms_of(state, alarms.OF_THE_COORDINATOR)}
 
-def options():
-    parser = argparse.ArgumentParser(description=__doc__, formatter_class=argparse.RawDescriptionHelpFormatter)
-    parser.add_argument("retention", type=milliseconds)
-    parser.add_argument("members", nargs="+", metavar="member")
-    return parser.parse_args()
+    def seen(self, now):
+        """Returns the part of its state that no replica has."""
+        reading_now = now + self.offset / 1000
+        threshold = self.head["threshold"]
+        return {
+            "append_age_seconds": round(time.monotonic() - self.appended, 3), "trouble": self.etcd.trouble,
+            "clock_behind_seconds": round(max(sight.physical(self.node.last) - reading_now, 0), 3),
+            "retention_seconds": self.retention / 1000, "numbers_assigned": self.head["nodes"], "cut": self.cut,
+            "threshold_age_seconds": round(now - sight.physical(threshold), 3) if threshold else None,
+            "requests": self.sight.last.requests, "members": self.members.words,
+        }  # fmt: skip
+
+    def metrics(self):
+        families = exported.of_the_coordinator(self.state(), self.counters, alarms.OF_THE_COORDINATOR)
+        return serve.metrics(metrics.text_of(families))
+
+    def note(self, status):
+        self.counters.add("http_answers", status=status)
+
+    def start(self, listen, members):
+        """Starts what runs beside its work, and returns the server."""
+        server = serve.start(self, listen)
+        logs.info("answers over HTTP", address=server.address, members=",".join(members))
+        eyes = Etcd(members, self.life.asked, LOOK_PATIENCE)
+        life.essential(self.sight.go_on, eyes)
+        life.essential(self.members.go_on)
+        if self.piped:
+            print(json.dumps({"address": server.address}), flush=True)
+            self.life.start_to_obey(self.command, lambda: self.retires)
+        return server
 
 
 def main():
-    words = options()
-    coordinator = Coordinator(words.retention, words.members)
-    threading.Thread(target=coordinator.obey, daemon=True).start()
-    try:
+    words = settings.read(__doc__, SETTINGS)
+    logs.choose(words.log_level, "coordinator")
+    life.EXPECTED.append(hlcstore.Error)
+
+    def work(process):
+        coordinator = Coordinator(words.retention_ms, words.members, process, words.piped)
+        server = coordinator.start(words.listen, words.members)
         coordinator.work()
-    except log.Fenced as fenced:
-        print("fenced", fenced, flush=True)
-        sys.exit(3)
+        server.finish(GRACE)
+
+    life.run(work)
 
 
 if __name__ == "__main__":

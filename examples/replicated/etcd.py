@@ -9,8 +9,11 @@ import base64
 import http.client
 import json
 import random
+import threading
 import time
 from typing import NamedTuple
+
+import logs
 
 TIMEOUT = 3.0  # seconds without an answer, or without a watched change, after which the next member is asked
 PATIENCE = 120.0  # seconds without any member's answer after which a call fails
@@ -27,6 +30,10 @@ class Compacted(Exception):
 
 class Refused(Exception):
     """etcd refuses the call, and would refuse it again."""
+
+
+class Stopped(Exception):
+    """The program was asked to end while a call waited for an answer."""
 
 
 class Pair(NamedTuple):
@@ -60,6 +67,15 @@ def prefix_end(prefix):
     return prefix[:-1] + bytes([prefix[-1] + 1])
 
 
+def trouble_text(failure):
+    """Returns what a failure says: of an answer of the gateway, its text alone."""
+    text = str(failure) or type(failure).__name__
+    try:
+        return json.loads(text)["error"]
+    except (ValueError, KeyError, TypeError):
+        return text
+
+
 # ---- Parts of requests ----
 
 
@@ -90,12 +106,18 @@ def unchanged(key, revision):
 
 
 class Etcd:
-    """A connection to one member at a time. Each thread has its own."""
+    """A connection to one member at a time. Each thread has its own.
 
-    def __init__(self, members):
+    `trouble` is the text of the last failure, and empty once a call was answered. A call that no member answers ends
+    when `ending` is set, or after `patience` seconds.
+    """
+
+    def __init__(self, members, ending=None, patience=PATIENCE):
         self.members = members
+        self.ending, self.patience = ending or threading.Event(), patience
         self.at = random.randrange(len(members))
         self.connection = None
+        self.trouble = ""
 
     def connect(self):
         host, port = self.members[self.at].rsplit(":", 1)
@@ -111,14 +133,27 @@ class Etcd:
 
     def call(self, path, request):
         """Returns the answer of the first member that answers."""
-        end = time.monotonic() + PATIENCE
+        end = time.monotonic() + self.patience
         while True:
             try:
-                return self.ask(path, json.dumps(request))
-            except (OSError, http.client.HTTPException, Unavailable):
+                answer = self.ask(path, json.dumps(request))
+                self.note("")
+                return answer
+            except (OSError, http.client.HTTPException, Unavailable) as failure:
+                self.note(trouble_text(failure))
+                if self.ending.is_set():
+                    raise Stopped from None
                 if time.monotonic() > end:
                     raise
                 self.next_member()
+
+    def note(self, trouble):
+        """Keeps what the last failure was, and logs where failures begin and end."""
+        if trouble and not self.trouble:
+            logs.warning("a member of etcd does not answer", member=self.members[self.at], text=trouble)
+        elif self.trouble and not trouble:
+            logs.info("etcd answers again", member=self.members[self.at])
+        self.trouble = trouble
 
     def ask(self, path, request):
         self.connection = self.connection or self.connect()

@@ -169,7 +169,8 @@ def follow(etcd, after):
 
 
 def cut(etcd, link, revision):
-    """Deletes all entries up to a revision, and the history that etcd keeps of them. The caller has this link.
+    """Deletes all entries up to a revision, and the history that etcd keeps of them. The caller has this link. Returns
+    the revision up to which the log is cut.
 
     `cut` is written first, so that a replica that needs what is deleted next sees that it is too late. The rest may be
     done twice, or be left to the next time.
@@ -185,6 +186,7 @@ def cut(etcd, link, revision):
         etcd.call("kv/compaction", {"revision": str(revision)})
     except Compacted:
         pass
+    return revision
 
 
 def raise_cut(etcd, link, revision):

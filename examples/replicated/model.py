@@ -1,25 +1,24 @@
 """A model of the store in plain Python, from the log alone. It shares no code with the library.
 
-    model.py MEMBER..
+    model.py --members HOST:PORT ..
 
 It follows the log as a replica does, decodes the items itself, keeps every version of every key from the first entry
 on, and answers the same requests. It also checks what the replicas take for granted: that the numbers of each link have
-no gap and no double, that stamps rise, and that the value of each write names the item's own node and number. Its first
-line of output has its address. It ends when its standard input ends.
+no gap and no double, that stamps rise, and that the value of each write names the item's own node and number. With
+--piped its first line of output has its address, and it ends with its standard input.
 """
 
-import argparse
 import bisect
 import hashlib
 import json
-import os
 import struct
-import sys
 import threading
-import traceback
 
+import life
 import log
+import logs
 import serve
+import settings
 from etcd import Etcd
 
 ITEM = struct.Struct(">BHQQB")  # version, node, number, stamp, kind: docs/formats.md
@@ -48,17 +47,17 @@ def items_of(data):
 
 def expect(truth, text):
     if not truth:
-        raise SystemExit(f"the model: {text}")
+        raise life.Never(f"the log is wrong: {text}")
 
 
-class Model:
+class Model(serve.Answerer):
     def __init__(self):
+        super().__init__()
         self.lock = threading.Lock()
         self.links = [[0, 0, False]]  # of each node: next number, head, retired
         self.versions = {}  # of each key: stamp, node and value of each write, rising
         self.keys = []  # rising
         self.revision, self.threshold, self.items = 0, 0, 0
-        self.others = {}
 
     # ---- The log ----
 
@@ -158,25 +157,21 @@ class Snapshot:
         return digest.digest()
 
 
-def options():
-    parser = argparse.ArgumentParser(description=__doc__, formatter_class=argparse.RawDescriptionHelpFormatter)
-    parser.add_argument("members", nargs="+", metavar="member")
-    return parser.parse_args()
-
-
 def main():
-    words, model = options(), Model()
-    print(json.dumps({"address": serve.start(model)}), flush=True)
+    words = settings.read(__doc__, [settings.MEMBERS, settings.LISTEN, settings.LOG_LEVEL])
+    logs.choose(words.log_level, "model")
 
-    def follow():
-        try:
-            model.follow(words.members)
-        except BaseException:
-            traceback.print_exc()
-            os._exit(1)
+    def work(process):
+        model = Model()
+        server = serve.start(model, words.listen)
+        logs.info("answers over HTTP", address=server.address)
+        life.essential(model.follow, words.members)
+        if words.piped:
+            print(json.dumps({"address": server.address}), flush=True)
+            process.start_to_obey(lambda _: False)
+        process.asked.wait()
 
-    threading.Thread(target=follow, daemon=True).start()
-    sys.stdin.read()
+    life.run(work)
 
 
 if __name__ == "__main__":

@@ -27,7 +27,7 @@ class Program:
         self.started = time.monotonic()
         with open(folder / f"{name}.err", "ab") as errors:
             self.process = subprocess.Popen(
-                [sys.executable, "-B", HERE / file, *map(str, words)],
+                [sys.executable, "-B", HERE / file, "--piped", *map(str, words)],
                 stdin=subprocess.PIPE, stdout=subprocess.PIPE, stderr=errors, text=True,
             )  # fmt: skip
         self.numbers = {}  # of each word that began a line: the number behind it, in the last such line
@@ -97,7 +97,9 @@ class Programs:
     """All that runs: the cluster, the coordinator, the model, replicas and writers."""
 
     def __init__(self, folder, retention, checkpoint, writing):
-        self.folder, self.retention, self.checkpoint, self.writing = folder, retention, checkpoint, writing
+        self.folder, self.retention, self.checkpoint = folder, retention, checkpoint
+        batch, rate, keys = writing
+        self.writing = ["--batch", batch, "--rate", rate, "--keys", keys]
         self.cluster = Cluster(folder / "etcd")
         self.model = self.coordinator = None
         self.replicas, self.writers = {}, {}  # those that should run, by name
@@ -106,7 +108,7 @@ class Programs:
         self.killed = []  # replicas
 
     def program(self, name, file, *words):
-        return Program(self.folder, name, file, *words, *self.cluster.addresses)
+        return Program(self.folder, name, file, *words, "--members", *self.cluster.addresses)
 
     def start(self):
         """Starts all: three members, three replicas and three writers."""
@@ -150,10 +152,11 @@ class Programs:
         self.ending.append((program, status, time.monotonic() + PATIENCE))
 
     def start_coordinator(self):
-        return self.program("coordinator", "coordinator.py", self.retention)
+        return self.program("coordinator", "coordinator.py", "--retention-ms", self.retention)
 
     def start_replica(self, name):
-        self.replicas[name] = self.program(name, "replica.py", name, self.folder / name, self.checkpoint)
+        words = ["--name", name, "--folder", self.folder / name, "--checkpoint-seconds", self.checkpoint]
+        self.replicas[name] = self.program(name, "replica.py", *words)
 
     def kill_replica(self, name):
         replica = self.replicas.pop(name)
@@ -161,7 +164,7 @@ class Programs:
         self.killed.append(replica)
 
     def start_writer(self, name):
-        self.writers[name] = self.program(name, "writer.py", name, *self.writing)
+        self.writers[name] = self.program(name, "writer.py", "--name", name, *self.writing)
 
     def kill_writer(self, name):
         writer = self.writers.pop(name)

@@ -1,6 +1,8 @@
-"""Answers over HTTP, for a replica and for the model: reads at closed timestamps, in JSON.
+"""Answers over HTTP, for a replica, the coordinator and the model: reads at closed timestamps, in JSON.
 
-    GET /state                                 how far it is
+    GET /                                      a page that draws the state, and goes on to do so
+    GET /state                                 how far it is, and what holds the floor back
+    GET /metrics                               the same as numbers, in the text format of Prometheus
     GET /read?stamp=S&key=K&key=..             the values of keys
     GET /range?stamp=S&from=K&to=K             the pairs of a range of keys
     GET /digest?stamp=S&from=K&to=K            the SHA-256 of such a range, and how many keys it has
@@ -11,34 +13,98 @@ Without a stamp a read is at the floor. Keys are percent-encoded, and bytes are 
 status is 425 for a stamp above the floor, 410 for one below the horizon, 404 for what is not there, 400 for a request
 that makes no sense, and 503 for one that may be answered later. With it comes a text, as `refused`.
 
-Whoever answers has `state()`, `snapshot(stamp)`, which is used in a `with`, and calls for other paths in `others`.
+The coordinator has no reads, and the model no page and no metrics.
 """
 
 import http.client
 import http.server
 import json
+import pathlib
 import re
+import socketserver
 import threading
-import traceback
+import time
 import urllib.parse
+from typing import NamedTuple
+
+import life
+import logs
 
 STAMPS = 1 << 64
+ANY = "127.0.0.1:0"  # a port of the loopback that is free
+PAGE = pathlib.Path(__file__).resolve().with_name("page.html")
 
 
 class Refused(Exception):
     """A request that has no answer, with a status of HTTP and a text."""
 
 
-def start(answerer, port=0):
-    """Serves on the loopback, from threads of its own, and returns the address."""
-    server = Server(("127.0.0.1", port), Request)
-    server.answerer = answerer
+class Content(NamedTuple):
+    """What a browser, or Prometheus, is given."""
+
+    kind: str
+    body: bytes
+
+
+class Answerer:
+    """Whoever answers. `others` has calls of a stamp for further paths, and `pages` those without parameters."""
+
+    def __init__(self):
+        self.others, self.pages = {}, {}
+
+    def state(self):
+        raise NotImplementedError
+
+    def snapshot(self, stamp):
+        """Returns what is used in a `with`, and reads at the stamp."""
+        raise Refused(404, "there is no such path")
+
+    def note(self, status):
+        """Counts an answer."""
+
+
+def page():
+    return Content("text/html; charset=utf-8", PAGE.read_bytes())
+
+
+def metrics(text):
+    return Content("text/plain; version=0.0.4; charset=utf-8", text.encode())
+
+
+def start(answerer, listen=ANY):
+    """Serves from threads of its own, and returns the server."""
+    try:
+        server = Server(answerer, listen)
+    except OSError as failure:
+        raise OSError(f"cannot listen at {listen}: {failure.strerror}") from None
     threading.Thread(target=server.serve_forever, daemon=True).start()
-    return "127.0.0.1:%d" % server.server_address[1]
+    return server
 
 
 class Server(http.server.ThreadingHTTPServer):
     daemon_threads = True
+
+    def __init__(self, answerer, listen):
+        self.answerer = answerer
+        self.answering, self.lock = 0, threading.Lock()
+        host, port = listen.rsplit(":", 1)
+        super().__init__((host, int(port)), Request)
+        self.address = f"{host}:{self.server_address[1]}"
+
+    def server_bind(self):
+        """Binds without a look at the names of the network, which may take long."""
+        socketserver.TCPServer.server_bind(self)
+
+    def count(self, more):
+        with self.lock:
+            self.answering += more
+
+    def finish(self, seconds):
+        """Takes no further connection, and waits as long for the answers that are under way."""
+        self.shutdown()
+        end = time.monotonic() + seconds
+        while self.answering and time.monotonic() < end:
+            time.sleep(0.01)
 
 
 def value_text(value):
@@ -50,6 +116,9 @@ def answer(answerer, path, words):
     if path == "/state":
         refuse_unknown(words)
         return answerer.state()
+    if path in answerer.pages:
+        refuse_unknown(words)
+        return answerer.pages[path]()
     if path in answerer.others:
         refuse_unknown(words, "stamp")
         return answerer.others[path](stamp_of(words))
@@ -115,25 +184,38 @@ class Request(http.server.BaseHTTPRequestHandler):
     disable_nagle_algorithm = True
 
     def do_GET(self):
+        self.server.count(1)
+        try:
+            status, content = self.status_and_content()
+            self.server.answerer.note(status)
+            self.send(status, content)
+        except OSError:
+            self.close_connection = True  # whoever asked is gone
+        finally:
+            self.server.count(-1)
+
+    def status_and_content(self):
         path, _, query = self.path.partition("?")
         words = urllib.parse.parse_qs(query, keep_blank_values=True, encoding="latin-1")
         try:
-            status, content = 200, answer(self.server.answerer, path, words)
+            return 200, answer(self.server.answerer, path, words)
         except Refused as refused:
             status, text = refused.args
-            content = {"refused": text}
+            return status, {"refused": text}
         except Exception as failure:  # whoever asks gets an answer in any case
-            traceback.print_exc()
-            status, content = 500, {"refused": f"the answer failed: {failure!r}"}
-        self.send(status, content)
+            logs.error(f"an answer failed: {failure!r}", at=life.place_of(failure))
+            return 500, {"refused": f"the answer failed: {failure!r}"}
 
     def send(self, status, content):
-        body = content if isinstance(content, bytes) else json.dumps(content).encode()
+        if isinstance(content, bytes):
+            content = Content("application/octet-stream", content)
+        elif not isinstance(content, Content):
+            content = Content("application/json", json.dumps(content).encode())
         self.send_response(status)
-        self.send_header("Content-Type", "application/octet-stream" if body is content else "application/json")
-        self.send_header("Content-Length", str(len(body)))
+        self.send_header("Content-Type", content.kind)
+        self.send_header("Content-Length", str(len(content.body)))
         self.end_headers()
-        self.wfile.write(body)
+        self.wfile.write(content.body)
 
     def log_message(self, *words):
         """Requests are not logged."""

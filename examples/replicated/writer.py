@@ -1,39 +1,47 @@
 """A writer: issues writes and deletions as a node, and appends them to the node's link in batches.
 
-    writer.py NAME BATCH RATE KEYS MEMBER..
+    writer.py --name w1 --members HOST:PORT ..
 
-BATCH is the most items in a batch, RATE the items a second, or 0 for as many as there is time for, and KEYS the number
-of keys. The coordinator has a node for each name. A writer that comes again under its name goes on behind the last item
-of the log. If no node can join for its name, it ends with a text that says why. Lines of standard input: `clock MS`
-sets its clock off by so many milliseconds, and `retire` ends it. So does the end of the input, without a retirement.
-Its output has its node, and after each append the next number: what is below is in the log for good.
+The coordinator has a node for each name. A writer that comes again under its name goes on behind the last item of the
+log. If no node can join for its name, it ends with status 5. Where another process of its name takes over, it ends with
+status 3. A first SIGTERM or SIGINT ends it without a retirement: the floor waits until it comes again, or is lost. With
+--piped its output has its node, and after each append the next number: what is below is in the log for good. It ends
+with its standard input, of which `clock MS` sets its clock off by so many milliseconds, and `retire` ends it for good.
 """
 
-import argparse
 import json
-import os
 import random
 import re
-import sys
-import threading
 import time
 
-from hlcstore import Node, split
-
 import clock
+import hlcstore
+import life
 import log
-from etcd import Etcd, delete, put
+import logs
+import settings
+from etcd import Etcd, Stopped, delete, put
+from hlcstore import Node, split
 
 MOST_BYTES = 1_000_000  # in a batch: etcd takes transactions of at most 1.5 MiB
 AHEAD = 10_000  # milliseconds: stamps that are further ahead of this node come from a wrong clock
 LINGER = 0.02  # seconds from one append to the next, unless a batch is full
 IDLE = 0.05  # seconds without an item after which it reports, so that the floor does not wait for it
+SETTINGS = [
+    settings.Setting("name", settings.name, "its name, to which its node belongs"),
+    settings.Setting("batch", settings.number(1), "the most items in a batch", 512),
+    settings.Setting("rate", settings.number(0), "items a second; 0: as many as there is time for", 1000),
+    settings.Setting("keys", settings.number(1), "the number of keys", 20_000),
+    settings.MEMBERS, settings.LOG_LEVEL,
+]  # fmt: skip
 
 
 class Writer:
-    def __init__(self, name, batch, rate, keys, members):
+    def __init__(self, name, batch, rate, keys, members, process=None, piped=False):
         self.name, self.batch, self.rate, self.keys = name, batch, rate, keys
+        self.life, self.piped = process or life.Life(), piped
         self.etcd = Etcd(members)
+        self.etcd.ending = self.life.asked
         self.offset, self.retires = 0, False
         self.chance = random.Random(name)
         self.number = self.find_node()
@@ -41,15 +49,23 @@ class Writer:
         try:
             state = self.link.claim(None)
         except log.Retired:
-            raise SystemExit(f"node {self.number} of {name} retired") from None
+            raise life.Never(f"node {self.number} of {name} retired") from None
         self.node = Node.restore(self.number, state["last"], state["next"])
-        print("node", self.number, flush=True)
+        logs.info("has its node", node=self.number, next=self.node.next)
+        self.report("node", self.number)
+
+    def report(self, *words):
+        """Says on its output, to the program that started it, how far it is."""
+        if self.piped:
+            print(*words, flush=True)
 
     def find_node(self):
         """Returns the node of this name. If there is none, the coordinator is asked to let one join."""
         name = self.name.encode()
         while not (found := self.etcd.get(b"node/" + name)):
             self.ask(b"ask/join/" + name)
+            if self.life.asked.is_set():
+                raise Stopped
             time.sleep(0.02)
         return json.loads(found.value)
 
@@ -60,12 +76,12 @@ class Writer:
         """
         answer, coordinator = self.etcd.get(request), self.etcd.get(log.link_key(log.COORDINATOR))
         if coordinator and json.loads(coordinator.value).get("retired"):
-            raise SystemExit(f"no node for {self.name}: the coordinator retired")
+            raise life.Never(f"no node for {self.name}: the coordinator retired")
         if not answer:
             self.etcd.transact([], [put(request, b"")])
         elif answer.value:
             self.etcd.transact([], [delete(request)])
-            raise SystemExit(f"no node for {self.name}: {json.loads(answer.value)['refused']}")
+            raise life.Never(f"no node for {self.name}: {json.loads(answer.value)['refused']}")
 
     # ---- The clock ----
 
@@ -104,11 +120,12 @@ class Writer:
         """Appends items, of which the first has this number. Only afterwards further ones are issued."""
         state = {"next": self.node.next, "last": self.node.last, "retired": self.node.retired}
         self.link.append(log.batch_key(self.number, number), items, state, also)
-        print("next", self.node.next, flush=True)
+        logs.debug("appended", next=self.node.next)
+        self.report("next", self.node.next)
 
     def write(self):
         rounds, allowed, before, appended = 0, 0.0, time.monotonic(), time.monotonic()
-        while not self.retires:
+        while not self.retires and not self.life.asked.is_set():
             now = time.monotonic()
             allowed = min(allowed + (now - before) * self.rate, self.rate)  # those of a second at most
             before = now
@@ -127,7 +144,10 @@ class Writer:
             rounds += 1
             if rounds % 10 == 0:
                 self.listen()
-        self.retire()
+        if self.retires:
+            self.retire()
+        else:
+            logs.warning("the floor waits until this writer comes again, or is lost", node=self.number)
 
     def retire(self):
         """Appends the last item. With it the name is free again: the next writer of this name joins as another node."""
@@ -135,45 +155,30 @@ class Writer:
         also = [delete(b"node/" + name), delete(b"ask/lost/" + name)]
         self.append(first, bytes(self.node.retire(self.reading())), also)
 
-    def obey(self):
-        for line in sys.stdin:
-            match line.split():
-                case ["clock", offset] if re.fullmatch(r"-?[0-9]+", offset):
-                    self.offset = int(offset)
-                case ["retire"]:
-                    self.retires = True
-                case _:
-                    print("unknown:", line.strip(), file=sys.stderr, flush=True)
-        if not self.retires:
-            os._exit(0)
-
-
-def positive(word):
-    number = int(word)
-    if number < 1:
-        raise ValueError
-    return number
-
-
-def options():
-    parser = argparse.ArgumentParser(description=__doc__, formatter_class=argparse.RawDescriptionHelpFormatter)
-    parser.add_argument("name")
-    parser.add_argument("batch", type=positive)
-    parser.add_argument("rate", type=int)
-    parser.add_argument("keys", type=positive)
-    parser.add_argument("members", nargs="+", metavar="member")
-    return parser.parse_args()
+    def command(self, words):
+        """Carries a line of standard input out, and returns whether it knows it."""
+        match words:
+            case ["clock", offset] if re.fullmatch(r"-?[0-9]+", offset):
+                self.offset = int(offset)
+            case ["retire"]:
+                self.retires = True
+            case _:
+                return False
+        return True
 
 
 def main():
-    words = options()
-    writer = Writer(words.name, words.batch, words.rate, words.keys, words.members)
-    threading.Thread(target=writer.obey, daemon=True).start()
-    try:
+    words = settings.read(__doc__, SETTINGS)
+    logs.choose(words.log_level, f"writer/{words.name}")
+    life.EXPECTED.append(hlcstore.Error)
+
+    def work(process):
+        writer = Writer(words.name, words.batch, words.rate, words.keys, words.members, process, words.piped)
+        if words.piped:
+            process.start_to_obey(writer.command, lambda: writer.retires)
         writer.write()
-    except log.Fenced as fenced:
-        print("fenced", fenced, flush=True)
-        sys.exit(3)
+
+    life.run(work)
 
 
 if __name__ == "__main__":

@@ -1,0 +1,236 @@
+"""What a replica or the coordinator sees of the others through etcd, and what follows from it.
+
+Who holds the floor back is a node with the least head, among those that have not retired. Why its head is old, and what
+cures that, follows from whether its items reach the log, and whether they reach this program.
+"""
+
+import http.client
+import json
+import shlex
+import threading
+import time
+from typing import NamedTuple
+
+import log
+from etcd import Refused, Unavailable, get, pairs_of, prefix_end
+from metrics import Rate
+
+EACH = 1.0  # seconds from one look to the next
+HELD = 1.0  # seconds: nothing holds back a floor that is younger
+SILENT = 2.0  # seconds without an item after which a node is silent: it reports every 50 ms
+PREFIXES = [b"link/", b"node/", b"replica/", b"ask/"]
+FAILURES = (OSError, http.client.HTTPException, Unavailable, Refused, ValueError, KeyError)
+
+
+class Head(NamedTuple):
+    """Where the link of a node ends in the log."""
+
+    next: int
+    last: int
+    retired: bool
+
+
+class Look(NamedTuple):
+    """What etcd has at one moment: heads and names of nodes, by their numbers; what replicas publish; open requests."""
+
+    heads: dict
+    names: dict
+    replicas: list
+    requests: list
+
+
+class NodeSeen(NamedTuple):
+    """A node: how far this program has its items, how far the log has them, and for how long that has not changed."""
+
+    node: int
+    name: str
+    head: int
+    next: int
+    retired: bool
+    appended: int
+    silent: float
+
+
+class HeldBack(NamedTuple):
+    """What the floor waits for: a `node` that is silent, a node's `clock`, this `replica`, the `log`, or `nothing`."""
+
+    node: int
+    name: str
+    by: str
+    age: float
+    why: str
+    cure: str
+
+
+def physical(stamp):
+    """Returns the reading of a clock that is in a stamp, in seconds."""
+    return (stamp >> 16) / 1000
+
+
+# ---- Looking ----
+
+
+def look(etcd):
+    answer = etcd.transact([], [get(prefix, prefix_end(prefix)) for prefix in PREFIXES])
+    links, nodes, replicas, requests = (pairs_of(part["response_range"]) for part in answer["responses"])
+    heads = {}
+    for pair in links:
+        state = json.loads(pair.value)
+        heads[int(pair.key.removeprefix(b"link/"), 16)] = Head(state["next"], state["last"], bool(state.get("retired")))
+    names = {json.loads(pair.value): pair.key.removeprefix(b"node/").decode(errors="replace") for pair in nodes}
+    names[log.COORDINATOR] = "coordinator"
+    texts = [pair.key.removeprefix(b"ask/").decode(errors="replace") for pair in requests]
+    return Look(heads, names, [json.loads(pair.value) for pair in replicas], texts)
+
+
+class Sight:
+    """The newest look, and what changed from one to the next. `links()` returns the links that this program has."""
+
+    def __init__(self, links, clock=time.monotonic):
+        self.links, self.clock = links, clock
+        self.lock = threading.Lock()
+        self.last, self.when = Look({}, {log.COORDINATOR: "coordinator"}, [], []), clock()
+        self.moved = {}  # of each node: the number that was next, and when that was first seen
+        self.whole_at = clock()  # when this program last had all that the newest look had
+        self.rate = Rate(clock)
+
+    def note(self, seen):
+        with self.lock:
+            self.last, self.when = seen, self.clock()
+            for node, head in seen.heads.items():
+                if node not in self.moved or self.moved[node][0] != head.next:
+                    self.moved[node] = head.next, self.when
+        links = self.links()
+        self.rate.note(sum(link[0] for link in links))
+        self.behind(links)
+
+    def go_on(self, etcd):
+        """Looks again and again. Where etcd does not answer, what was seen before gets older."""
+        while True:
+            try:
+                self.note(look(etcd))
+            except FAILURES:
+                pass
+            time.sleep(EACH)
+
+    def unseen(self):
+        """Returns the age of the newest look, in seconds."""
+        return self.clock() - self.when
+
+    def nodes(self, links):
+        """Returns each node that this program has."""
+        with self.lock:
+            now, seen, moved = self.clock(), self.last, dict(self.moved)
+        nodes = []
+        for node, (number, head, retired) in enumerate(links):
+            in_log = seen.heads.get(node, Head(number, head, retired))
+            silent = now - moved[node][1] if node in moved else 0.0
+            name = seen.names.get(node, "")
+            nodes.append(NodeSeen(node, name, head, number, retired, max(in_log.next, number), silent))
+        return nodes
+
+    def behind(self, links):
+        """Returns how many items of the newest look are missing here, and for how many seconds some have been."""
+        heads = self.last.heads
+        known = {node: link[0] for node, link in enumerate(links)}
+        missing = sum(max(head.next - known.get(node, 0), 0) for node, head in heads.items())
+        if not missing and heads.keys() <= known.keys():
+            self.whole_at = self.clock()
+        return missing, self.clock() - self.whole_at
+
+
+# ---- Who holds the floor back ----
+
+
+def called(seen):
+    """Returns how people call a node."""
+    return f"{seen.name} (node {seen.node})" if seen.name else f"node {seen.node}"
+
+
+def held_back(nodes, now, unseen):
+    """Returns what holds the floor back, at a time in seconds, where etcd was seen so many seconds ago."""
+    active = [seen for seen in nodes if not seen.retired]
+    if not active:
+        return HeldBack(-1, "", "nothing", 0.0, "all nodes have retired, so the floor stands for good", "")
+    slowest = min(active, key=lambda seen: (seen.head, seen.node))
+    age = now - physical(slowest.head)
+    by, why, cure = reason(slowest, age, unseen)
+    return HeldBack(slowest.node, slowest.name, by, age, why, cure)
+
+
+def reason(slowest, age, unseen):
+    """Returns what keeps the head of a node where it is, why, and what cures it."""
+    who = called(slowest)
+    if age < HELD:
+        return "nothing", f"{who} has the oldest head, which is young", ""
+    if unseen > SILENT:
+        why = f"etcd has not answered for {unseen:.0f} s, and {who} had the oldest head"
+        return "log", why, "see which members run, and start a majority of them: etcdctl endpoint health"
+    if slowest.appended > slowest.next:
+        missing = slowest.appended - slowest.next
+        why = f"the log has {missing} items of {who} that are not applied here"
+        return "replica", why, "see the log lines and the processor's load of this replica; ask another one meanwhile"
+    if slowest.silent < SILENT:
+        return "clock", f"the clock of {who} is {age:.1f} s behind", clock_cure(slowest)
+    return "node", f"{who} has appended nothing for {slowest.silent:.0f} s or longer", silent_cure(slowest)
+
+
+def clock_cure(seen):
+    if seen.node == log.COORDINATOR:
+        return "set the clock of the coordinator's machine right, or start a coordinator where the clock is right"
+    return f"set the clock of the machine of {called(seen)} right"
+
+
+def silent_cure(seen):
+    if seen.node == log.COORDINATOR:
+        return "start a coordinator: it takes over from one that stands still"
+    if not seen.name:
+        return "wait: this node has no name, so its retirement is on its way"
+    lost = shlex.quote(f"ask/lost/{seen.name}")
+    return f"start the writer {seen.name} again; if it is lost for good: etcdctl put {lost} ''"
+
+
+# ---- What all programs answer alike ----
+
+
+def stamp_text(stamp):
+    return f"{stamp >> 16}.{stamp & 0xFFFF}"
+
+
+def node_words(seen, now):
+    return {
+        "node": seen.node, "name": seen.name, "head": seen.head, "age_seconds": round(now - physical(seen.head), 3),
+        "next": seen.next, "items_behind": seen.appended - seen.next, "silent_seconds": round(seen.silent, 3),
+        "retired": seen.retired,
+    }  # fmt: skip
+
+
+def replica_words(words, now):
+    floor = words.get("floor", 0)
+    return {
+        "name": words.get("name", ""), "address": words.get("address", ""), "floor": floor,
+        "age_seconds": round(now - physical(floor), 3), "checkpoint": words.get("checkpoint", 0),
+    }  # fmt: skip
+
+
+def state(sight, links, floor, now, trouble=""):
+    """Returns the part of a state that a replica and the coordinator have alike, for these links and this floor."""
+    nodes, unseen = sight.nodes(links), sight.unseen()
+    held = held_back(nodes, now, unseen)
+    missing, behind = sight.behind(links)
+    rate = sight.rate.a_second()
+    return {
+        "time": now, "floor": floor, "floor_text": stamp_text(floor),
+        "floor_age_seconds": round(now - physical(floor), 3),
+        "held_back": {
+            "node": held.node, "name": held.name, "by": held.by, "age_seconds": round(held.age, 3), "why": held.why,
+            "cure": held.cure,
+        },
+        "nodes": [node_words(seen, now) for seen in nodes],
+        "replicas": [replica_words(words, now) for words in sight.last.replicas],
+        "log": {
+            "items": sum(link[0] for link in links), "items_per_second": rate and round(rate, 1),
+            "items_behind": missing, "behind_seconds": round(behind, 3), "unseen_seconds": round(unseen, 3),
+            "trouble": trouble,
+        },
+    }  # fmt: skip
