@@ -1,7 +1,5 @@
 """What `/metrics` has: the numbers of a state as `/state` answers it, and those that a program counts."""
 
-import hlcstore
-
 import metrics
 from metrics import counter, gauge, gauges
 
@@ -54,7 +52,7 @@ def of_a_replica(state, counters, known):
     yield from saved(state, counters)
     yield from vacuumed(state, counters)
     yield from answered(counters)
-    yield counters.family("hlcstore_begins_total", "Beginnings, by what with: disk, empty, or another replica.")
+    yield counters.family("begins", "hlcstore_begins_total", "Beginnings, by origin: disk, empty, or a replica.")
     yield from metrics.process_families()
 
 
@@ -88,8 +86,8 @@ def vacuumed(state, counters):
 
 
 def answered(counters):
-    yield counters.family("hlcstore_http_answers_total", "Answers over HTTP, by status.")
-    yield counters.family("hlcstore_refusals_total", "Refusals of the library, by their number in hlcstore.h.")
+    yield counters.family("http_answers", "hlcstore_http_answers_total", "Answers over HTTP, by status.")
+    yield counters.family("refusals", "hlcstore_refusals_total", "Refusals of the library, by number.")
 
 
 def of_the_coordinator(state, counters, known):
@@ -113,9 +111,5 @@ def of_the_coordinator(state, counters, known):
                  [({"member": member["address"]}, member["bytes"]) for member in members])  # fmt: skip
     yield gauges("hlcstore_etcd_no_space", "1 where a member is above its quota.",
                  [({"member": member["address"]}, member["no_space"]) for member in members])  # fmt: skip
-    yield counters.family("hlcstore_http_answers_total", "Answers over HTTP, by status.")
+    yield counters.family("http_answers", "hlcstore_http_answers_total", "Answers over HTTP, by status.")
     yield from metrics.process_families()
-
-
-def refusal_labels(refused):
-    return {"code": refused.code, "name": hlcstore.error_name(refused.code)}

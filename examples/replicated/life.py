@@ -81,7 +81,7 @@ def tell(failure):
         logs.error(str(failure))
         return FOR_GOOD
     if isinstance(failure, tuple(EXPECTED)):
-        logs.error(f"failed: {failure or '-'}", kind=type(failure).__name__)
+        logs.error(f"failed: {str(failure) or '-'}", kind=type(failure).__name__)
     else:
         logs.error(f"failed: {failure!r}", at=place_of(failure))
     return FAILED

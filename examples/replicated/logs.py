@@ -38,7 +38,7 @@ def line_of(now, level, program, text, fields):
     return " ".join([f"{time}Z {level} {program}: {plain}", *(f"{name}={field_text(fields[name])}" for name in fields)])
 
 
-def say(level, text, **fields):
+def say(level, text, /, **fields):
     if LEVELS.index(level) < LEVELS.index(Chosen.level):
         return
     line = line_of(datetime.datetime.now(datetime.UTC), level, Chosen.program, text, fields)
@@ -50,17 +50,17 @@ def say(level, text, **fields):
             pass  # nobody reads it, or its file system is full: no reason to end
 
 
-def debug(text, **fields):
+def debug(text, /, **fields):
     say("debug", text, **fields)
 
 
-def info(text, **fields):
+def info(text, /, **fields):
     say("info", text, **fields)
 
 
-def warning(text, **fields):
+def warning(text, /, **fields):
     say("warning", text, **fields)
 
 
-def error(text, **fields):
+def error(text, /, **fields):
     say("error", text, **fields)

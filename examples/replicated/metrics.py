@@ -71,7 +71,7 @@ class Counters:
     def __init__(self):
         self.lock, self.values = threading.Lock(), collections.Counter()
 
-    def add(self, name, amount=1, **labels):
+    def add(self, name, amount=1, /, **labels):
         with self.lock:
             self.values[name, tuple(sorted(labels.items()))] += amount
 
@@ -80,11 +80,11 @@ class Counters:
         with self.lock:
             return self.values[name, ()]
 
-    def family(self, name, help):
-        """Returns the samples of a name. Where nothing was counted there are none, or 0 if it has no labels ever."""
+    def family(self, name, exported, help):
+        """Returns the family of a name, under its name for others: a sample for each set of labels that was counted."""
         with self.lock:
             samples = [(dict(labels), value) for (known, labels), value in sorted(self.values.items()) if known == name]
-        return Family(name, "counter", help, samples)
+        return Family(exported, "counter", help, samples)
 
 
 class Rate:

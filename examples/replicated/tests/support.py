@@ -17,6 +17,7 @@ sys.path.insert(0, str(pathlib.Path(__file__).resolve().parent.parent))
 
 import hlcstore
 import log
+import logs
 from cluster import Cluster
 from coordinator import Coordinator
 from etcd import Compacted, Etcd, Pair, delete, encode, put
@@ -136,25 +137,28 @@ class MemoryEtcd(Interleaved):
 
 
 def fail(*_):
-    raise AssertionError(f"the test has taken {PATIENCE} s")
+    raise AssertionError("the test has taken too long")
 
 
 class Case(unittest.TestCase):
     """A test whose programs print nothing. `new_etcd()` returns a further connection to its etcd."""
 
+    patience = PATIENCE
+
     def setUp(self):
         signal.signal(signal.SIGALRM, fail)
-        signal.alarm(PATIENCE)
+        signal.alarm(self.patience)
         self.addCleanup(signal.alarm, 0)
         self.printed = self.enterContext(contextlib.redirect_stdout(io.StringIO()))
+        self.enterContext(mock.patch.object(logs.Chosen, "level", "error"))
         self.folder = pathlib.Path(self.enterContext(tempfile.TemporaryDirectory()))
 
     def obey(self, program, text):
-        """Gives a program its standard input, and returns what it prints as an error. It must not end the process."""
-        ends = mock.patch("os._exit", side_effect=AssertionError("the program has ended"))
-        with ends, mock.patch("sys.stdin", io.StringIO(text)), contextlib.redirect_stderr(io.StringIO()) as errors:
-            program.obey()
-        return errors.getvalue()
+        """Gives a program its standard input, and returns the lines that it does not know."""
+        said = []
+        with mock.patch("sys.stdin", io.StringIO(text)), mock.patch("logs.warning", lambda _, line: said.append(line)):
+            program.life.obey(program.command, lambda: program.retires)
+        return said
 
     def start_coordinator(self):
         with mock.patch("coordinator.Etcd", lambda _: self.new_etcd()):

@@ -8,6 +8,7 @@ from unittest import mock
 
 from support import RETENTION, MemberCase, MemoryCase
 
+import life
 import log
 from coordinator import MOST_NODES
 from etcd import delete
@@ -44,7 +45,7 @@ class CoordinatorCases:
 
     def test_none_is_started_after_a_retirement(self):
         self.retire(self.coordinator)
-        with self.assertRaisesRegex(SystemExit, "the coordinator's node retired"):
+        with self.assertRaisesRegex(life.Never, "the coordinator's node retired"):
             self.start_coordinator()
         self.assertRaises(log.Retired, self.coordinator.append_plan, threshold_record(1), threshold=1)
         self.assertEqual(self.links(), [(2, True)])
@@ -184,7 +185,7 @@ class CoordinatorCases:
 
     def test_its_clock_was_set_forward(self):
         """A node that joins starts where the clock was, also after it is right again."""
-        with mock.patch("coordinator.reading", lambda _: time.time_ns() // 1_000_000 + HOUR):
+        with mock.patch("coordinator.reading", lambda *_: time.time_ns() // 1_000_000 + HOUR):
             self.coordinator.append_item(self.coordinator.node.report)
         ahead = self.coordinator.node.last
         self.coordinator.append_item(self.coordinator.node.report)
@@ -263,7 +264,7 @@ class InMemory(CoordinatorCases, MemoryCase):
             self.assertEqual(self.join(b"w%d" % number), number)
         self.coordinator.append_item(self.coordinator.node.report)
         with mock.patch("writer.time.sleep", lambda _: self.coordinator.answer()):
-            with self.assertRaisesRegex(SystemExit, "no node for late: all 1024 node numbers are assigned"):
+            with self.assertRaisesRegex(life.Never, "no node for late: all 1024 node numbers are assigned"):
                 self.start_writer("late")
         self.assertIsNone(self.value(b"ask/join/late"))
         self.assertIsNone(self.value(b"node/late"))
@@ -281,7 +282,7 @@ class InMemory(CoordinatorCases, MemoryCase):
                 self.new_etcd().transact([], [delete(b"ask/join/late")])
             waits.append(1)
 
-        with mock.patch("writer.time.sleep", wait), self.assertRaisesRegex(SystemExit, "no node for late"):
+        with mock.patch("writer.time.sleep", wait), self.assertRaisesRegex(life.Never, "no node for late"):
             self.start_writer("late")
         self.assertIsNone(self.value(b"ask/join/late"))
 
@@ -293,9 +294,10 @@ class InMemory(CoordinatorCases, MemoryCase):
         self.assertEqual(self.memory.revision, revision)
 
     def test_its_input(self):
-        errors = self.obey(self.coordinator, "\nretire now\nretire\nretired\n")
-        self.assertTrue(self.coordinator.retires)
-        self.assertEqual(errors, "unknown: \nunknown: retire now\nunknown: retired\n")
+        unknown = self.obey(self.coordinator, "\nretire now\nclock soon\nclock -7\nretire\nretired\n")
+        self.assertEqual((self.coordinator.retires, self.coordinator.offset), (True, -7))
+        self.assertEqual(unknown, ["", "retire now", "clock soon", "retired"])
+        self.assertFalse(self.coordinator.life.asked.is_set())
 
 
 class OfAMember(CoordinatorCases, MemberCase):

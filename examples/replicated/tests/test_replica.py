@@ -139,7 +139,7 @@ class Beginning(MemoryCase):
     def test_it_begins_from_another_where_the_log_was_cut(self):
         other = self.replay()
         other.save()
-        words = {"name": "r2", "address": serve.start(other), "checkpoint": other.revision}
+        words = {"name": "r2", "address": serve.start(other).address, "checkpoint": other.revision}
         self.put(b"replica/r2", log.to_json(words))
         log.cut(self.new_etcd(), self.coordinator.link, other.revision)
         late = self.new_replica()

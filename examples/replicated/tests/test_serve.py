@@ -25,7 +25,7 @@ class Answers:
     def setUp(self):
         super().setUp()
         self.answerer = self.new_answerer()
-        self.address = serve.start(self.answerer)
+        self.address = serve.start(self.answerer).address
 
     def fill(self, applies):
         node = hlcstore.Node(0)
@@ -80,7 +80,7 @@ class Answers:
         self.assertEqual(self.refused("/range?from=a&from=b", 400), "from is given more than once")
 
     def test_paths_that_are_none(self):
-        for path in "/", "/stat", "/state/", "/read/?key=key", "/nothing?stamp=-1":
+        for path in "/page.html", "/stat", "/state/", "/read/?key=key", "/nothing?stamp=-1":
             self.assertEqual(self.refused(path, 404), "there is no such path")
 
     def test_lines_that_are_no_requests(self):

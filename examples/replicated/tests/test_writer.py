@@ -7,6 +7,7 @@ from unittest import mock
 from support import MemoryCase
 
 import clock
+import life
 import log
 from hlcstore import CounterFull, Node, split, stamp
 from writer import AHEAD
@@ -120,7 +121,7 @@ class Nodes(MemoryCase):
         first = self.start_beside(self.coordinator.answer)
         first.retires = True
         with mock.patch("writer.Writer.find_node", lambda _: first.write() or 1):
-            with self.assertRaisesRegex(SystemExit, "node 1 of w1 retired"):
+            with self.assertRaisesRegex(life.Never, "node 1 of w1 retired"):
                 self.start_writer("w1")
         self.assertEqual(self.replay().store.link(1)[::2], (1, True))
 
@@ -129,14 +130,15 @@ class Nodes(MemoryCase):
             self.coordinator.retires = True
             self.coordinator.work()
 
-        with self.assertRaisesRegex(SystemExit, "no node for w1: the coordinator retired"):
+        with self.assertRaisesRegex(life.Never, "no node for w1: the coordinator retired"):
             self.start_beside(retire)
 
     def test_its_input(self):
         writer = self.start_beside(self.coordinator.answer)
-        errors = self.obey(writer, "\nclock\nclock soon\nclock -5\nstop\nretire\n")
+        unknown = self.obey(writer, "\nclock\nclock soon\nclock -5\nstop\nretire\n")
         self.assertEqual((writer.offset, writer.retires), (-5, True))
-        self.assertEqual(errors, "unknown: \nunknown: clock\nunknown: clock soon\nunknown: stop\n")
+        self.assertEqual(unknown, ["", "clock", "clock soon", "stop"])
+        self.assertFalse(writer.life.asked.is_set())
 
 
 if __name__ == "__main__":
