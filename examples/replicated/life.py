@@ -15,6 +15,7 @@ import os
 import signal
 import sys
 import threading
+import time
 import traceback
 
 import log
@@ -22,6 +23,7 @@ import logs
 from etcd import Refused, Stopped, Unavailable
 
 DONE, FAILED, FENCED, INPUT_ENDED, FOR_GOOD = 0, 1, 3, 4, 5
+STEP = 0.05  # seconds from one look to the next whether the program was asked to end
 # What can happen without a mistake in these programs: a text says enough. A program may add to them.
 EXPECTED = [OSError, http.client.HTTPException, Unavailable, Refused, log.Cut, log.Retired]
 
@@ -41,6 +43,11 @@ class Life:
         if not self.asked.is_set():
             self.status, self.why = status, why
             self.asked.set()
+
+    def wait(self):
+        """Waits until the program is asked to end. It takes no lock, for which the handler of a signal would wait."""
+        while not self.asked.is_set():
+            time.sleep(STEP)
 
     def end_with_signals(self):
         for number in signal.SIGTERM, signal.SIGINT:

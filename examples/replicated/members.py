@@ -17,10 +17,14 @@ def words_of(address, status):
 
 
 def status_of(address):
+    """Returns the status of a member, or None where it does not answer."""
+    client = Etcd([address])
     try:
-        return Etcd([address]).ask("maintenance/status", "{}")
+        return client.ask("maintenance/status", "{}")
     except FAILURES:
         return None
+    finally:
+        client.connection.close()
 
 
 class Members:

@@ -169,7 +169,7 @@ def main():
         if words.piped:
             print(json.dumps({"address": server.address}), flush=True)
             process.start_to_obey(lambda _: False)
-        process.asked.wait()
+        process.wait()
 
     life.run(work)
 

@@ -272,7 +272,7 @@ class Replica(serve.Answerer):
         self.report(address=server.address)
         if self.piped:
             self.life.start_to_obey(lambda _: False)
-        self.life.asked.wait()
+        self.life.wait()
         server.finish(GRACE)
         self.try_to_save()
 

@@ -40,7 +40,8 @@ class Look(NamedTuple):
 
 
 class NodeSeen(NamedTuple):
-    """A node: how far this program has its items, how far the log has them, and for how long that has not changed."""
+    """A node: how far this program has its items, how far the log has them, for how long that has not changed, and
+    whether it was ever seen to change."""
 
     node: int
     name: str
@@ -49,10 +50,12 @@ class NodeSeen(NamedTuple):
     retired: bool
     appended: int
     silent: float
+    has_moved: bool
 
 
 class HeldBack(NamedTuple):
-    """What the floor waits for: a `node` that is silent, a node's `clock`, this `replica`, the `log`, or `nothing`."""
+    """What the floor waits for: a `node` that is silent, a node's `clock`, this `replica`, the `log`, or `nothing`. It is
+    `unknown` while a node has not been watched for long enough."""
 
     node: int
     name: str
@@ -90,7 +93,7 @@ class Sight:
         self.links, self.clock = links, clock
         self.lock = threading.Lock()
         self.last, self.when = Look({}, {log.COORDINATOR: "coordinator"}, [], []), clock()
-        self.moved = {}  # of each node: the number that was next, and when that was first seen
+        self.moved = {}  # of each node: its next number, when that was first seen, and whether another one was before
         self.whole_at = clock()  # when this program last had all that the newest look had
         self.rate = Rate(clock)
 
@@ -99,7 +102,7 @@ class Sight:
             self.last, self.when = seen, self.clock()
             for node, head in seen.heads.items():
                 if node not in self.moved or self.moved[node][0] != head.next:
-                    self.moved[node] = head.next, self.when
+                    self.moved[node] = head.next, self.when, node in self.moved
         links = self.links()
         self.rate.note(sum(link[0] for link in links))
         self.behind(links)
@@ -124,9 +127,9 @@ class Sight:
         nodes = []
         for node, (number, head, retired) in enumerate(links):
             in_log = seen.heads.get(node, Head(number, head, retired))
-            silent = now - moved[node][1] if node in moved else 0.0
-            name = seen.names.get(node, "")
-            nodes.append(NodeSeen(node, name, head, number, retired, max(in_log.next, number), silent))
+            _, since, has_moved = moved.get(node, (number, now, False))
+            appended, name = max(in_log.next, number), seen.names.get(node, "")
+            nodes.append(NodeSeen(node, name, head, number, retired, appended, now - since, has_moved))
         return nodes
 
     def behind(self, links):
@@ -170,6 +173,8 @@ def reason(slowest, age, unseen):
         missing = slowest.appended - slowest.next
         why = f"the log has {missing} items of {who} that are not applied here"
         return "replica", why, "see the log lines and the processor's load of this replica; ask another one meanwhile"
+    if slowest.silent < SILENT and not slowest.has_moved:
+        return "unknown", f"{who} has the oldest head, and has been watched for less than {SILENT:.0f} s", "ask again"
     if slowest.silent < SILENT:
         return "clock", f"the clock of {who} is {age:.1f} s behind", clock_cure(slowest)
     return "node", f"{who} has appended nothing for {slowest.silent:.0f} s or longer", silent_cure(slowest)

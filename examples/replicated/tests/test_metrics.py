@@ -2,6 +2,7 @@
 
 import contextlib
 import http.client
+import re
 import time
 import unittest
 from unittest import mock
@@ -17,6 +18,7 @@ import serve
 import sight
 from exposition import number
 from metrics import Counters, Family, Rate, text_of
+from programs import HERE
 
 QUOTED = 'a"b\\c\nd'
 
@@ -145,7 +147,7 @@ class OfAReplica(Answers):
     def test_who_holds_the_floor_back(self):
         self.replica.seconds = 60
         with mock.patch("replica.time.time", lambda: (self.last >> 16) / 1000 + 60):
-            self.replica.sight.when += 60
+            self.replica.sight.moved[1] = (7, self.replica.sight.when - 60, True)
             state, read = self.replica.state(), self.read(self.replica)
         held = state["held_back"]
         self.assertEqual((held["node"], held["name"], held["by"], held["age_seconds"]), (1, "w1", "node", 60.0))
@@ -244,6 +246,14 @@ class OfTheCoordinator(Answers):
         self.assertIn("MemberDown", raised(self.coordinator))
         read = self.read(self.coordinator)
         self.assertEqual(number(read, "hlcstore_etcd_no_space", member="127.0.0.1:1"), 0)
+
+    def test_the_runbook_has_each_name(self):
+        """Those of a replica are read from its source, as it has others."""
+        sources = [HERE / "exported.py", HERE / "metrics.py"]
+        names = {name for path in sources for name in re.findall(r'"((?:hlcstore|process)_\w+)"', path.read_text())}
+        described = set(re.findall(r"`((?:hlcstore|process)_\w+)`", (HERE / "RUNBOOK.md").read_text()))
+        self.assertEqual(names, described)
+        self.assertLessEqual(self.read(self.coordinator).keys(), names)
 
     def test_it_has_no_reads(self):
         for path in "/read?key=k", "/digest", "/checkpoint":

@@ -10,6 +10,7 @@ import json
 import os
 import pathlib
 import re
+import resource
 import shutil
 import subprocess
 import tempfile
@@ -77,8 +78,10 @@ class Drawn(serve.Answerer):
 
 def ask_browser(url, *words):
     """Returns what the browser prints of a page."""
+    most = resource.getrlimit(resource.RLIMIT_AS)[1]  # it reserves more addresses than other programs
+    room = ["prlimit", f"--as={'unlimited' if most == resource.RLIM_INFINITY else most}:"]
     with tempfile.TemporaryDirectory() as profile:
-        command = [BROWSER, *WORDS, f"--user-data-dir={profile}", *words, url]
+        command = [*room, BROWSER, *WORDS, f"--user-data-dir={profile}", *words, url]
         ran = subprocess.run(command, stdout=subprocess.PIPE, stderr=subprocess.DEVNULL, text=True, timeout=PATIENCE)
         return ran.stdout
 

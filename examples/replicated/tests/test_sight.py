@@ -24,9 +24,9 @@ def aged(seconds):
     return stamp(round((NOW - seconds) * 1000))
 
 
-def node(number, age, next=10, retired=False, appended=None, silent=0.1, name=None):
-    name = NAMES[number] if name is None else name
-    return NodeSeen(number, name, aged(age), next, retired, next if appended is None else appended, silent)
+def node(number, age, next=10, retired=False, appended=None, silent=0.1, name=None, has_moved=True):
+    name, appended = NAMES[number] if name is None else name, next if appended is None else appended
+    return NodeSeen(number, name, aged(age), next, retired, appended, silent, has_moved)
 
 
 class HoldsBack(unittest.TestCase):
@@ -66,6 +66,11 @@ class HoldsBack(unittest.TestCase):
         self.assertEqual(held.why, "the clock of w1 (node 1) is 3600.0 s behind")
         self.assertEqual(held.cure, "set the clock of the machine of w1 (node 1) right")
         self.assertIn("start a coordinator where the clock is right", self.held(node(0, 9.0), node(1, 1.0)).cure)
+
+    def test_a_node_that_has_not_been_watched_for_long(self):
+        held = self.held(node(0, 0.1), node(1, 3600.0, silent=1.9, has_moved=False))
+        self.assertEqual((held.node, held.by), (1, "unknown"))
+        self.assertEqual(self.held(node(0, 0.1), node(1, 3600.0, silent=2.1, has_moved=False)).by, "node")
 
     def test_a_replica_that_is_behind(self):
         """The log has more of the node than this program, whether the node still appends or not."""
@@ -124,7 +129,8 @@ class Looking(MemoryCase):
             self.time += 1
             self.note(n0=Head(number, 2, False))
         self.time += 0.5
-        self.assertEqual(self.sight.nodes([[2, 2, False]])[0].silent, 2.5)
+        seen = self.sight.nodes([[2, 2, False], [0, 0, False]])
+        self.assertEqual([(node.silent, node.has_moved) for node in seen], [(2.5, True), (0.0, False)])
         self.assertEqual(self.sight.unseen(), 0.5)
 
     def test_what_is_missing_here(self):
