@@ -18,6 +18,7 @@ from metrics import Rate
 EACH = 1.0  # seconds from one look to the next
 HELD = 1.0  # seconds: nothing holds back a floor that is younger
 SILENT = 2.0  # seconds without an item after which a node is silent: it reports every 50 ms
+APART = 5.0  # seconds: the head of a node that appends is not as old, unless its clock is behind
 PREFIXES = [b"link/", b"node/", b"replica/", b"ask/"]
 FAILURES = (OSError, http.client.HTTPException, Unavailable, Refused, ValueError, KeyError)
 
@@ -54,8 +55,8 @@ class NodeSeen(NamedTuple):
 
 
 class HeldBack(NamedTuple):
-    """What the floor waits for: a `node` that is silent, a node's `clock`, this `replica`, the `log`, or `nothing`. It is
-    `unknown` while a node has not been watched for long enough."""
+    """What the floor waits for: a `node` that is silent or `slow`, or its `clock`; this `replica`, the `log`, or
+    `nothing`. It is `unknown` while a node has not been watched for long enough."""
 
     node: int
     name: str
@@ -175,6 +176,9 @@ def reason(slowest, age, unseen):
         return "replica", why, "see the log lines and the processor's load of this replica; ask another one meanwhile"
     if slowest.silent < SILENT and not slowest.has_moved:
         return "unknown", f"{who} has the oldest head, and has been watched for less than {SILENT:.0f} s", "ask again"
+    if slowest.silent < SILENT and age < APART:
+        why = f"{who} appends, and its last stamp is {age:.1f} s old"
+        return "slow", why, "see whether etcd, or its machine, is slow"
     if slowest.silent < SILENT:
         return "clock", f"the clock of {who} is {age:.1f} s behind", clock_cure(slowest)
     return "node", f"{who} has appended nothing for {slowest.silent:.0f} s or longer", silent_cure(slowest)

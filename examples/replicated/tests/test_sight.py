@@ -67,6 +67,11 @@ class HoldsBack(unittest.TestCase):
         self.assertEqual(held.cure, "set the clock of the machine of w1 (node 1) right")
         self.assertIn("start a coordinator where the clock is right", self.held(node(0, 9.0), node(1, 1.0)).cure)
 
+    def test_a_node_that_is_slow(self):
+        held = self.held(node(0, 0.1), node(1, 4.9, silent=1.9))
+        self.assertEqual((held.node, held.by), (1, "slow"))
+        self.assertEqual(held.why, "w1 (node 1) appends, and its last stamp is 4.9 s old")
+
     def test_a_node_that_has_not_been_watched_for_long(self):
         held = self.held(node(0, 0.1), node(1, 3600.0, silent=1.9, has_moved=False))
         self.assertEqual((held.node, held.by), (1, "unknown"))
