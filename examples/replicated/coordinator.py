@@ -36,7 +36,6 @@ JOIN, LOST = b"ask/join/", b"ask/lost/"
 PERIOD = 0.03  # seconds from one report to the next
 UPKEEP = 2.0  # seconds from one threshold, and one cut, to the next
 GRACE = 1.0  # seconds for answers that are under way when it ends
-LOOK_PATIENCE = 2.0  # seconds without an answer of etcd after which a look has failed
 NUMBER = log.COORDINATOR
 NEW = {"next": 0, "last": 0, "nodes": 1, "plans": 0, "threshold": 0}
 MOST_NODES = 1024  # numbers that a store can assign: a further join would be refused by every replica
@@ -227,8 +226,7 @@ class Coordinator(serve.Answerer):
         """Starts what runs beside its work, and returns the server."""
         server = serve.start(self, listen)
         logs.info("answers over HTTP", address=server.address, members=",".join(members))
-        eyes = Etcd(members, self.life.asked, LOOK_PATIENCE)
-        life.essential(self.sight.go_on, eyes)
+        life.essential(self.sight.go_on, Etcd(members, self.life.asked))
         life.essential(self.members.go_on)
         if self.piped:
             print(json.dumps({"address": server.address}), flush=True)

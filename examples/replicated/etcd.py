@@ -109,12 +109,12 @@ class Etcd:
     """A connection to one member at a time. Each thread has its own.
 
     `trouble` is the text of the last failure, and empty once a call was answered. A call that no member answers ends
-    when `ending` is set, or after `patience` seconds.
+    when `ending` is set.
     """
 
-    def __init__(self, members, ending=None, patience=PATIENCE):
+    def __init__(self, members, ending=None):
         self.members = members
-        self.ending, self.patience = ending or threading.Event(), patience
+        self.ending = ending or threading.Event()
         self.at = random.randrange(len(members))
         self.connection = None
         self.trouble = ""
@@ -133,7 +133,7 @@ class Etcd:
 
     def call(self, path, request):
         """Returns the answer of the first member that answers."""
-        end = time.monotonic() + self.patience
+        end = time.monotonic() + PATIENCE
         while True:
             try:
                 answer = self.ask(path, json.dumps(request))
@@ -141,11 +141,11 @@ class Etcd:
                 return answer
             except (OSError, http.client.HTTPException, Unavailable) as failure:
                 self.note(trouble_text(failure))
+                self.next_member()
                 if self.ending.is_set():
                     raise Stopped from None
                 if time.monotonic() > end:
                     raise
-                self.next_member()
 
     def note(self, trouble):
         """Keeps what the last failure was, and logs where failures begin and end."""

@@ -31,7 +31,6 @@ FIRST_NODES = 1  # the coordinator's node; all others join
 LEASE = 10  # seconds after which the cluster forgets a replica that is gone
 PAUSE = 0.5  # seconds between two rounds of upkeep
 GRACE = 3.0  # seconds for answers that are under way when it ends
-LOOK_PATIENCE = 2.0  # seconds without an answer of etcd after which a look has failed
 DAMAGED = (hlcstore.BadBytes, hlcstore.NoCheckpoint)
 SETTINGS = [
     settings.Setting("name", settings.name, "its name, under which it publishes where it is"),
@@ -55,15 +54,14 @@ class Replica(serve.Answerer):
         self.pages = {"/": serve.page, "/metrics": self.metrics}
         self.counters = metrics.Counters()
         self.sight = sight.Sight(self.links)
-        self.eyes = self.etcd(LOOK_PATIENCE)
+        self.eyes = self.etcd()
         self.opened = {}  # when each snapshot was opened, by its id
         self.failure, self.vacuum_seconds = "", 0.0
         self.started = time.time()
 
-    def etcd(self, patience=None):
+    def etcd(self):
         """Returns a connection of a thread's own."""
-        more = {"patience": patience} if patience else {}
-        return Etcd(self.members, self.life.asked, **more)
+        return Etcd(self.members, self.life.asked)
 
     def report(self, **words):
         """Says on its output, to the program that started it, what its log says to people."""

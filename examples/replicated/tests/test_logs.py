@@ -107,10 +107,12 @@ class Lines(unittest.TestCase):
             self.assertRaises(etcd.Stopped, client.get, b"key")
         self.assertIn("refused", client.trouble)
 
-    def test_a_call_ends_after_its_patience(self):
-        client = etcd.Etcd(["127.0.0.1:1"], patience=0.01)
-        with self.assertRaises(OSError):
+    def test_a_call_that_failed_leaves_no_connection(self):
+        """The next one would find it in the middle of a request."""
+        client = etcd.Etcd(["127.0.0.1:1"])
+        with mock.patch("etcd.PATIENCE", -1), self.assertRaises(OSError):
             client.get(b"key")
+        self.assertIsNone(client.connection)
 
     def test_troubles(self):
         client = etcd.Etcd(["a:1"])
