@@ -11,6 +11,7 @@
 #include <hlcstore/file.hpp>
 #include <iostream>
 #include <map>
+#include <sstream>
 #include <string>
 #include <thread>
 #include <vector>
@@ -110,6 +111,23 @@ void all_is_there_after_opening_again(const std::string& path) {
   const file_snapshot newest = store.open_snapshot();
   EXPECT((listed(newest) == pairs{{"a", "2"}, {"b", "3"}}));
   EXPECT(store.write("a", "4", {0, 1}) > at(7));
+}
+
+void states_are_written_as_checkpoints(const std::string& path) {
+  file store(path, with(promise::written));
+  for (std::uint64_t reading = 1; reading <= 8; reading++) {
+    store.write(std::to_string(reading), std::string(60'000, 'v'), {0, reading});
+  }
+  std::ostringstream saved;
+  store.checkpoint_to(saved, 7);
+  hlcstore::store copy;
+  EXPECT(copy.restore(saved.str()) == 7 && copy.floor() == at(8));
+  EXPECT(copy.checkpoint(7) == saved.str());
+  std::ofstream none;
+  store.checkpoint_to(none);
+  EXPECT(!none && store.status().checkpoint_place == 0);
+  store.close();
+  EXPECT(refusal([&] { store.checkpoint_to(saved); }).code() == HLC_CLOSED);
 }
 
 void ranges_have_the_pairs_of_a_model(const std::string& path) {
@@ -291,6 +309,7 @@ int main(int many, char** arguments) {
       {"past", past_stamps_are_read},
       {"batches", batches_are_appended_whole},
       {"reopened", all_is_there_after_opening_again},
+      {"states", states_are_written_as_checkpoints},
       {"ranges", ranges_have_the_pairs_of_a_model},
       {"nodes", nodes_have_clocks},
       {"records", records_of_other_machines_are_appended},

@@ -18,17 +18,28 @@ struct making {
 
 static const struct values nothing;
 
-static uint32_t copy_store(hlc_file *file, struct making *making)
+/* Between these the store stays as it is, and reads go on. */
+static void copy_begin(hlc_file *file)
 {
     turn_take(&file->changing);
     pthread_rwlock_rdlock(&file->lend);
+}
+
+static void copy_end(hlc_file *file)
+{
+    pthread_rwlock_unlock(&file->lend);
+    turn_give(&file->changing);
+}
+
+static uint32_t copy_store(hlc_file *file, struct making *making)
+{
+    copy_begin(file);
     hlc_store mine = file->store;
     making->place = file->applied;
     making->log_sum = file->applied_sum;
     making->logged = file->accepted;
     uint32_t answer = hlc_checkpoint(&mine, making->place, &making->output, &making->len);
-    pthread_rwlock_unlock(&file->lend);
-    turn_give(&file->changing);
+    copy_end(file);
     return answer;
 }
 
@@ -177,6 +188,15 @@ uint32_t checkpoint_make(hlc_file *file, uint64_t *place)
 uint32_t hlc_file_checkpoint(hlc_file *file, uint64_t *place)
 {
     return checkpoint_make(file, place);
+}
+
+uint32_t hlc_file_copy(hlc_file *file, uint64_t word, hlc_output *output, size_t *len)
+{
+    copy_begin(file);
+    hlc_store mine = file->store;
+    uint32_t answer = hlc_checkpoint(&mine, word, output, len);
+    copy_end(file);
+    return answer;
 }
 
 /* ---- In the background ---- */

@@ -1,9 +1,11 @@
 // Part of hlcstore.hpp: how the calls of hlcstore.h are made.
 #ifndef HLCSTORE_CALL_HPP
 #define HLCSTORE_CALL_HPP
+#include <algorithm>
 #include <cstddef>
 #include <cstdint>
 #include <optional>
+#include <ostream>
 #include <string>
 #include <string_view>
 
@@ -83,6 +85,16 @@ class output {
     std::string read(len, '\0');
     check(hlc_output_read(&raw_, 0, bytes(read), read.size(), &len));
     return read;
+  }
+
+  // Writes the bytes, of which there are len, to a stream in pieces. One that fails gets no more.
+  void write_to(std::ostream& out, std::size_t len) {
+    std::string piece(std::min(len, std::size_t{1} << 16), '\0');
+    for (std::size_t at = 0, part; at < len && out; at += part) {
+      const std::uint32_t code = hlc_output_read(&raw_, at, bytes(piece), piece.size(), &part);
+      if (code != HLC_MORE) check(code);
+      out.write(piece.data(), static_cast<std::streamsize>(part));
+    }
   }
 
  private:

@@ -312,6 +312,16 @@ class file {
   // Saves a checkpoint, and returns the place in the log up to which it goes.
   std::uint64_t checkpoint() { return own().word_of(hlc_file_checkpoint); }
 
+  // Writes the bytes of a checkpoint to a stream in pieces, with a word of the program's: hlcstore::store opens from them
+  // in memory. Writes wait while the state is copied into memory, and go on while the stream is written. A stream that
+  // fails gets no more: its state says so.
+  void checkpoint_to(std::ostream& out, std::uint64_t word = 0) const {
+    detail::output copied;
+    std::size_t len;
+    detail::check_file(hlc_file_copy(own().get(), word, copied.raw(), &len));
+    copied.write_to(out, len);
+  }
+
   // Drops the rows that no reader needs: up to a stamp, or up to that which the system's clock had so long ago.
   vacuum_report vacuum_to(timestamp stamp) { return vacuum(hlc_file_vacuum_to, stamp.word); }
   vacuum_report vacuum_older(std::chrono::milliseconds age) {

@@ -162,6 +162,26 @@ static inline file_answer file_checkpoint(hlc_file *file)
     return answer;
 }
 
+typedef struct {
+    uint32_t code;
+    hlc_output output;
+    size_t len;
+} file_copied;
+
+static inline file_copied file_copy(hlc_file *file, uint64_t word)
+{
+    file_copied copied = { .output = HLC_NO_OUTPUT };
+    copied.code = hlc_file_copy(file, word, &copied.output, &copied.len);
+    return copied;
+}
+
+static inline file_part file_output_read(hlc_output *output, size_t from, uint8_t *out, size_t out_len)
+{
+    file_part part = { 0 };
+    part.code = hlc_output_read(output, from, out, out_len, &part.len);
+    return part;
+}
+
 static inline file_vacuumed file_vacuum_to(hlc_file *file, uint64_t stamp)
 {
     file_vacuumed vacuumed;

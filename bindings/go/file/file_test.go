@@ -4,6 +4,7 @@ import (
 	"bytes"
 	"errors"
 	"fmt"
+	"io"
 	"os"
 	"os/exec"
 	"path/filepath"
@@ -140,6 +141,46 @@ func TestCheckpointAndVacuum(t *testing.T) {
 	is(t, second(f.VacuumOlder(1<<62)), file.ErrNoStamp)
 }
 
+// meddler writes to the file before each piece, and takes so many bytes at most.
+type meddler struct {
+	file  *file.File
+	taken bytes.Buffer
+	most  int
+}
+
+func (m *meddler) Write(piece []byte) (int, error) {
+	if _, err := m.file.Write(0, 9, []byte("later"), nil); err != nil {
+		return 0, err
+	}
+	if room := m.most - m.taken.Len(); len(piece) > room {
+		piece = piece[:room]
+	}
+	return m.taken.Write(piece)
+}
+
+func TestCheckpointToAWriter(t *testing.T) {
+	f := open(t, fresh(t), &file.Options{Promise: file.Written})
+	for reading := uint64(1); reading <= 8; reading++ {
+		put(t, f, reading, fmt.Sprint(reading), strings.Repeat("v", 60_000))
+	}
+	saved := meddler{file: f, most: 1 << 20}
+	equal(t, must(f.CheckpointTo(&saved, 7)), int64(saved.taken.Len()))
+	store, word, err := hlcstore.RestoreBytes(saved.taken.Bytes())
+	ok(t, err)
+	defer store.Close()
+	equal(t, word, 7)
+	equal(t, must(store.Floor()), at(8))
+	var again bytes.Buffer
+	equal(t, must(store.Checkpoint(&again, 7)), int64(saved.taken.Len()))
+	equal(t, bytes.Equal(again.Bytes(), saved.taken.Bytes()), true)
+	equal(t, must(f.Floor()) > at(9), true)
+	equal(t, must(f.Status()).CheckpointPlace, 0)
+	short := meddler{file: f, most: 100_000}
+	many, err := f.CheckpointTo(&short, 0)
+	equal(t, many, 100_000)
+	is(t, err, io.ErrShortWrite)
+}
+
 func TestNodesOfAFile(t *testing.T) {
 	f := open(t, fresh(t), &file.Options{Nodes: 2})
 	put(t, f, 10, "city", "Lyon")
@@ -273,7 +314,8 @@ func TestClosedFileRefusesEachCall(t *testing.T) {
 			"Append": second(f.Append(0, 1, &batch, file.Default)), "Report": second(f.Report(0, 1)),
 			"Retire": second(f.Retire(0, 1)), "Send": second(f.Send(0, 1)), "Receive": second(f.Receive(0, 1, 1)),
 			"AppendRecords": second(f.AppendRecords(nil, file.Default)), "Checkpoint": second(f.Checkpoint()),
-			"VacuumTo": second(f.VacuumTo(0)), "VacuumOlder": second(f.VacuumOlder(0)), "Status": second(f.Status()),
+			"CheckpointTo": second(f.CheckpointTo(io.Discard, 0)),
+			"VacuumTo":     second(f.VacuumTo(0)), "VacuumOlder": second(f.VacuumOlder(0)), "Status": second(f.Status()),
 			"Snapshot": second(f.Snapshot()), "SnapshotAt": second(f.SnapshotAt(0)), "Floor": second(f.Floor()),
 			"Horizon": second(f.Horizon()), "Write": second(f.Write(0, 1, []byte("a"), nil)),
 			"Delete": second(f.Delete(0, 1, []byte("a"))),

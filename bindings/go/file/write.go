@@ -4,10 +4,14 @@ package file
 import "C"
 
 import (
+	"io"
 	"runtime"
 
 	"hlcstore"
 )
+
+// The most bytes that are copied from C at once.
+const mostCopied = 64 << 10
 
 // Append appends a batch as items of a node, in turn, at a reading of the clock, or [Now]; and clears the batch, also
 // where the error is ErrLater. It returns the stamp of the last item, at which a snapshot has all of them. An empty
@@ -133,6 +137,37 @@ func (f *File) Checkpoint() (uint64, error) {
 	defer f.done()
 	answer := C.file_checkpoint(f.raw)
 	return uint64(answer.word), refusal(answer.code, 0)
+}
+
+// CheckpointTo writes the bytes of a checkpoint in pieces, with a word of the caller's: [hlcstore.Restore] opens a store
+// in memory from them. It returns how many it wrote. Writes wait while C copies the state, and go on while w gets it, so
+// w may make any call with the file.
+//
+// Errors: those of the writer, after which a part may be written.
+func (f *File) CheckpointTo(w io.Writer, word uint64) (int64, error) {
+	if err := f.use(); err != nil {
+		return 0, err
+	}
+	copied := C.file_copy(f.raw, C.uint64_t(word))
+	f.done()
+	output := copied.output
+	defer C.hlc_output_drop(&output)
+	if err := refusal(copied.code, 0); err != nil {
+		return 0, err
+	}
+	piece, written := make([]byte, mostCopied), int64(0)
+	for written < int64(copied.len) {
+		read := C.file_output_read(&output, C.size_t(written), (*C.uint8_t)(&piece[0]), C.size_t(len(piece)))
+		many, err := w.Write(piece[:read.len])
+		written += int64(many)
+		if err != nil {
+			return written, err
+		}
+		if many < int(read.len) {
+			return written, io.ErrShortWrite
+		}
+	}
+	return written, nil
 }
 
 // VacuumTo does what [hlcstore.Store.VacuumTo] does, in parts between which reads and writes go on.

@@ -123,7 +123,7 @@ def compile_native(to):
 
 def compile_file(to):
     """Compiles the extension for files, which shares a part of the sources of the other one."""
-    shared = [NATIVE / f"{name}.c" for name in ("arguments", "objects", "refusals")]
+    shared = [NATIVE / f"{name}.c" for name in ("arguments", "objects", "refusals", "writer")]
     library = find_library()
     compile_extension(to, [HERE / "src/file/file.c", *shared], [library.file_archive, library.archive, *FILE_NEEDS])
 

@@ -4,6 +4,7 @@ import ast
 import contextlib
 import gc
 import inspect
+import io
 import pathlib
 import resource
 import signal
@@ -131,6 +132,40 @@ class Calls(InFolder):
             status = file.status
             self.assertEqual((status.place, status.checkpoint_place, status.log_bytes), (1, 1, 0))
             self.assertEqual((status.created, status.failure, status.writes), (True, 0, 0))
+
+
+    def test_a_checkpoint_to_a_file(self):
+        with File(self.path, promise=Promise.WRITTEN) as file:
+            for reading in range(1, 9):
+                file.write(b"%d" % reading, b"v" * 60_000, reading=reading)
+            saved = io.BytesIO()
+            # A write takes some bytes alone, and may change the file: what is saved is of before.
+            class Short:
+                def write(self, data):
+                    file.write(b"later", b"", reading=9)
+                    return saved.write(data[:100_000])
+
+            self.assertEqual(file.checkpoint_to(Short(), word=7), len(saved.getvalue()))
+            store = hlcstore.Store.restore(saved.getvalue())
+            self.assertEqual((store.word, store.floor), (7, stamp(8)))
+            self.assertEqual(store.checkpoint(7), saved.getvalue())
+            self.assertEqual(store.snapshot().digest(), file.snapshot(stamp(8)).digest())
+            again = io.BytesIO()
+            self.assertGreater(file.checkpoint_to(file=again), len(saved.getvalue()))
+            self.assertEqual(file.status.checkpoint_place, 0)
+            with self.assertRaises(AttributeError):
+                file.checkpoint_to(b"")
+            with self.assertRaises(OSError):
+                file.checkpoint_to(Lazy())
+        with self.assertRaises(Closed):
+            file.checkpoint_to(io.BytesIO())
+
+
+class Lazy:
+    """A file that takes nothing."""
+
+    def write(self, data):
+        return 0
 
 
 def at_each_depth(call):
@@ -668,6 +703,7 @@ class Memory(InFolder):
             snapshot.digest(), list(before.changes(snapshot)), file.versions(b"key"), file.versions(b"none")
             file.sizes, file.rows, file.link(0), file.floor_node(), file.nodes
             file.vacuum(), file.vacuum(older_than=timedelta(1)), file.checkpoint(), file.report(), file.send()
+            file.checkpoint_to(io.BytesIO())
             for call in (
                 lambda: File(self.path),
                 lambda: file.snapshot(2**63),
@@ -676,8 +712,10 @@ class Memory(InFolder):
                 lambda: snapshot[b"none"],
                 lambda: file.append_records(bytes(60_000)),
                 lambda: file.write(bytearray(b"a"), b"", node=5),
+                lambda: file.checkpoint_to(Lazy()),
+                lambda: file.checkpoint_to(io.StringIO()),
             ):
-                with contextlib.suppress(hlcstore.Error, TypeError):
+                with contextlib.suppress(hlcstore.Error, TypeError, OSError):
                     call()
         with contextlib.suppress(Closed):
             snapshot[b"key"]

@@ -95,6 +95,7 @@ with files.File("store", nodes=2, promise=files.Promise.GROUP) as file:
         assert_type(past.changes(past, end=b"z"), Iterator[tuple[bytes, bytes | None]])
         assert_type(past.digest(b"a"), bytes)
     assert_type(file.versions(b"a", to=file.floor), list[Version])
+    assert_type(file.checkpoint_to(io.BytesIO(), word=3), int)
     assert_type((file.link(0), file.sizes), tuple[Link, Sizes])
 try:
     files.File("store")

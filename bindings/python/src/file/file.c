@@ -337,6 +337,38 @@ static PyObject *file_checkpoint(PyObject *self, PyObject *none)
     return ask(self, (void *)&CHECKPOINT);
 }
 
+/* Writes the bytes of an output in pieces, and returns how many they are, or NULL with an exception. */
+static PyObject *write_output(hlc_output *output, size_t len, PyObject *write)
+{
+    for (size_t at = 0, read; at < len; at += read) {
+        size_t room = len - at < PIECE ? len - at : PIECE;
+        PyObject *piece = PyBytes_FromStringAndSize(NULL, (Py_ssize_t)room);
+        if (!piece) return NULL;
+        uint32_t code = hlc_output_read(output, at, (uint8_t *)PyBytes_AsString(piece), room, &read);
+        (void)code;
+        if (!write_piece(write, piece)) return NULL;
+    }
+    return PyLong_FromSize_t(len);
+}
+
+static PyObject *file_checkpoint_to(PyObject *self, PyObject *args, PyObject *words)
+{
+    static char *names[] = { "file", "word", NULL };
+    PyObject *to;
+    hlc_output output = HLC_NO_OUTPUT;
+    uint64_t word = 0;
+    size_t len = 0;
+    uint32_t code;
+    if (!PyArg_ParseTupleAndKeywords(args, words, "O|O&:checkpoint_to", names, &to, take_u64, &word)) return NULL;
+    PyObject *write = attribute_of(to, "write");
+    if (!write) return NULL;
+    WITH_FILE(self, code, hlc_file_copy(file, word, &output, &len));
+    PyObject *written = code == HLC_OK ? write_output(&output, len, write) : refuse(code, 0);
+    hlc_output_drop(&output);
+    Py_DECREF(write);
+    return written;
+}
+
 static PyObject *status(PyObject *self, void *none)
 {
     hlc_file_state is = { .size = sizeof is };
@@ -662,6 +694,12 @@ static PyMethodDef file_methods[] = {
     { "checkpoint", file_checkpoint, METH_NOARGS,
       "checkpoint($self, /)\n--\n\n"
       "Save a checkpoint, and cut the log behind the older one. Return the place in the log up to which it goes." },
+    METHOD("checkpoint_to", file_checkpoint_to,
+           "checkpoint_to($self, /, file, word=0)\n--\n\n"
+           "Write the bytes of a checkpoint to a binary file in pieces, and return how many they are.\n\n"
+           "hlcstore.Store.restore opens a store in memory from them. Changes wait while the state is copied, and go on\n"
+           "while it is written, so write may make any call. In memory is all of it. The file is what\n"
+           "hlcstore.Store.checkpoint_to takes; where writing fails, a part may be written."),
     { "link", file_link, METH_O, "link($self, node, /)\n--\n\nReturn what was appended as a node." },
     { "floor_node", file_floor_node, METH_NOARGS,
       "floor_node($self, /)\n--\n\nReturn the number of the first node that holds the floor back." },

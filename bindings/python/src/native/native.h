@@ -120,6 +120,18 @@ PyObject *words_of(PyObject *answer, void (*call)(uint32_t, uint8_t *, size_t, s
 extern PyMethodDef refusal_functions[];
 bool add_refusal_numbers(PyObject *module);
 
+/* ---- writer.c ---- */
+
+/* How many bytes a piece of a checkpoint has; the last one may have fewer. */
+enum { PIECE = 1 << 18 };
+
+/* A part of a bytes object, whose reference it takes. */
+PyObject *part_of(PyObject *bytes, Py_ssize_t from, Py_ssize_t to);
+
+/* Passes a piece, whose reference it takes, to the write of a file, to its end. Returns false with an exception where
+ * that fails. */
+bool write_piece(PyObject *write, PyObject *piece);
+
 /* ---- item.c ---- */
 
 typedef enum { WRITE, DELETE, REPORT, RETIRE } Kind;

@@ -6,11 +6,7 @@
  * are dropped meanwhile, in any thread, are closed at the end: so a collection of garbage neither waits, nor changes
  * the store. */
 #include "native.h"
-#include <errno.h>
 #include <stdlib.h>
-
-/* How many bytes a piece has; the last one may have fewer. */
-enum { PIECE = 1 << 18 };
 
 /* ---- Threads that save a store ---- */
 
@@ -85,14 +81,6 @@ static uint32_t read_piece(Store *store, hlc_saving *saving, PyObject *piece, si
     return code;
 }
 
-/* A part of a bytes object, whose reference it takes. */
-static PyObject *part_of(PyObject *bytes, Py_ssize_t from, Py_ssize_t to)
-{
-    PyObject *part = PyBytes_FromStringAndSize(PyBytes_AsString(bytes) + from, to - from);
-    Py_DECREF(bytes);
-    return part;
-}
-
 /* The next piece, or NULL with an exception. code: HLC_MORE where bytes are left after it. */
 static PyObject *next_piece(Store *store, hlc_saving *saving, uint32_t *code)
 {
@@ -106,53 +94,6 @@ static PyObject *next_piece(Store *store, hlc_saving *saving, uint32_t *code)
 }
 
 /* ---- The file ---- */
-
-static Py_ssize_t would_block(void)
-{
-    PyObject *words = Py_BuildValue("(is)", EAGAIN, "write returned None: it took no bytes");
-    if (words) PyErr_SetObject(PyExc_BlockingIOError, words);
-    Py_XDECREF(words);
-    return -1;
-}
-
-/* How many of so many bytes a file took, from what its write returned, or -1 with an exception. */
-static Py_ssize_t taken(PyObject *answer, Py_ssize_t len)
-{
-    if (answer == Py_None) return would_block();
-    if (PyBool_Check(answer)) {
-        PyErr_Format(PyExc_TypeError, "write returned %R, not how many bytes it took", answer);
-        return -1;
-    }
-    Py_ssize_t many = PyNumber_AsSsize_t(answer, PyExc_OSError);
-    if (many == -1 && PyErr_Occurred()) return -1;
-    if (many > 0 && many <= len) return many;
-    PyErr_Format(PyExc_OSError, "write returned %zd for %zd bytes", many, len);
-    return -1;
-}
-
-/* Passes some bytes to the write of a file. Returns how many it took, or -1 with an exception. */
-static Py_ssize_t write_some(PyObject *write, PyObject *bytes)
-{
-    PyObject *answer = PyObject_CallFunctionObjArgs(write, bytes, NULL);
-    if (!answer) return -1;
-    Py_ssize_t many = taken(answer, PyBytes_Size(bytes));
-    Py_DECREF(answer);
-    return many;
-}
-
-/* Writes a piece, whose reference it takes, to its end. Returns false with an exception where that fails. */
-static bool write_piece(PyObject *write, PyObject *piece)
-{
-    while (piece) {
-        Py_ssize_t len = PyBytes_Size(piece), many = write_some(write, piece);
-        if (many < 0 || many == len) {
-            Py_DECREF(piece);
-            return many == len;
-        }
-        piece = part_of(piece, many, len);
-    }
-    return false;
-}
 
 /* Writes all pieces, and returns how many bytes they have, or NULL with an exception. */
 static PyObject *write_pieces(Store *store, hlc_saving *saving, PyObject *write)

@@ -1,7 +1,7 @@
 // Made from bindings/file/hlcstore_file.h by bindings/rust/declare. Change the header, and run that again.
 
 use core::ffi::c_char;
-use hlcstore_sys::hlc_store;
+use hlcstore_sys::{hlc_output, hlc_store};
 
 pub const HLC_FILE_VERSION: &str = "0.1.0";
 pub const HLC_FILE_BATCH_BYTES: usize = 64 << 20;
@@ -136,6 +136,7 @@ unsafe extern "C" {
     pub fn hlc_file_send(file: *mut hlc_file, node: u16, reading: u64, word: *mut u64) -> u32;
     pub fn hlc_file_receive(file: *mut hlc_file, node: u16, seen: u64, reading: u64, word: *mut u64) -> u32;
     pub fn hlc_file_checkpoint(file: *mut hlc_file, place: *mut u64) -> u32;
+    pub fn hlc_file_copy(file: *mut hlc_file, word: u64, output: *mut hlc_output, len: *mut usize) -> u32;
     pub fn hlc_file_vacuum_to(
         file: *mut hlc_file,
         stamp: u64,

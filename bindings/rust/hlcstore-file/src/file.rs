@@ -1,7 +1,8 @@
-use crate::handle::{Handle, Origin};
+use crate::handle::{Handle, Origin, as_saving};
 use crate::{Batch, Options, Promise, Result, Snapshot, Status, Stopped};
-use hlcstore::{Link, Sizes, Stamp, Vacuumed, Version};
+use hlcstore::{Link, SaveError, Sizes, Stamp, Vacuumed, Version};
 use hlcstore_file_sys as sys;
+use std::io::Write;
 use std::time::Duration;
 
 /// An open file. Its calls may be made by several threads at once.
@@ -79,6 +80,30 @@ impl File {
     /// Refusals: those of [`Writer`].
     pub fn checkpoint(&self) -> Result<u64> {
         self.handle.checkpoint()
+    }
+
+    /// Writes the bytes of a checkpoint in pieces of 64 KiB, with a word of the caller's, and returns how many they are:
+    /// [`Store::restore`](hlcstore::Store::restore) opens a store in memory from them. Writes wait while the state is
+    /// copied into memory, and go on while the bytes are written. The writer is not flushed.
+    ///
+    /// Errors: those of the writer, after which a part may be written; and `NoMemory` of the store.
+    ///
+    /// ```
+    /// # let folder = std::env::temp_dir().join(format!("hlcstore-saved-{}", std::process::id()));
+    /// # std::fs::create_dir_all(&folder)?;
+    /// let file = hlcstore_file::File::open(folder.join("towns.hlc"))?;
+    /// file.write(b"capital", b"Paris")?;
+    ///
+    /// let mut saved = Vec::new(); // or a std::fs::File
+    /// file.checkpoint_to(&mut saved, 0)?;
+    /// let (copy, _) = hlcstore::Store::restore(&saved)?;
+    /// assert_eq!(copy.snapshot()?.get(b"capital")?.as_deref(), Some(&b"Paris"[..]));
+    /// # drop(file);
+    /// # std::fs::remove_dir_all(&folder)?;
+    /// # Ok::<(), Box<dyn std::error::Error>>(())
+    /// ```
+    pub fn checkpoint_to<W: Write + ?Sized>(&self, out: &mut W, word: u64) -> std::result::Result<u64, SaveError> {
+        self.handle.copy(word).map_err(as_saving)?.write_to(out)
     }
 
     /// Drops the rows up to a stamp that neither it nor an open snapshot below it needs, in parts between which reads

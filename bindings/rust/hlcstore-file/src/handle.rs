@@ -1,10 +1,11 @@
 //! The calls of a file in the C library, with the types of this crate.
 
 use crate::{Error, Promise, Result, Status, Stopped};
-use hlcstore::{ChangePage, KeyPage, Link, Page, Sizes, Stamp, Vacuumed, Version};
+use hlcstore::{ChangePage, KeyPage, Link, Page, SaveError, Sizes, Stamp, Vacuumed, Version};
 use hlcstore_file_sys as sys;
 use hlcstore_sys::{self as store, hlc_store};
 use std::ffi::CStr;
+use std::io::Write;
 use std::mem::ManuallyDrop;
 use std::ptr::{self, NonNull};
 
@@ -19,6 +20,8 @@ const VALUE_ROOM: usize = 65_535;
 const SHORT_ROOM: usize = 64;
 /// How many bytes of rows are made room for at first.
 const ROWS_ROOM: usize = 1024;
+/// How many bytes a piece of a checkpoint has; the last one may have fewer.
+const PIECE: usize = 1 << 16;
 
 fn answer<T>(code: u32, word: u64, value: T) -> Result<T> {
     if code == OK { Ok(value) } else { Err(Error::new(code, word)) }
@@ -189,6 +192,13 @@ impl Handle {
 
     pub(crate) fn checkpoint(&self) -> Result<u64> {
         self.call(|file, place| unsafe { sys::hlc_file_checkpoint(file, place) })
+    }
+
+    /// Copies the whole state, with a word of the caller's.
+    pub(crate) fn copy(&self, word: u64) -> Result<Copied> {
+        let mut copied = Copied { raw: store::HLC_NO_OUTPUT, len: 0 };
+        let code = unsafe { sys::hlc_file_copy(self.0.as_ptr(), word, &mut copied.raw, &mut copied.len) };
+        answer(code, 0, copied)
     }
 
     fn vacuum(&self, call: Vacuum, to: u64) -> Result<Vacuumed> {
@@ -374,6 +384,42 @@ impl Handle {
 impl Drop for Handle {
     fn drop(&mut self) {
         unsafe { sys::hlc_file_close(self.0.as_ptr()) };
+    }
+}
+
+/// A refusal of the store, in a call that writes its state.
+pub(crate) fn as_saving(error: Error) -> SaveError {
+    SaveError::Store(hlcstore::Error::new(error.code(), error.word()))
+}
+
+/// The bytes of a state that was copied.
+pub(crate) struct Copied {
+    raw: store::hlc_output,
+    len: usize,
+}
+
+impl Copied {
+    /// Writes the bytes in pieces, and returns how many they are.
+    pub(crate) fn write_to<W: Write + ?Sized>(mut self, out: &mut W) -> std::result::Result<u64, SaveError> {
+        let (mut piece, mut at) = (with_room(self.len.min(PIECE)).map_err(as_saving)?, 0);
+        while at < self.len {
+            let mut len = 0;
+            // SAFETY: the piece has room for so many bytes, and the call writes the first `len` of them.
+            unsafe {
+                store::hlc_output_read(&mut self.raw, at, piece.as_mut_ptr(), piece.capacity().min(PIECE), &mut len);
+                piece.set_len(len);
+            }
+            out.write_all(&piece)?;
+            at += len;
+        }
+        Ok(self.len as u64)
+    }
+}
+
+impl Drop for Copied {
+    fn drop(&mut self) {
+        // SAFETY: `raw` is `HLC_NO_OUTPUT` at first, only calls of the library change it, and it is not copied.
+        unsafe { store::hlc_output_drop(&mut self.raw) }
     }
 }
 

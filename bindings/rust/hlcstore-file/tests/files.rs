@@ -1,7 +1,8 @@
 //! Stores in a file: what is written is there, also after the file is opened again, and each refusal is an error.
 
-use hlcstore::{Item, Node, Prefix, Stamp};
+use hlcstore::{Item, Node, Prefix, SaveError, Stamp, Store};
 use hlcstore_file::{Batch, Error, ErrorKind, File, Options, Pairs, PairsBack, Promise, Result, Snapshot, Writer};
+use std::io::{self, Write};
 use std::path::PathBuf;
 use std::sync::Arc;
 use std::sync::atomic::{AtomicBool, Ordering};
@@ -192,6 +193,43 @@ fn vacuums_drop_what_no_snapshot_needs() -> Result<()> {
     assert_eq!(file.vacuum_to(at(9))?.dropped, 4);
     assert_eq!(file.vacuum_older(Duration::from_secs(3600))?.stamp, at(9));
     assert_eq!(file.vacuum_older(Duration::MAX).unwrap_err().kind(), ErrorKind::NoStamp);
+    Ok(())
+}
+
+/// A writer that writes to the file before each piece, and has no room after so many.
+struct Meddler<'a>(&'a File, Vec<u8>, usize);
+
+impl Write for Meddler<'_> {
+    fn write(&mut self, bytes: &[u8]) -> io::Result<usize> {
+        self.0.node(0).at(9).write(b"later", b"").map_err(io::Error::other)?;
+        let taken = bytes.len().min(self.2 - self.1.len()).min(50_000);
+        self.1.extend(&bytes[..taken]);
+        Ok(taken)
+    }
+
+    fn flush(&mut self) -> io::Result<()> {
+        Ok(())
+    }
+}
+
+#[test]
+fn states_are_written_as_checkpoints() -> std::result::Result<(), Box<dyn std::error::Error>> {
+    let folder = Folder::new("states");
+    let file = Options::new().promise(Promise::Written).open(folder.path())?;
+    for reading in 1..=8 {
+        file.node(0).at(reading).write(reading.to_string(), vec![b'v'; 60_000])?;
+    }
+    let mut out = Meddler(&file, Vec::new(), usize::MAX);
+    assert_eq!(file.checkpoint_to(&mut out, 7)?, out.1.len() as u64);
+    let (store, word) = Store::restore(&out.1)?;
+    assert_eq!((word, store.floor()?, store.checkpoint(7)?), (7, at(8), out.1));
+    assert_eq!(store.snapshot()?.digest(..)?, file.snapshot_at(at(8))?.digest(..)?);
+    assert!(file.floor()? > at(9));
+    assert_eq!(file.status()?.checkpoint_place, 0);
+    match file.checkpoint_to(&mut Meddler(&file, Vec::new(), 100_000), 0) {
+        Err(SaveError::Writer(error)) => assert_eq!(error.kind(), io::ErrorKind::WriteZero),
+        other => panic!("{other:?}"),
+    }
     Ok(())
 }
 
