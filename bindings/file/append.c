@@ -207,6 +207,7 @@ static void lead(hlc_file *file)
     if (file->logged >= file->due) pthread_cond_signal(&file->wake);
     pthread_mutex_unlock(&file->mutex);
     answer = db_shorten(&file->db);
+    db_lengthen(&file->db);
     pthread_mutex_lock(&file->mutex);
     note(file, answer, 0);
     turn_give(&file->turns);

@@ -220,15 +220,22 @@ static void *watch(void *argument)
     return NULL;
 }
 
-/* Starts the thread that makes checkpoints, which gets no signals of the program. */
-uint32_t background_start(hlc_file *file)
+/* Starts a thread that gets no signals of the program. */
+bool thread_start(pthread_t *thread, void *(*run)(void *), void *argument)
 {
     sigset_t all, before;
-    if (file->options.checkpoint_bytes == UINT64_MAX) return HLC_OK;
     sigfillset(&all);
     pthread_sigmask(SIG_SETMASK, &all, &before);
-    file->has_background = pthread_create(&file->background, NULL, watch, file) == 0;
+    bool has_started = pthread_create(thread, NULL, run, argument) == 0;
     pthread_sigmask(SIG_SETMASK, &before, NULL);
+    return has_started;
+}
+
+/* Starts the thread that makes checkpoints. */
+uint32_t background_start(hlc_file *file)
+{
+    if (file->options.checkpoint_bytes == UINT64_MAX) return HLC_OK;
+    file->has_background = thread_start(&file->background, watch, file);
     return file->has_background ? HLC_OK : HLC_NO_MEMORY;
 }
 

@@ -5,6 +5,7 @@
  * that succeeds, the failed transaction is not on disk, and else nothing is written until it does. After a failed sync
  * nobody knows which of the pages written before are on disk, so then the file takes no writes at all. */
 #include "file.h"
+#include <limits.h>
 #include <string.h>
 #include <zlib.h>
 
@@ -245,6 +246,35 @@ uint32_t db_shorten(struct db *db)
     uint32_t answer = db_begin(db, true);
     if (answer == HLC_OK) answer = db_end_with(db, db->state, true);
     return answer == HLC_OK ? db_move(db, SQLITE_CHECKPOINT_PASSIVE) : answer;
+}
+
+/* Writes zeros behind a file, or leaves it as long as it was. */
+static bool add_zeros(sqlite3_file *file, sqlite3_int64 len)
+{
+    /* Not a constant, which would be in the library's file. SQLite writes fewer than 128 KB at once. */
+    static uint8_t zeros[LENGTHENING / 8];
+    for (sqlite3_int64 at = len; at < len + LENGTHENING; at += (sqlite3_int64)sizeof zeros) {
+        if (file->pMethods->xWrite(file, zeros, sizeof zeros, at) == SQLITE_OK) continue;
+        file->pMethods->xTruncate(file, len);
+        return false;
+    }
+    return true;
+}
+
+/* Lengthens the write-ahead log by zeros, before commits that sync reach its end: a sync within a file takes less than
+ * one that brings a new length to disk too. SQLite finds no page there, since its sums do not fit. Where the disk is
+ * full, the log grows by the commits themselves. */
+void db_lengthen(struct db *db)
+{
+    sqlite3_file *wal = NULL;
+    sqlite3_int64 len = 0;
+    if (db->doubt != NO_DOUBT || db->synced != 1) return;
+    if (db->wal_pages > WAL_PAGES || db->wal_pages + PAGES_AHEAD <= db->wal_room) return;
+    sqlite3_file_control(db->sqlite, "main", SQLITE_FCNTL_JOURNAL_POINTER, &wal);
+    if (!wal || !wal->pMethods || wal->pMethods->xFileSize(wal, &len) != SQLITE_OK) return;
+    bool is_short = len / WAL_PAGE < db->wal_pages + PAGES_AHEAD;
+    bool grows = is_short && add_zeros(wal, len);
+    db->wal_room = is_short && !grows ? INT_MAX : (int)((grows ? len + LENGTHENING : len) / WAL_PAGE);
 }
 
 /* ---- Opening ---- */

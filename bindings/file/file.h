@@ -20,7 +20,10 @@ enum {
     THRESHOLD_LEN = 9,
     CLOCK_AHEAD = 1000, /* milliseconds that the clock on disk is ahead of stamps that are not */
     PIECE = 1 << 19,    /* bytes of a piece of a checkpoint */
-    WAL_PAGES = 4000    /* the write-ahead log is moved into the file where it is longer */
+    WAL_PAGES = 4000,   /* the write-ahead log is moved into the file where it is longer */
+    WAL_PAGE = 4120,    /* bytes of a page there, with its head */
+    PAGES_AHEAD = 64,   /* the log is lengthened where it has room for fewer pages */
+    LENGTHENING = 248 << 12 /* by so many bytes */
 };
 
 #define PHYSICAL(milliseconds) ((uint64_t)(milliseconds) << 16)
@@ -88,6 +91,7 @@ struct db {
     enum doubt doubt;
     int synced;         /* whether a COMMIT syncs now; -1: not known */
     int wal_pages;
+    int wal_room;       /* how many pages the write-ahead log has room for, or INT_MAX where it shall not be lengthened */
 };
 
 /* What a statement is given: numbers, and bytes if there are some. */
@@ -112,6 +116,7 @@ uint32_t db_end_with(struct db *db, struct state state, bool row);
 uint32_t db_add_log(struct db *db, struct state *state, const uint8_t *bytes, size_t len);
 uint32_t db_move(struct db *db, int mode);
 uint32_t db_shorten(struct db *db);
+void db_lengthen(struct db *db);
 uint64_t sum_bytes(uint64_t before, uint64_t number, const uint8_t *bytes, size_t len);
 uint64_t sum_row(uint64_t before, const struct state *state, const uint8_t *records, size_t len);
 uint64_t sum_numbers(const uint64_t *numbers, int many);
@@ -220,6 +225,7 @@ uint32_t append_threshold(hlc_file *file, uint64_t stamp);
 uint32_t recover(hlc_file *file, uint64_t *word);
 void finish_checkpoint(hlc_file *file, uint64_t place, uint64_t logged, uint64_t len);
 uint32_t checkpoint_make(hlc_file *file, uint64_t *place);
+bool thread_start(pthread_t *thread, void *(*run)(void *), void *argument);
 uint32_t background_start(hlc_file *file);
 void background_stop(hlc_file *file);
 struct entry **batch_entry(hlc_file_batch *batch);

@@ -1,7 +1,12 @@
 /* Recovery: the newest checkpoint that is whole, then the log behind it. */
 #include "file.h"
+#include <stdlib.h>
+#include <string.h>
 
-enum { MOST_DAMAGED = 16 };
+enum {
+    MOST_DAMAGED = 16,
+    LOT = 1 << 20 /* bytes of records that are applied at once, and more where a row has more */
+};
 
 /* A row of `checkpoint`. */
 struct found {
@@ -144,36 +149,163 @@ static uint64_t read_row(sqlite3_stmt *row, uint64_t before, struct state *state
     return sum_row(before, state, *bytes, *len);
 }
 
-/* Applies a row, if it is the next one and undamaged. Behind the place that the row of `state` has, it is newer. */
-static uint32_t apply_row(hlc_file *file, struct recovery *recovery, sqlite3_stmt *row)
+/* Rows that were read and are undamaged: their records, one after another. */
+struct rows {
+    uint8_t *records;
+    size_t len;
+    size_t room;
+};
+
+/* A reading of the log, which is ahead of the store by two lots of rows at most. A thread reads and checks one of them,
+ * while another thread lets the store apply the one before. */
+struct reading {
+    hlc_file *file;
+    struct recovery *recovery;
+    sqlite3_stmt *statement;
+    bool ended;      /* the reader met the last row, or one that is damaged */
+    uint32_t answer; /* why it ended */
+    struct rows rows[2];
+
+    pthread_mutex_t mutex; /* guards these, and hands over the others: */
+    pthread_cond_t changed;
+    uint64_t read; /* how many lots were read, and how many were applied */
+    uint64_t applied;
+    bool done;    /* no more will be read */
+    bool stopped; /* no more will be applied */
+};
+
+/* Answers whether a row is the next one and undamaged, and moves the recovery on. Behind the place that the row of
+ * `state` has, it is newer. */
+static bool check_row(struct reading *reading, const uint8_t **bytes, size_t *len)
 {
-    struct state *known = &file->db.state, state = *known;
-    const uint8_t *bytes;
-    uint64_t threshold, word;
-    size_t len, used, many;
-    uint64_t sum = read_row(row, recovery->sum, &state, &bytes, &len);
+    struct recovery *recovery = reading->recovery;
+    struct state *known = &reading->file->db.state, state = *known;
+    uint64_t sum = read_row(reading->statement, recovery->sum, &state, bytes, len);
     if (recovery->first == 0) recovery->first = state.place;
-    if (state.place != recovery->place + 1 || state.sum != sum) return HLC_FILE_DAMAGED_LOG;
-    if (state.place == known->place && sum != known->sum) return HLC_FILE_DAMAGED_LOG;
-    if (!take_row(&file->links, bytes, len)) return HLC_FILE_DAMAGED_LOG;
-    uint32_t answer = hlc_records_apply(&file->store, bytes, len, &used, &many, &threshold, &word);
-    if (answer != HLC_OK) return answer;
+    if (state.place != recovery->place + 1 || state.sum != sum) return false;
+    if (state.place == known->place && sum != known->sum) return false;
+    if (!take_row(&reading->file->links, *bytes, *len)) return false;
     if (state.place > known->place) *known = state;
     recovery->place = state.place;
     recovery->sum = sum;
-    recovery->log_len += len;
-    file->report.applied += many;
+    recovery->log_len += *len;
+    return true;
+}
+
+static uint32_t keep_row(struct rows *rows, const uint8_t *bytes, size_t len)
+{
+    if (rows->len + len > rows->room) {
+        size_t room = rows->len + len < 2 * LOT ? 2 * LOT : rows->len + len;
+        uint8_t *records = realloc(rows->records, room);
+        if (!records) return HLC_NO_MEMORY;
+        rows->records = records;
+        rows->room = room;
+    }
+    if (len > 0) memcpy(rows->records + rows->len, bytes, len);
+    rows->len += len;
     return HLC_OK;
+}
+
+/* Reads some rows, up to the last one or the first that is damaged. */
+static void read_rows(struct reading *reading, struct rows *rows)
+{
+    const uint8_t *bytes;
+    size_t len;
+    rows->len = 0;
+    while (!reading->ended && rows->len < LOT) {
+        reading->ended = sqlite3_step(reading->statement) != SQLITE_ROW;
+        if (reading->ended) return;
+        reading->answer = check_row(reading, &bytes, &len) ? keep_row(rows, bytes, len) : HLC_FILE_DAMAGED_LOG;
+        reading->ended = reading->answer != HLC_OK;
+    }
+}
+
+static uint32_t apply_rows(hlc_file *file, const struct rows *rows)
+{
+    size_t used, many;
+    uint64_t threshold, word;
+    uint32_t answer = hlc_records_apply(&file->store, rows->records, rows->len, &used, &many, &threshold, &word);
+    if (answer == HLC_OK) file->report.applied += many;
+    return answer;
+}
+
+/* The thread that reads. */
+static void *read_ahead(void *argument)
+{
+    struct reading *reading = argument;
+    pthread_mutex_lock(&reading->mutex);
+    while (!reading->done && !reading->stopped) {
+        if (reading->read - reading->applied == 2) {
+            pthread_cond_wait(&reading->changed, &reading->mutex);
+            continue;
+        }
+        pthread_mutex_unlock(&reading->mutex);
+        read_rows(reading, &reading->rows[reading->read % 2]);
+        pthread_mutex_lock(&reading->mutex);
+        reading->read++;
+        reading->done = reading->ended;
+        pthread_cond_broadcast(&reading->changed);
+    }
+    pthread_mutex_unlock(&reading->mutex);
+    return NULL;
+}
+
+/* Applies what the other thread reads. */
+static uint32_t apply_behind(struct reading *reading)
+{
+    uint32_t answer = HLC_OK;
+    pthread_mutex_lock(&reading->mutex);
+    while (answer == HLC_OK && (reading->applied < reading->read || !reading->done)) {
+        if (reading->applied == reading->read) {
+            pthread_cond_wait(&reading->changed, &reading->mutex);
+            continue;
+        }
+        pthread_mutex_unlock(&reading->mutex);
+        answer = apply_rows(reading->file, &reading->rows[reading->applied % 2]);
+        pthread_mutex_lock(&reading->mutex);
+        reading->applied++;
+        reading->stopped = answer != HLC_OK;
+        pthread_cond_broadcast(&reading->changed);
+    }
+    pthread_mutex_unlock(&reading->mutex);
+    return answer;
+}
+
+/* Reads and applies all rows. There is a second thread only where one lot has not all of them. */
+static uint32_t read_log(struct reading *reading)
+{
+    pthread_t reader;
+    read_rows(reading, &reading->rows[0]);
+    reading->read = 1;
+    reading->done = reading->ended;
+    bool has_reader = !reading->done && thread_start(&reader, read_ahead, reading);
+    if (has_reader) {
+        uint32_t answer = apply_behind(reading);
+        pthread_join(reader, NULL);
+        return answer;
+    }
+    uint32_t answer = apply_rows(reading->file, &reading->rows[0]);
+    while (answer == HLC_OK && !reading->ended) {
+        read_rows(reading, &reading->rows[0]);
+        answer = apply_rows(reading->file, &reading->rows[0]);
+    }
+    return answer;
 }
 
 /* Applies the rows behind a place, up to the last one or the first that is damaged. */
 static uint32_t apply_log(hlc_file *file, struct recovery *recovery)
 {
     struct values from = { .many = 1, .numbers = { recovery->place } };
-    sqlite3_stmt *rows = db_ask(&file->db, LOG_FROM, &from);
-    uint32_t answer = HLC_OK;
-    while (answer == HLC_OK && sqlite3_step(rows) == SQLITE_ROW) answer = apply_row(file, recovery, rows);
-    int code = sqlite3_reset(rows);
+    struct reading reading = { .file = file, .recovery = recovery, .statement = db_ask(&file->db, LOG_FROM, &from) };
+    pthread_mutex_init(&reading.mutex, NULL);
+    pthread_cond_init(&reading.changed, NULL);
+    uint32_t answer = read_log(&reading);
+    pthread_mutex_destroy(&reading.mutex);
+    pthread_cond_destroy(&reading.changed);
+    free(reading.rows[0].records);
+    free(reading.rows[1].records);
+    int code = sqlite3_reset(reading.statement);
+    if (answer == HLC_OK) answer = reading.answer;
     if (answer == HLC_OK && code != SQLITE_OK) answer = db_failure(&file->db, code);
     return answer == HLC_OK && recovery->place < file->db.state.place ? HLC_FILE_DAMAGED_LOG : answer;
 }

@@ -2,9 +2,14 @@
 #include "test.h"
 #include "shim.h"
 #include <errno.h>
+#include <fcntl.h>
+#include <sys/stat.h>
 #include <sys/wait.h>
 
-static const char PATH[] = "disk.hlc", LEFT[] = "left.hlc";
+/* Bytes of a page in the write-ahead log, and by how many that is lengthened. */
+enum { PAGE = 4120, ROOM = 248 << 12 };
+
+static const char PATH[] = "disk.hlc", WAL[] = "disk.hlc-wal", LEFT[] = "left.hlc";
 
 static uint32_t open_as_is(hlc_file **file, hlc_file_state *state)
 {
@@ -107,6 +112,100 @@ static void a_refused_checkpoint_has_no_place(void)
     HOLDS(after > 0);
 }
 
+static int64_t log_len(const char *path)
+{
+    struct stat found;
+    return stat(path, &found) == 0 ? found.st_size : -1;
+}
+
+/* Synced commits find a write-ahead log that has room for them. */
+static void a_log_is_lengthened_before_it_is_full(void)
+{
+    shim_set(NO_FAULT, false, 0, 0);
+    hlc_file *file = opened(fresh(PATH));
+    put(file, 1, "a", "x");
+    int64_t first = log_len(WAL), next = first;
+    HOLDS(first >= ROOM && first < ROOM + 10 * PAGE);
+    for (uint64_t l = 2; l <= 1000; l++) {
+        int64_t before = log_len(WAL);
+        put(file, l, "a", "x");
+        HOLDS(log_len(WAL) == before || log_len(WAL) == before + ROOM);
+        next = log_len(WAL);
+    }
+    /* SQLite fills the last sector of a commit with one more page here. */
+    HOLDS(next > 2000 * PAGE && next < 2200 * PAGE + ROOM);
+    EXPECT_VALUE(file, 0, "a", "x");
+    hlc_file_close(file);
+}
+
+/* Where there is no room for that, the commit is as it would be without, and the log is left alone from then on. */
+static void a_log_that_cannot_be_lengthened_grows(void)
+{
+    static const enum fault faults[] = { IS_FULL, FAILS, FAILS_LATE, FAILS_SHORT };
+    uint64_t stamp;
+    for (size_t i = 0; i < sizeof faults / sizeof *faults; i++) {
+        uint32_t left = 0;
+        bool met = true;
+        for (long at = 1; met; at++) {
+            shim_set(NO_FAULT, false, 0, 0);
+            hlc_file *file = opened(fresh(PATH));
+            shim_set(faults[i], false, at, 0);
+            uint32_t answer = put_at(file, 1, "a", "x", &stamp);
+            met = shim.met;
+            shim_set(NO_FAULT, false, 0, 0);
+            bool is_left = answer == HLC_OK && met;
+            if (is_left) HOLDS(log_len(WAL) < 10 * PAGE);
+            if (is_left) EXPECT(state_of(file).failure, HLC_OK);
+            for (uint64_t l = 2; is_left && l <= 9; l++) put(file, l, "a", "x");
+            if (is_left) HOLDS(log_len(WAL) < 20 * PAGE);
+            left += is_left;
+            hlc_file_close(file);
+        }
+        /* The log is lengthened by eight writes. */
+        EXPECT(left, 8);
+    }
+}
+
+/* Opens a copy of the file that was left, whose log is cut at a length, or has a byte of rubbish there. Returns how
+ * many rows it has. */
+static uint64_t rows_of_copy(int64_t len, bool cuts)
+{
+    hlc_file *file;
+    hlc_file_state state;
+    fresh(PATH);
+    HOLDS(system("cp left.hlc disk.hlc && cp left.hlc-wal disk.hlc-wal") == 0);
+    int wal = open(WAL, O_WRONLY);
+    HOLDS(wal >= 0 && (cuts ? ftruncate(wal, len) : (int)pwrite(wal, "#", 1, len) - 1) == 0);
+    close(wal);
+    EXPECT(open_as_is(&file, &state), HLC_OK);
+    EXPECT(state.failure, HLC_OK);
+    for (uint64_t l = 1; l <= state.place; l++) HOLDS(value_at(file, AT(l), "a")[0] == 'v');
+    HOLDS(hlc_file_close(file) == HLC_OK);
+    return state.place;
+}
+
+/* What lies behind the last commit is no part of the log: it may be cut, or be rubbish. A commit that was cut itself is
+ * gone, with those behind it alone. */
+static void a_log_ends_where_its_last_commit_does(void)
+{
+    shim_set(NO_FAULT, false, 0, 0);
+    leave();
+    int64_t whole = log_len("left.hlc-wal"), end = whole;
+    HOLDS(whole >= ROOM);
+    while (rows_of_copy(end - PAGE, true) == 20) end -= PAGE;
+    HOLDS(end > 20 * PAGE && end < whole - ROOM / 2);
+    EXPECT(rows_of_copy(whole - 1, true), 20);
+    for (int64_t at = end; at < whole; at += ROOM / 8) EXPECT(rows_of_copy(at, false), 20);
+    uint64_t last = 20;
+    for (int64_t at = end - PAGE; at > PAGE; at -= PAGE / 2) {
+        uint64_t rows = rows_of_copy(at, true);
+        HOLDS(rows <= last && rows + 1 >= last);
+        last = rows;
+        HOLDS(rows_of_copy(at, false) <= rows + 1);
+    }
+    EXPECT(rows_of_copy(PAGE, true), 0);
+}
+
 static bool folder_fails;
 
 /* In place of that of the system: the files themselves are synced by the shim. */
@@ -137,6 +236,9 @@ static const struct test TESTS[] = {
     TEST(a_vacuum_outlives_a_loss_of_power),
     TEST(a_refused_checkpoint_has_no_place),
     TEST(a_folder_is_synced),
+    TEST(a_log_is_lengthened_before_it_is_full),
+    TEST(a_log_that_cannot_be_lengthened_grows),
+    TEST(a_log_ends_where_its_last_commit_does),
 };
 
 int main(void)

@@ -4,8 +4,9 @@
 #include <fcntl.h>
 #include <sys/statvfs.h>
 
-enum { PAGE = 4096, MOST_VALUE = 60000, MOST_BATCHES = 200 };
-/* The pages that are left: fewer than a checkpoint of the first batch takes, and each end within a batch. */
+enum { PAGE = 4096, MOST_VALUE = 60000, MOST_BATCHES = 500 };
+/* The pages that are left on the disk. With those that the write-ahead log has room for, some 300 at most, they are
+ * fewer than a checkpoint of the first batch takes, and each end within a batch. */
 enum { FEWEST_LEFT = 20, MOST_LEFT = 30 };
 
 static const char PATH[] = "full.hlc";
@@ -17,7 +18,7 @@ struct shape {
     size_t length;
 };
 
-static const struct shape FIRST = { 4, 50000 };
+static const struct shape FIRST = { 32, 50000 };
 /* The last one is longer than SQLite's cache, which writes then before the transaction ends. */
 static const struct shape SHAPES[] = { { 1, 100 }, { 2, 3000 }, { 2, 30000 }, { 40, MOST_VALUE } };
 static uint8_t value[MOST_VALUE], found[MOST_VALUE];

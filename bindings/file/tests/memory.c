@@ -96,6 +96,16 @@ static uint32_t call_checkpoint(void)
     return hlc_file_checkpoint(file, &place);
 }
 
+static uint32_t call_copy(void)
+{
+    hlc_output output = HLC_NO_OUTPUT;
+    size_t len;
+    uint32_t answer = hlc_file_copy(file, 7, &output, &len);
+    HOLDS((answer == HLC_OK) == (len > 0));
+    hlc_output_drop(&output);
+    return answer;
+}
+
 static uint32_t call_vacuum(void)
 {
     uint64_t word, kept, bytes, dropped;
@@ -145,6 +155,7 @@ static const struct {
     { "join", call_join, false, false },
     { "send", call_send, false, false },
     { "checkpoint", call_checkpoint, false, false },
+    { "copy", call_copy, false, false },
     { "vacuum", call_vacuum, false, true },
     { "threshold", call_threshold, false, true },
     { "snapshot", call_snapshot, false, false },
@@ -245,6 +256,36 @@ static bool make_refused(size_t at, size_t number)
     return refused;
 }
 
+/* Opens a file whose log two threads read and apply, where a request is refused, and then again. */
+static void open_long(void)
+{
+    static char value[3000];
+    hlc_file_options options = { .promise = HLC_FILE_WRITTEN, .checkpoint_bytes = UINT64_MAX };
+    hlc_file_state state = { 0 };
+    uint64_t word;
+    memset(value, 'v', sizeof value - 1);
+    file = opened_with(fresh(PATH), options);
+    for (uint64_t l = 1; l <= 1500; l++) put(file, l, l % 2 ? "odd" : "even", value);
+    EXPECT(hlc_file_close(file), HLC_OK);
+    bool refused = true;
+    for (size_t number = 1; refused && wrong < 20; number += 1 + number / 8) {
+        refuse(number);
+        uint32_t answer = hlc_file_open(PATH, &options, &file, &state);
+        refused = was_refused();
+        HOLDS(answer == HLC_OK || (refused && (answer == HLC_NO_MEMORY || answer == HLC_FILE_CANNOT_OPEN)));
+        hlc_file_close(file);
+        file = opened_with(PATH, options);
+        EXPECT(state_of(file).applied, 1500);
+        EXPECT(strlen(value_at(file, AT(1499), "odd")), sizeof value - 1);
+        EXPECT(hlc_file_close(file), HLC_OK);
+    }
+    HOLDS(!refused);
+    file = opened_with(PATH, options);
+    EXPECT(put_at(file, 2000, "odd", "x", &word), HLC_OK);
+    EXPECT(hlc_file_close(file), HLC_OK);
+    file = NULL;
+}
+
 int main(void)
 {
     static char name[80];
@@ -262,6 +303,8 @@ int main(void)
         }
         HOLDS(!refused);
     }
+    snprintf(name, sizeof name, "open a long log");
+    open_long();
     hlc_file_batch_drop(batch);
     fprintf(stderr, "%lu requests were refused\n", cases);
     HOLDS(cases > 10);

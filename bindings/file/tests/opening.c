@@ -209,6 +209,64 @@ static void what_is_before_the_damage_is_kept_on_demand(void)
     EXPECT(state.word, 4);
 }
 
+/* Rows of a log that takes several lots to read, and what a row has at least. */
+enum { LONG_ROWS = 60, LONG_ROW = 100000 };
+
+static void make_long_log(void)
+{
+    static char value[1000];
+    char key[16];
+    uint64_t stamp;
+    hlc_file_batch *batch;
+    memset(value, 'v', sizeof value);
+    hlc_file *file = opened_with(fresh(PATH), (hlc_file_options){ .promise = HLC_FILE_WRITTEN });
+    EXPECT(hlc_file_batch_new(&batch), HLC_OK);
+    for (uint64_t l = 1; l <= LONG_ROWS; l++) {
+        for (int i = 0; i < LONG_ROW / (int)sizeof value; i++) {
+            snprintf(key, sizeof key, "k%d", i);
+            EXPECT(hlc_file_batch_put(batch, BYTES(key), (const uint8_t *)value, sizeof value), HLC_OK);
+        }
+        EXPECT(hlc_file_batch_put(batch, BYTES("a"), BYTES(l == 1 ? "one" : "more")), HLC_OK);
+        EXPECT(hlc_file_append(file, 0, l, batch, 0, &stamp), HLC_OK);
+    }
+    hlc_file_batch_drop(batch);
+    EXPECT(hlc_file_close(file), HLC_OK);
+}
+
+/* Lots that one thread reads ahead of another are applied up to the damage, wherever it is. */
+static void a_long_log_is_read_ahead(void)
+{
+    static const uint64_t places[] = { 2, 10, 11, 12, 21, 22, 32, 33, 59, 60 };
+    enum { WRITES = LONG_ROW / 1000 + 1 };
+    hlc_file_state state = { 0 };
+    char sql[100];
+    make_long_log();
+    hlc_file *file = opened(PATH);
+    EXPECT(state_of(file).applied, LONG_ROWS * WRITES);
+    EXPECT(state_of(file).place, LONG_ROWS);
+    HOLDS(state_of(file).log_bytes > LONG_ROWS * LONG_ROW);
+    for (uint64_t l = 2; l <= LONG_ROWS; l++) EXPECT_VALUE(file, AT(l) + WRITES - 1, "a", "more");
+    put(file, LONG_ROWS + 1, "a", "last");
+    hlc_file_close(file);
+    for (size_t i = 0; i < sizeof places / sizeof *places; i++) {
+        make_long_log();
+        snprintf(sql, sizeof sql, "UPDATE log SET clock = clock + 1 WHERE place = %d", (int)places[i]);
+        change(PATH, sql);
+        EXPECT(hlc_file_open(PATH, NULL, &file, &state), HLC_FILE_DAMAGED_LOG);
+        EXPECT(state.word, places[i]);
+        file = opened_with(PATH, (hlc_file_options){ .flags = HLC_FILE_KEEP_BEFORE_DAMAGE });
+        EXPECT(state_of(file).place, places[i] - 1);
+        EXPECT(state_of(file).applied, (places[i] - 1) * WRITES);
+        EXPECT(state_of(file).aside, LONG_ROWS + 1 - places[i]);
+        EXPECT_VALUE(file, 0, "a", places[i] == 2 ? "one" : "more");
+        put(file, LONG_ROWS + 1, "a", "last");
+        hlc_file_close(file);
+        file = opened(PATH);
+        EXPECT_VALUE(file, 0, "a", "last");
+        hlc_file_close(file);
+    }
+}
+
 /* Where the floor falls below the horizon, only the floor is left to read, until it reaches the horizon again. */
 static void a_horizon_above_the_floor_is_kept(void)
 {
@@ -554,6 +612,7 @@ static const struct test TESTS[] = {
     TEST(without_a_checkpoint_only_a_whole_log_serves),
     TEST(a_damaged_log_is_refused_with_its_place),
     TEST(what_is_before_the_damage_is_kept_on_demand),
+    TEST(a_long_log_is_read_ahead),
     TEST(a_horizon_above_the_floor_is_kept),
     TEST(a_damaged_state_is_refused),
     TEST(checkpoints_that_are_marked_do_not_serve),
