@@ -15,26 +15,48 @@ uint32_t hlc_file_batch_new(hlc_file_batch **batch)
     return *batch ? HLC_OK : HLC_NO_MEMORY;
 }
 
-/* Makes room for so many more bytes. out: where they go. */
-static uint32_t make_room(hlc_file_batch *batch, size_t len, uint8_t **out)
+/* Makes room for so many more bytes. */
+static uint32_t make_room(hlc_file_batch *batch, size_t len)
 {
-    size_t before = batch->entry ? batch->entry->len : 0, room = batch->entry ? batch->room : 0;
+    size_t before = batch->entry ? batch->entry->len : 0, room = batch->entry ? batch->room : 256;
     if (before + len > HLC_FILE_BATCH_BYTES) return HLC_FILE_TOO_LONG;
-    if (before + len > room) {
-        if (room < 256) room = 256;
-        while (room < before + len) room *= 2;
-        struct entry *entry = realloc(batch->entry, sizeof *entry + room);
-        if (!entry) return HLC_NO_MEMORY;
-        entry->len = before;
-        batch->entry = entry;
-        batch->room = room;
-    }
-    *out = batch->entry->bytes + before;
+    while (room < before + len) room *= 2;
+    struct entry *entry = realloc(batch->entry, sizeof *entry + room);
+    if (!entry) return HLC_NO_MEMORY;
+    entry->len = before;
+    batch->entry = entry;
+    batch->room = room;
     return HLC_OK;
 }
 
-static uint32_t add(hlc_file_batch *batch, size_t len)
+/* A write, or a deletion where there is no value. */
+struct change {
+    const uint8_t *key;
+    size_t key_len;
+    const uint8_t *value;
+    size_t value_len;
+    bool deletes;
+};
+
+/* Writes the item of a change behind those of the batch, where it has room for that. len: how long the item is. */
+static uint32_t write_item(hlc_file_batch *batch, const struct change *change, size_t *len)
 {
+    uint8_t *out = batch->entry ? batch->entry->bytes + batch->entry->len : NULL;
+    size_t room = batch->entry ? batch->room - batch->entry->len : 0;
+    if (change->deletes) return hlc_item_delete(0, 0, 0, change->key, change->key_len, out, room, len);
+    return hlc_item_write(0, 0, 0, change->key, change->key_len, change->value, change->value_len, out, room, len);
+}
+
+static uint32_t add(hlc_file_batch *batch, const struct change *change)
+{
+    size_t len;
+    uint32_t answer = write_item(batch, change, &len);
+    bool fits = answer == HLC_OK && batch->entry && len <= batch->room - batch->entry->len;
+    if (answer == HLC_OK && !fits) {
+        answer = make_room(batch, len);
+        if (answer == HLC_OK) hlc_ignore(write_item(batch, change, &len));
+    }
+    if (answer != HLC_OK) return answer;
     batch->entry->len += len;
     batch->many++;
     return HLC_OK;
@@ -43,24 +65,12 @@ static uint32_t add(hlc_file_batch *batch, size_t len)
 uint32_t hlc_file_batch_put(hlc_file_batch *batch, const uint8_t *key, size_t key_len, const uint8_t *value,
                             size_t value_len)
 {
-    size_t len;
-    uint8_t *out;
-    uint32_t answer = hlc_item_write(0, 0, 0, key, key_len, value, value_len, NULL, 0, &len);
-    if (answer == HLC_OK) answer = make_room(batch, len, &out);
-    if (answer != HLC_OK) return answer;
-    hlc_ignore(hlc_item_write(0, 0, 0, key, key_len, value, value_len, out, len, &len));
-    return add(batch, len);
+    return add(batch, &(struct change){ key, key_len, value, value_len, false });
 }
 
 uint32_t hlc_file_batch_delete(hlc_file_batch *batch, const uint8_t *key, size_t key_len)
 {
-    size_t len;
-    uint8_t *out;
-    uint32_t answer = hlc_item_delete(0, 0, 0, key, key_len, NULL, 0, &len);
-    if (answer == HLC_OK) answer = make_room(batch, len, &out);
-    if (answer != HLC_OK) return answer;
-    hlc_ignore(hlc_item_delete(0, 0, 0, key, key_len, out, len, &len));
-    return add(batch, len);
+    return add(batch, &(struct change){ key, key_len, NULL, 0, true });
 }
 
 size_t hlc_file_batch_many(const hlc_file_batch *batch)
