@@ -1,10 +1,11 @@
 // Times durable stores on one disk: `commits BATCH COMMITS TURNS FOLDER`, `recover ROWS log|checkpoint FOLDER`.
 //
-// The stores make so many commits each, turn about. A commit is synced, and has BATCH rows: random keys of 8 bytes out
-// of a million, values of 64 bytes. It prints for each store the best and the middle number of commits a second of a
-// turn, and bytes on disk a row after it was closed; or the seconds of an opening, and such bytes. sqlite keeps the
-// newest value of each key, as lmdb and rocksdb do, in a table with the key as its primary key; sqlite-log appends each
-// row to a table with a rowid.
+// The stores make so many commits each, turn about, in an order that is drawn for each turn. A commit is synced, and has
+// BATCH rows: random keys of 8 bytes out of a million, values of 64 bytes. It prints for each store the best and the
+// middle number of commits a second of a turn; the middle share of what sqlite, and sqlite-log, make in the same turn;
+// and bytes on disk a row after it was closed. Or the seconds of an opening, and such bytes. sqlite keeps the newest
+// value of each key, as lmdb and rocksdb do, in a table with the key as its primary key; sqlite-log appends each row to
+// a table with a rowid, in which no key is looked up.
 #include <hlcstore_file.h>
 #include <lmdb.h>
 #include <rocksdb/db.h>
@@ -20,6 +21,8 @@
 #include <filesystem>
 #include <functional>
 #include <memory>
+#include <numeric>
+#include <random>
 #include <string>
 #include <vector>
 
@@ -213,8 +216,20 @@ string made(const string& folder) {
   return folder;
 }
 
-// The stores commit in turn, each turn with another one first.
+double middle(std::vector<double> numbers) {
+  std::sort(numbers.begin(), numbers.end());
+  return numbers[numbers.size() / 2];
+}
+
+// What a store makes of another one's rate in the same turn, in the middle.
+double share(const Turns& store, const Turns& other) {
+  std::vector<double> shares;
+  for (size_t turn = 0; turn < store.rates.size(); turn++) shares.push_back(store.rates[turn] / other.rates[turn]);
+  return middle(shares);
+}
+
 void commits(uint64_t batch, uint64_t many, uint64_t turns, const string& folder) {
+  enum { SQLITE = 1, SQLITE_LOG = 2 };
   const auto in = [&](const char* name) { return made(folder + "/" + name); };
   std::vector<Turns> stores;
   stores.push_back(turns_of("hlcstore-file", std::make_shared<Ours>(in("hlcstore-file")), batch, many));
@@ -222,18 +237,22 @@ void commits(uint64_t batch, uint64_t many, uint64_t turns, const string& folder
   stores.push_back(turns_of("sqlite-log", std::make_shared<Sqlite>(in("sqlite-log"), true), batch, many));
   stores.push_back(turns_of("lmdb", std::make_shared<Lmdb>(in("lmdb")), batch, many));
   stores.push_back(turns_of("rocksdb", std::make_shared<Rocks>(in("rocksdb")), batch, many));
+  std::vector<size_t> order(stores.size());
+  std::iota(order.begin(), order.end(), 0);
+  std::mt19937 drawn(1);
   for (uint64_t turn = 0; turn < turns; turn++) {
-    for (uint64_t i = 0; i < stores.size(); i++) {
-      Turns& store = stores[(turn + i) % stores.size()];
+    std::shuffle(order.begin(), order.end(), drawn);
+    for (size_t place : order) {
       const double begin = seconds();
-      store.turn();
-      store.rates.push_back(many / (seconds() - begin));
+      stores[place].turn();
+      stores[place].rates.push_back(many / (seconds() - begin));
     }
   }
   for (Turns& store : stores) {
     store.close();
-    std::sort(store.rates.begin(), store.rates.end());
-    std::printf("%s %.0f %.0f %.1f\n", store.name.c_str(), store.rates.back(), store.rates[turns / 2],
+    const double best = *std::max_element(store.rates.begin(), store.rates.end());
+    std::printf("%s %.0f %.0f %.2f %.2f %.1f\n", store.name.c_str(), best, middle(store.rates),
+                share(store, stores[SQLITE]), share(store, stores[SQLITE_LOG]),
                 bytes_in(folder + "/" + store.name) / static_cast<double>(many * batch * turns));
   }
 }
