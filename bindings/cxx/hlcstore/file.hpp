@@ -312,8 +312,8 @@ class file {
   // Saves a checkpoint, and returns the place in the log up to which it goes.
   std::uint64_t checkpoint() { return own().word_of(hlc_file_checkpoint); }
 
-  // Writes the bytes of a checkpoint to a stream in pieces, with a word of the program's: hlcstore::store opens from them
-  // in memory. Writes wait while the state is copied into memory, and go on while the stream is written. A stream that
+  // Writes the bytes of a checkpoint to a stream in pieces, with a word of the program's: from them hlcstore::store
+  // opens in memory. Writes wait while the state is copied into memory, and go on while the stream is written. A stream that
   // fails gets no more: its state says so.
   void checkpoint_to(std::ostream& out, std::uint64_t word = 0) const {
     detail::output copied;

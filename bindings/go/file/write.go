@@ -139,9 +139,9 @@ func (f *File) Checkpoint() (uint64, error) {
 	return uint64(answer.word), refusal(answer.code, 0)
 }
 
-// CheckpointTo writes the bytes of a checkpoint in pieces, with a word of the caller's: [hlcstore.Restore] opens a store
-// in memory from them. It returns how many it wrote. Writes wait while C copies the state, and go on while w gets it, so
-// w may make any call with the file.
+// CheckpointTo writes the bytes of a checkpoint in pieces, with a word of the caller's: [hlcstore.Restore] opens a
+// store in memory from them. It returns how many it wrote. Writes wait while C copies the state, and go on while w gets
+// it, so w may make any call with the file.
 //
 // Errors: those of the writer, after which a part may be written.
 func (f *File) CheckpointTo(w io.Writer, word uint64) (int64, error) {

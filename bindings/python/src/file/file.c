@@ -697,8 +697,8 @@ static PyMethodDef file_methods[] = {
     METHOD("checkpoint_to", file_checkpoint_to,
            "checkpoint_to($self, /, file, word=0)\n--\n\n"
            "Write the bytes of a checkpoint to a binary file in pieces, and return how many they are.\n\n"
-           "hlcstore.Store.restore opens a store in memory from them. Changes wait while the state is copied, and go on\n"
-           "while it is written, so write may make any call. In memory is all of it. The file is what\n"
+           "hlcstore.Store.restore opens a store in memory from them. Changes wait while the state is copied, and go\n"
+           "on while it is written, so write may make any call. In memory is all of it. The file is what\n"
            "hlcstore.Store.checkpoint_to takes; where writing fails, a part may be written."),
     { "link", file_link, METH_O, "link($self, node, /)\n--\n\nReturn what was appended as a node." },
     { "floor_node", file_floor_node, METH_NOARGS,

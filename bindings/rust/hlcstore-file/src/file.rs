@@ -82,9 +82,9 @@ impl File {
         self.handle.checkpoint()
     }
 
-    /// Writes the bytes of a checkpoint in pieces of 64 KiB, with a word of the caller's, and returns how many they are:
-    /// [`Store::restore`](hlcstore::Store::restore) opens a store in memory from them. Writes wait while the state is
-    /// copied into memory, and go on while the bytes are written. The writer is not flushed.
+    /// Writes the bytes of a checkpoint in pieces of 64 KiB, with a word of the caller's, and returns how many they
+    /// are: [`Store::restore`](hlcstore::Store::restore) opens a store in memory from them. Writes wait while the state
+    /// is copied into memory, and go on while the bytes are written. The writer is not flushed.
     ///
     /// Errors: those of the writer, after which a part may be written; and `NoMemory` of the store.
     ///
