@@ -30,6 +30,7 @@ static struct {
     long done;    /* how many there were */
     bool met;     /* whether the fault came */
     bool is_sync; /* and at a sync */
+    bool is_room; /* and at a write of zeros, which makes room in the write-ahead log */
 } shim;
 
 /* ---- What is on disk ---- */
@@ -191,9 +192,18 @@ static int shim_read(sqlite3_file *file, void *out, int len, sqlite3_int64 at)
     return CALL(file, xRead, out, len, at);
 }
 
+/* A page in the write-ahead log is written after its head. */
+static bool makes_room(const uint8_t *bytes, int len)
+{
+    enum { MOST_PAGE = 65536 };
+    return len > MOST_PAGE && bytes[0] == 0 && memcmp(bytes, bytes + 1, (size_t)len - 1) == 0;
+}
+
 static int shim_write(sqlite3_file *file, const void *bytes, int len, sqlite3_int64 at)
 {
+    bool had_met = shim.met;
     enum fault fault = meets(false);
+    if (shim.met && !had_met) shim.is_room = makes_room(bytes, len);
     int code = fault == IS_FULL ? SQLITE_FULL : SQLITE_IOERR_WRITE;
     if (fault == FAILS || fault == IS_FULL || fault == LOSES_POWER) return code;
     if (fault == IS_FORGOTTEN) return SQLITE_OK;
@@ -330,6 +340,6 @@ static void shim_set(enum fault fault, bool lasts, long at, long later)
     shim.at = at;
     shim.done = 0;
     shim.met = false;
-    shim.is_sync = false;
+    shim.is_sync = shim.is_room = false;
 }
 #endif
