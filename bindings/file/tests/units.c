@@ -439,6 +439,36 @@ static void a_full_disk_refuses(void)
     }
 }
 
+static void a_copy_opens_in_memory(void)
+{
+    static uint8_t bytes[10000];
+    hlc_output output = HLC_NO_OUTPUT;
+    hlc_store store = HLC_CLOSED_STORE;
+    uint64_t word, floor, id;
+    size_t len, read;
+    hlc_file *file = opened(fresh(PATH));
+    put(file, 1, "a", "one");
+    put(file, 2, "a", "two");
+    EXPECT(hlc_file_copy(file, 9, &output, &len), HLC_OK);
+    HOLDS(0 < len && len <= sizeof bytes);
+    put(file, 3, "a", "three");
+    EXPECT(hlc_output_read(&output, 0, bytes, sizeof bytes, &read), HLC_OK);
+    EXPECT(read, len);
+    EXPECT(hlc_file_copy(file, 9, &output, &read), HLC_HAS_BYTES);
+    EXPECT(read, 0);
+    hlc_output_drop(&output);
+    EXPECT(state_of(file).checkpoint_place, 0);
+    EXPECT(hlc_file_close(file), HLC_OK);
+    EXPECT(hlc_restore(&store, bytes, len, &word), HLC_OK);
+    EXPECT(word, 9);
+    EXPECT(hlc_floor(&store, &floor), HLC_OK);
+    EXPECT(floor, AT(2));
+    EXPECT(hlc_open_snapshot(&store, AT(1), &id), HLC_OK);
+    EXPECT(hlc_read(&store, id, BYTES("a"), bytes, sizeof bytes, &len), HLC_OK);
+    HOLDS(len == 3 && memcmp(bytes, "one", len) == 0);
+    hlc_close(&store);
+}
+
 /* ---- Answers ---- */
 
 static void each_answer_has_a_name_and_a_text(void)
@@ -480,6 +510,7 @@ static const struct test TESTS[] = {
     TEST(reading_calls_are_those_of_the_store),
     TEST(a_policy_makes_checkpoints),
     TEST(a_full_disk_refuses),
+    TEST(a_copy_opens_in_memory),
     TEST(each_answer_has_a_name_and_a_text),
 };
 
