@@ -1,7 +1,6 @@
 //! Vacuums that events ask for: planned first, and then carried out, which needs no memory.
-ghost use Rattle.std.specs.Prelude.{◌≡◌, ◌≤◌, List, None, Some, IfOk, IfErr, OnErr, MatchResult};
-ghost use Rattle.hlc_core.specs.Past.{Step, vacuum_refusal};
-ghost use Rattle.hlc_core.specs.Checkpoint.{floor_in};
+ghost use Rattle.std.specs.Prelude.{◌≡◌, List, None, Some, IfOk, IfErr, OnErr};
+ghost use Rattle.hlc_core.specs.Past.{Step};
 ghost use Rattle.hlc_core.specs.StoreView.{nodes, Represents};
 ghost use Rattle.hlc_core.specs.History.{RepresentsHistory, IsStep, IsVacuum, IsRefused, IsReplyTo, expected_refusal};
 ghost use Rattle.hlc_core.specs.Planned.{IsAsked, IsPossible, IsPlannedFor, reply_of};
@@ -40,15 +39,13 @@ impl Planned {
     {
         match self {
             Planned::Whole { plan, block, .. } => {
-                let block = block.clone()?;
-                Ok(CoreReply::Vacuumed(block.with(plan.report()?)))
+                let report = block.clone()?.with(plan.report()?);
+                Ok(CoreReply::Vacuumed(report))
             }
             Planned::Part { part, block, .. } => {
-                let block = block.clone()?;
-                Ok(CoreReply::VacuumedPart {
-                    report: block.with(part.plan.report()?),
-                    end: part.end.clone()?,
-                })
+                let report = block.clone()?.with(part.plan.report()?);
+                let end = part.end.clone()?;
+                Ok(CoreReply::VacuumedPart { report, end })
             }
             Planned::Refused(fault) => Ok(CoreReply::Refused(*fault)),
         }
@@ -140,22 +137,15 @@ impl Core {
         ensures form { IfErr result (λ fault. IsReplyTo event.now (refused_by fault)) }
     {
         match event {
-            CoreEvent::VacuumTo(at) => self.checked(*at),
-            CoreEvent::VacuumPart { at, .. } => self.checked(*at),
+            CoreEvent::VacuumTo(at) => match self.check_vacuum(*at) {
+                Ok(()) => Ok(*at),
+                Err(fault) => Err(fault),
+            },
+            CoreEvent::VacuumPart { at, .. } => match self.check_vacuum(*at) {
+                Ok(()) => Ok(*at),
+                Err(fault) => Err(fault),
+            },
             _ => Ok(self.floor()),
-        }
-    }
-
-    /// Returns a stamp that `check_vacuum` does not refuse, or its refusal.
-    fn checked(&self, at: Stamp) -> Result<Stamp, CoreFault>
-        ensures represents { (past : List Step) → Represents self.now past
-            → MatchResult result (λ _. vacuum_refusal (nodes self.now) past at ≡ None)
-            (λ fault. vacuum_refusal (nodes self.now) past at ≡ Some fault) }
-        ensures ok { IfOk result (λ same. (same ≡ at) × (at ≤ floor_in self.now) × (self.now.horizon ≤ at)) }
-    {
-        match self.check_vacuum(at) {
-            Ok(()) => Ok(at),
-            Err(fault) => Err(fault),
         }
     }
 }

@@ -2,7 +2,7 @@
 ghost use Rattle.std.specs.Prelude.{◌≡◌, ◌≤◌, IfOk, OnErr, List};
 ghost use Rattle.hlc_core.specs.Past.{Step, floor};
 ghost use Rattle.hlc_core.specs.StoreView.{nodes, Represents};
-ghost use Rattle.hlc_core.specs.Parts.{VacuumsPart, VacuumsPartCounted};
+ghost use Rattle.hlc_core.specs.Parts.{VacuumsPartCounted};
 ghost use Rattle.hlc_core.specs.Calls.{Vacuums, VacuumsTo, VacuumsCounted, VacuumsToCounted};
 ghost use Rattle.hlc_core.specs.Certified.{Certifies};
 ghost use Rattle.hlc_core.specs.Checkpoint.{floor_in};
@@ -122,30 +122,13 @@ impl Core {
     }
 
     /// Does a part of `vacuum_to`, so that one call does bounded work: it drops rows of the first keys above `after`,
-    /// at most `most` keys, and returns a report of the rows of these keys, and the last of the keys: the next part
-    /// begins above it. It returns no key if there is none left. The first part begins with the empty key, and between
-    /// parts all calls are possible: each part vacuums its keys at the snapshots that are open then. The stamp becomes
-    /// the horizon with the first part. Rows of other keys stay.
+    /// at most `most` keys, and returns the numbers of the report of the rows of these keys, as `vacuum_counted` does,
+    /// and the last of the keys: the next part begins above it. It returns no key if there is none left. The first part
+    /// begins with the empty key, and between parts all calls are possible: each part vacuums its keys at the snapshots
+    /// that are open then. The stamp becomes the horizon with the first part. Rows of other keys stay.
     ///
     /// Refused as `vacuum_to`. It looks up one key, and each key of the part once more. All memory that it needs is
-    /// allocated before anything changes: that of the report, and a copy of each key.
-    pub fn vacuum_part(
-        &mut self,
-        at: Stamp,
-        after: &[u8],
-        most: usize,
-    ) -> Result<(Report, Option<Bytes>), CoreFault>
-        ensures represents { (past : List Step) → Represents self.old past
-            → VacuumsPart self.old self.new at after.now most past result }
-        ensures err { OnErr result (self.new ≡ self.old) }
-        ensures nodes { nodes self.new ≡ nodes self.old }
-    {
-        self.check_vacuum(at)?;
-        let part = self.plan_next(at, after, most)?;
-        Ok(self.carry_out_part(at, part))
-    }
-
-    /// Does the same as `vacuum_part`, and returns the numbers of the report alone, as `vacuum_counted` does.
+    /// allocated before anything changes: a copy of each key, and no report. That is in the reply to `VacuumPart`.
     pub fn vacuum_part_counted(
         &mut self,
         at: Stamp,

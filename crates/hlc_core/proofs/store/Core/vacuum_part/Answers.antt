@@ -1,6 +1,0 @@
--- The plan of the part is carried out.
-use Rattle.hlc_core.proofs.store.Core.vacuum_part.Goals as goal
-
-pub returns-clause-represents : goal.returns-clause-represents
-returns-clause-represents c = λ past h.
-    c.carry_out_part.ensures.vacuums past c.args.after.now c.args.most h c.in_ok-part.ensures
