@@ -87,11 +87,11 @@ fn write_vacuum(
     ensures { Enters core.old core.new (Some trail.old.entries.items) (Some trail.new.entries.items)
         caller event.now result }
 {
-    let event = prepare(trail, event)?;
+    let written = prepare(trail, event)?;
     let reply = planned.reply()?;
     trail.entries.push_reserved(Entry {
         caller,
-        event,
+        event: written,
         reply,
     });
     Ok(core.finish(planned))
