@@ -26,7 +26,7 @@ from writer import Writer
 
 QUOTA = 64 << 20  # bytes of the member's database
 RETENTION = 6000  # milliseconds
-PATIENCE = 30  # seconds after which a test fails that waits for what does not come
+PATIENCE = 60  # seconds after which a test fails that waits for what does not come
 
 
 class Interleaved(Etcd):

@@ -34,7 +34,7 @@ class Words(unittest.TestCase):
         started = {name: subprocess.Popen([sys.executable, HERE / name, *words(name)], **pipes) for name in PROGRAMS}
         for name, process in started.items():
             with process:
-                output, errors = process.communicate(timeout=30)
+                output, errors = process.communicate(timeout=120)
             yield name, process.returncode, output, errors
 
     def test_no_words(self):
