@@ -1,8 +1,10 @@
 /* A test of each decision that shows by a disk which fails at one place, on files in the current folder. */
 #include "test.h"
 #include "shim.h"
+#include <dlfcn.h>
 #include <errno.h>
 #include <fcntl.h>
+#include <pthread.h>
 #include <sys/stat.h>
 #include <sys/wait.h>
 
@@ -231,6 +233,37 @@ static void a_folder_is_synced(void)
     hlc_file_close(opened(PATH));
 }
 
+static bool no_threads;
+
+/* In place of that of the system. */
+int pthread_create(pthread_t *thread, const pthread_attr_t *attributes, void *(*run)(void *), void *argument)
+{
+    int (*next)(pthread_t *, const pthread_attr_t *, void *(*)(void *), void *) =
+        (int (*)(pthread_t *, const pthread_attr_t *, void *(*)(void *), void *))dlsym(RTLD_NEXT, "pthread_create");
+    return no_threads ? EAGAIN : next(thread, attributes, run, argument);
+}
+
+/* Where no thread can be made, the one that opens a file reads a long log, too. */
+static void a_long_log_is_read_without_a_thread(void)
+{
+    enum { WRITES = 1200 };
+    static char value[3000];
+    hlc_file_options options = { .promise = HLC_FILE_WRITTEN };
+    shim_set(NO_FAULT, false, 0, 0);
+    memset(value, 'v', sizeof value - 1);
+    hlc_file *file = opened_with(fresh(PATH), options);
+    for (uint64_t l = 1; l <= WRITES; l++) put(file, l, "a", value);
+    HOLDS(state_of(file).log_bytes > 3 << 20);
+    EXPECT(hlc_file_close(file), HLC_OK);
+    no_threads = true;
+    file = opened(PATH);
+    no_threads = false;
+    EXPECT(state_of(file).applied, WRITES);
+    EXPECT_VALUE(file, AT(1), "a", value);
+    EXPECT_VALUE(file, 0, "a", value);
+    EXPECT(hlc_file_close(file), HLC_OK);
+}
+
 static const struct test TESTS[] = {
     TEST(synced_rows_are_never_lost_silently),
     TEST(a_vacuum_outlives_a_loss_of_power),
@@ -239,6 +272,7 @@ static const struct test TESTS[] = {
     TEST(a_log_is_lengthened_before_it_is_full),
     TEST(a_log_that_cannot_be_lengthened_grows),
     TEST(a_log_ends_where_its_last_commit_does),
+    TEST(a_long_log_is_read_without_a_thread),
 };
 
 int main(void)
