@@ -91,7 +91,7 @@ struct db {
     enum doubt doubt;
     int synced;         /* whether a COMMIT syncs now; -1: not known */
     int wal_pages;
-    int wal_room;       /* how many pages the write-ahead log has room for, or INT_MAX where it shall not be lengthened */
+    int wal_room;       /* how many pages that log has room for; INT_MAX: it is not to be lengthened */
 };
 
 /* What a statement is given: numbers, and bytes if there are some. */

@@ -313,8 +313,8 @@ class file {
   std::uint64_t checkpoint() { return own().word_of(hlc_file_checkpoint); }
 
   // Writes the bytes of a checkpoint to a stream in pieces, with a word of the program's: from them hlcstore::store
-  // opens in memory. Writes wait while the state is copied into memory, and go on while the stream is written. A stream that
-  // fails gets no more: its state says so.
+  // opens in memory. Writes wait while the state is copied into memory, and go on while the stream is written. A stream
+  // that fails gets no more: its state says so.
   void checkpoint_to(std::ostream& out, std::uint64_t word = 0) const {
     detail::output copied;
     std::size_t len;
