@@ -263,3 +263,19 @@ newest-accepted layout run legal = λ key at.
     let at' : w.store ≡ s = sym (row-routed layout w.store w.item.node w.item.stamp w.item.body row from.routed w.of)
     ∙ ap (λ k. layout.store_of k) of_key in
     writes-have (past_of s run) w.item row (subst (λ k. Contains (past_of k run) (Took w.item)) at' w.accepted) w.of)
+
+-- a store has no row of another store's key
+pub other-none : (layout : Layout) (run : List Turn) (s : ℕ) (key : List ℕ) (stamp : ℕ) → IsLegal layout run
+    → (layout.store_of key ≡ s → ⊥) → answer (writes (past_of s run)) key stamp ≡ None
+other-none layout run s key stamp legal other =
+    elim (newest (writes (past_of s run)) key stamp) as
+    (λ o. newest (writes (past_of s run)) key stamp ≡ o → answer (writes (past_of s run)) key stamp ≡ None) [
+      | None ↦ λ e. answer_none (writes (past_of s run)) key stamp e
+      | Some row ↦ λ e.
+          let is = newest_is_greatest (writes (past_of s run)) key stamp row e in
+          let w = writes-from (past_of s run) row is.member in
+          let from = issued-from layout run s w.item.node w.item legal
+          (accepted-issued layout run s w.item legal w.accepted) in
+          absurd (other (ap (λ k. layout.store_of k) (sym is.of_key)
+          ∙ row-routed layout s w.item.node w.item.stamp w.item.body row from.routed w.of))
+    ] refl

@@ -1,7 +1,7 @@
 //! The laws of several stores with one key space: a stamp at most the floor of each store is a consistent cut.
 #![tactic(auto)]
 
-ghost use Rattle.std.specs.Prelude.{◌≡◌, ◌<◌, ◌≤◌, ◌∷◌, ◌++◌, ℕ, List, Ok};
+ghost use Rattle.std.specs.Prelude.{◌≡◌, ◌≢◌, ◌<◌, ◌≤◌, ◌∷◌, ◌++◌, ℕ, List, Ok, None};
 ghost use Rattle.hlc_node.specs.Rows.{answer};
 ghost use Rattle.hlc_node.specs.Node.{NodeView, expected_issue};
 ghost use Rattle.hlc_node.specs.declared.item.Body.{Body as ABody};
@@ -28,6 +28,12 @@ pub fn stamps_follow_events()
 pub fn cuts_are_consistent()
     ensures { (layout : Layout) (run : List Turn) (stamp : ℕ) → IsLegal layout run
         → IsCut layout run stamp → IsConsistent layout run stamp }
+{}
+
+/// In a legal run a store has no write of another store's key.
+pub fn keys_stay_in_their_store()
+    ensures { (layout : Layout) (run : List Turn) (s : ℕ) (key : List ℕ) (stamp : ℕ) → IsLegal layout run
+        → layout.store_of key ≢ s → answer (writes (past_of s run)) key stamp ≡ None }
 {}
 
 /// In a legal run a cut stays one, whatever happens later, and its reads stay the same.
