@@ -9,7 +9,7 @@ use Rattle.hlc_core.specs.StoreView.{StoreView, nodes, Represents as CoreReprese
 use Rattle.hlc_core.specs.Calls.{Accepts, Opens, Closes, IsRefusal, IsWrite}
 use Rattle.hlc_ranges.specs.Run.{Layout, Turn, Stepped, past_of, IsIssuedStep}
 use Rattle.hlc_routing.specs.Ranges.{RangesView, Represents, IsOfStore, IsRefusedFor, OpensIn, ClosesIn}
-use Rattle.hlc_routing.specs.declared.ranges.RangesFault.TheVariants.{Store}
+use Rattle.hlc_routing.specs.declared.fault.RangesFault.TheVariants.{Store}
 use Rattle.hlc_routing.proofs.Stepping.{steps, with_store, some-same}
 
 pub accepted : (layout : Layout) (old : RangesView) (run : List Turn) (s : ℕ) (store new : StoreView) (item : Item)

@@ -3,3 +3,9 @@ pub mod Floors
 pub mod Stepping
 pub mod Accepting
 pub mod Reading
+pub mod Each
+pub mod Opening
+pub mod Vacuuming
+pub mod Joining
+pub mod Copying
+pub mod Machines

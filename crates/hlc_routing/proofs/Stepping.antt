@@ -1,5 +1,5 @@
 -- A step of one store extends the run: the others, and their pasts, stay.
-use Rattle.std.proofs.Common.{◌≡◌, ℕ, zero, suc, ◌<◌, List, [], ◌∷◌, length, Some, set, refl, ap, sym, ◌∙◌, subst}
+use Rattle.std.proofs.Common.{◌≡◌, ℕ, zero, suc, ◌<◌, List, [], ◌∷◌, ◌++◌, length, Some, set, refl, ap, sym, ◌∙◌, subst}
 use Rattle.std.proofs.Common.{inl, inr, arith, length-set}
 use Rattle.std.specs.Prelude.{slice_get}
 use Rattle.std.proofs.lemmas.Bool.{cond-true, cond-false, eq-eqb, ne_eqb, cases_eq}
@@ -22,13 +22,30 @@ get-set_other (x ∷ xs) zero (suc j) y other = refl
 get-set_other (x ∷ xs) (suc i) zero y other = refl
 get-set_other (x ∷ xs) (suc i) (suc j) y other = get-set_other xs i j y (λ e. other (ap suc e))
 
+pub get-some : {X : Type 0} (xs : List X) (i : ℕ) → i < length xs → (x : X) × (slice_get xs i ≡ Some x)
+get-some [] i within = absurd (omega arith)
+get-some (x ∷ xs) zero within = (x, refl)
+get-some (x ∷ xs) (suc i) within = get-some xs i (omega arith)
+
+pub get-push_before : {X : Type 0} (xs : List X) (y : X) (i : ℕ) → i < length xs
+    → slice_get (xs ++ y ∷ []) i ≡ slice_get xs i
+get-push_before [] y i within = absurd (omega arith)
+get-push_before (x ∷ xs) y zero within = refl
+get-push_before (x ∷ xs) y (suc i) within = get-push_before xs y i (omega arith)
+
+pub get-push_here : {X : Type 0} (xs : List X) (y : X) (i : ℕ) → length xs ≡ i → slice_get (xs ++ y ∷ []) i ≡ Some y
+get-push_here [] y zero e = refl
+get-push_here [] y (suc i) e = absurd (omega arith)
+get-push_here (x ∷ xs) y zero e = absurd (omega arith)
+get-push_here (x ∷ xs) y (suc i) e = get-push_here xs y i (omega arith)
+
 pub some-same : {X : Type 0} (x y : X) → Some x ≡ Some y → x ≡ y
 some-same x y e = cc
 
-past-same : (s t : ℕ) (step : Step) (run : List Turn) → t ≡ s → past_of s (Stepped t step ∷ run) ≡ step ∷ past_of s run
+pub past-same : (s t : ℕ) (step : Step) (run : List Turn) → t ≡ s → past_of s (Stepped t step ∷ run) ≡ step ∷ past_of s run
 past-same s t step run e = cond-true _ _ _ (eq-eqb _ _ e)
 
-past-other : (s t : ℕ) (step : Step) (run : List Turn) → (t ≡ s → ⊥)
+pub past-other : (s t : ℕ) (step : Step) (run : List Turn) → (t ≡ s → ⊥)
     → past_of s (Stepped t step ∷ run) ≡ past_of s run
 past-other s t step run e = cond-false _ _ _ (ne_eqb _ _ e)
 

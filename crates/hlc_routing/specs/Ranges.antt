@@ -8,11 +8,10 @@ use Rattle.hlc_core.specs.StoreView.{StoreView, nodes, Represents as CoreReprese
 use Rattle.hlc_core.specs.Checkpoint.{floor_in}
 use Rattle.hlc_core.specs.Calls.{IsRefusal, IsWrite}
 use Rattle.hlc_ranges.specs.Run.{Layout, Turn, Stepped, past_of, IsLegal}
-use Rattle.hlc_events.specs.declared.fault.CoreFault.{CoreFault}
 use Rattle.hlc_events.specs.declared.fault.CoreFault.TheVariants.{NoSnapshot}
 use Rattle.hlc_routing.specs.Division.{DivisionView, store_of}
-use Rattle.hlc_routing.specs.declared.ranges.RangesFault.{RangesFault}
-use Rattle.hlc_routing.specs.declared.ranges.RangesFault.TheVariants.{NoStore, WrongStore, Store}
+use Rattle.hlc_routing.specs.declared.fault.RangesFault.{RangesFault}
+use Rattle.hlc_routing.specs.declared.fault.RangesFault.TheVariants.{NoStore, WrongStore, Store}
 
 -- the division, and what each store keeps
 pub record RangesView : Type 0 where

@@ -1,9 +1,18 @@
 //! Several stores with one key space: each key belongs to one of them, and a read at one stamp of all is consistent.
 #![tactic(auto)]
 
+mod all;
 mod division;
+mod fault;
+mod laws;
+mod machine;
 mod ranges;
+mod snapshot;
 
 pub use division::{Division, MOST_STORES};
-pub use hlc_core::{Accepted, Core, CoreFault, Item, Stamp};
-pub use ranges::{Ranges, RangesFault};
+pub use fault::RangesFault;
+pub use hlc_core::{Accepted, Checkpoint, Core, CoreFault, Item, Report, Stamp};
+pub use laws::{events_keep_stores, steps_keep_machines};
+pub use machine::{Machine, MachineFault, RefusedRouting};
+pub use ranges::Ranges;
+pub use snapshot::RangesSnapshot;

@@ -1,6 +1,6 @@
 //! Stores with one key space.
 ghost use Rattle.std.specs.Prelude.{◌≡◌, ◌≢◌, ◌↔◌, ◌∷◌, ◌<◌, List, length, min, IsTrue, IfErr, OnOk, OnErr};
-ghost use Rattle.std.specs.Prelude.{ℕ, Some, IfSome, IfNone, IsOkAnd, option_copied};
+ghost use Rattle.std.specs.Prelude.{ℕ, Some, IfSome, IfNone, IsOkAnd, option_copied, slice_get};
 ghost use Rattle.hlc_node.specs.Rows.{answer};
 ghost use Rattle.hlc_node.specs.declared.item.Body.{Body as ABody};
 ghost use Rattle.hlc_core.specs.Past.{Took, stamp_of};
@@ -8,24 +8,16 @@ ghost use Rattle.hlc_ranges.specs.Run.{Layout, Turn, Stepped, IsIssuedStep, past
 ghost use Rattle.hlc_ranges.specs.Cut.{IsCut, IsConsistent};
 ghost use Rattle.hlc_routing.specs.Division.{stores_of, store_of};
 ghost use Rattle.hlc_routing.specs.Ranges.{Represents, IsLeastFloor, IsOfStore, IsRefusedFor, OpensIn, ClosesIn};
+ghost use Rattle.hlc_routing.specs.All.{VacuumsIn, JoinsIn};
 
 use crate::division::Division;
+use crate::fault::RangesFault;
 use hlc_clock::Stamp;
 use hlc_core::{Accepted, Core, CoreFault, NoSnapshot};
 use hlc_node::{Body, Item};
 use hlc_ranges::cuts_are_consistent;
+use hlc_vacuum::Report;
 use std::marker::Model;
-
-/// Why stores with one key space refuse a call.
-#[derive(Clone, Copy, PartialEq, Eq, Debug)]
-pub enum RangesFault {
-    /// There is no such store.
-    NoStore,
-    /// The key belongs to another store.
-    WrongStore,
-    /// The store refuses the call.
-    Store(CoreFault),
-}
 
 /// Stores with one key space: each key belongs to one of them.
 ///
@@ -167,6 +159,44 @@ impl Ranges {
         match core.close(id) {
             Ok(stamp) => Ok(stamp),
             Err(_) => Err(RangesFault::Store(CoreFault::NoSnapshot)),
+        }
+    }
+
+    /// Vacuums one store to a stamp, as `Core::vacuum_to` does.
+    ///
+    /// Refused: no such store; or for the reasons of `Core::vacuum_to`. A refusal changes nothing.
+    pub fn vacuum_in(&mut self, store: usize, at: Stamp) -> Result<Report, RangesFault>
+        ensures represents { (layout : Layout) (run : List Turn) → Represents layout self.old run
+            → VacuumsIn layout self.old self.new store at run result }
+        ensures others { (other : ℕ) → other ≢ store
+            → slice_get self.new.stores other ≡ slice_get self.old.stores other }
+        ensures unchanged { OnErr result (self.new ≡ self.old) }
+        ensures division { self.new.division ≡ self.old.division }
+    {
+        let Some(core) = self.stores.get_mut(store) else {
+            return Err(RangesFault::NoStore);
+        };
+        match core.vacuum_to(at) {
+            Ok(report) => Ok(report),
+            Err(fault) => Err(RangesFault::Store(fault)),
+        }
+    }
+
+    /// Adds a node to one store, as `Core::join` does, and returns its number there and its start, the store's floor.
+    ///
+    /// Refused: no such store; or for the reasons of `Core::join`. A refusal changes nothing.
+    pub fn join_in(&mut self, store: usize) -> Result<(u16, Stamp), RangesFault>
+        ensures represents { (layout : Layout) (run : List Turn) → Represents layout self.old run
+            → JoinsIn layout self.old self.new store run result }
+        ensures unchanged { OnErr result (self.new ≡ self.old) }
+        ensures division { self.new.division ≡ self.old.division }
+    {
+        let Some(core) = self.stores.get_mut(store) else {
+            return Err(RangesFault::NoStore);
+        };
+        match core.join() {
+            Ok(made) => Ok(made),
+            Err(fault) => Err(RangesFault::Store(fault)),
         }
     }
 

@@ -5,7 +5,7 @@ use Rattle.std.proofs.lemmas.Option.{slice_get_read}
 use Rattle.hlc_core.specs.Past.{Took}
 use Rattle.hlc_ranges.specs.Run.{Stepped, past_of}
 use Rattle.hlc_routing.specs.Ranges.{RangesView, Represents, IsOfStore, IsRefusedFor}
-use Rattle.hlc_routing.specs.declared.ranges.RangesFault.TheVariants.{Store}
+use Rattle.hlc_routing.specs.declared.fault.RangesFault.TheVariants.{Store}
 use Rattle.hlc_routing.proofs.Stepping.{with_store}
 use Rattle.hlc_routing.proofs.Accepting.{accepted, refused}
 use Rattle.hlc_routing.proofs.ranges.Ranges.accept.Goals as goal

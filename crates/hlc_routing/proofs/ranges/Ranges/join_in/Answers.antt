@@ -1,0 +1,25 @@
+-- The store's step extends the run, or the store refuses it.
+use Rattle.std.proofs.Common.{refl, subst}
+use Rattle.std.proofs.lemmas.Option.{slice_get_read}
+use Rattle.hlc_core.specs.Calls.{Joins}
+use Rattle.hlc_ranges.specs.Run.{past_of}
+use Rattle.hlc_routing.specs.Ranges.{RangesView}
+use Rattle.hlc_routing.proofs.Joining.{joined, not-joined}
+use Rattle.hlc_routing.proofs.ranges.Ranges.join_in.Goals as goal
+use Rattle.hlc_routing.proofs.ranges.Ranges.join_in.Goals.{in-Ok, in-Err}
+
+pub returns-clause-represents : goal.returns-clause-represents
+returns-clause-represents c = λ layout run h.
+    let h' = rw (← c.self.view_is) at h in
+    let lent = c.in-Some.ensures.item in
+    let at = slice_get_read c.self.inside.stores.items _ c.args.store c.in-Some.core.now refl lent.3.0 lent.1 in
+    let view : RangesView = record { division = c.self.inside.division; stores = c.self.inside.stores.items } in
+    let joins = c.join.ensures.represents (past_of c.args.store run) (h'.pasts c.args.store c.in-Some.core.now at) in
+    elim c.match-join.branch [
+      | in-Ok w ↦ rw w.result-is (joined layout view run c.args.store c.in-Some.core.now c.join.new.self _
+          h' at c.join.ensures.nodes
+          (subst (λ r. Joins c.in-Some.core.now c.join.new.self (past_of c.args.store run) r) w.in-Ok.is joins))
+      | in-Err w ↦ rw w.result-is (not-joined layout view view run c.args.store c.in-Some.core.now
+          c.join.new.self _ h' at
+          (subst (λ r. Joins c.in-Some.core.now c.join.new.self (past_of c.args.store run) r) w.in-Err.is joins))
+    ]

@@ -1,0 +1,28 @@
+-- The store's step extends the run, or the store refuses it.
+use Rattle.std.proofs.Common.{refl, subst}
+use Rattle.std.proofs.lemmas.Option.{slice_get_read}
+use Rattle.hlc_core.specs.Calls.{VacuumsTo}
+use Rattle.hlc_ranges.specs.Run.{past_of}
+use Rattle.hlc_routing.specs.Ranges.{RangesView}
+use Rattle.hlc_routing.proofs.Vacuuming.{vacuumed, not-vacuumed}
+use Rattle.hlc_routing.proofs.ranges.Ranges.vacuum_in.Goals as goal
+use Rattle.hlc_routing.proofs.ranges.Ranges.vacuum_in.Goals.{in-Ok, in-Err}
+
+pub returns-clause-represents : goal.returns-clause-represents
+returns-clause-represents c = λ layout run h.
+    let h' = rw (← c.self.view_is) at h in
+    let lent = c.in-Some.ensures.item in
+    let at = slice_get_read c.self.inside.stores.items _ c.args.store c.in-Some.core.now refl lent.3.0 lent.1 in
+    let view : RangesView = record { division = c.self.inside.division; stores = c.self.inside.stores.items } in
+    let vacuums = c.vacuum_to.ensures.represents (past_of c.args.store run)
+    (h'.pasts c.args.store c.in-Some.core.now at) in
+    elim c.match-vacuum_to.branch [
+      | in-Ok w ↦ rw w.result-is (vacuumed layout view run c.args.store c.args.at c.in-Some.core.now
+          c.vacuum_to.new.self _ h' at c.vacuum_to.ensures.nodes
+          (subst (λ r. VacuumsTo c.in-Some.core.now c.vacuum_to.new.self c.args.at (past_of c.args.store run) r)
+          w.in-Ok.is vacuums))
+      | in-Err w ↦ rw w.result-is (not-vacuumed layout view view run c.args.store c.args.at c.in-Some.core.now
+          c.vacuum_to.new.self _ h' at
+          (subst (λ r. VacuumsTo c.in-Some.core.now c.vacuum_to.new.self c.args.at (past_of c.args.store run) r)
+          w.in-Err.is vacuums))
+    ]

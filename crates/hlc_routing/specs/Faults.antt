@@ -1,0 +1,33 @@
+-- The refusals of stores with one key space, and of machines: the number and the text of each.
+use Rattle.std.specs.Prelude.{ℕ, List, codes}
+use Rattle.hlc_node.specs.Faults.{node_code, node_text}
+use Rattle.hlc_events.specs.Faults.{core_code, core_text}
+use Rattle.hlc_routing.specs.declared.fault.RangesFault.{RangesFault}
+use Rattle.hlc_routing.specs.declared.fault.RangesFault.TheVariants.{NoStore, WrongStore, Store}
+use Rattle.hlc_routing.specs.declared.machine.MachineFault.{MachineFault}
+use Rattle.hlc_routing.specs.declared.machine.MachineFault.TheVariants as machine_fault
+use Rattle.hlc_routing.specs.declared.machine.MachineFault.TheVariants.{Node, NoMemory}
+
+-- the number of a refusal
+abbrev pub ranges_code : RangesFault → ℕ
+ranges_code NoStore = 120
+ranges_code WrongStore = 121
+ranges_code (Store fault) = core_code fault
+
+-- its text
+abbrev pub ranges_text : RangesFault → List ℕ
+ranges_text NoStore = codes "there is no such store"
+ranges_text WrongStore = codes "the key belongs to another store"
+ranges_text (Store fault) = core_text fault
+
+-- the number of a machine's refusal
+abbrev pub machine_code : MachineFault → ℕ
+machine_code machine_fault.NoStore = 120
+machine_code (Node fault) = node_code fault
+machine_code NoMemory = 15
+
+-- its text
+abbrev pub machine_text : MachineFault → List ℕ
+machine_text machine_fault.NoStore = codes "the machine has no node in the store"
+machine_text (Node fault) = node_text fault
+machine_text NoMemory = codes "out of memory"

@@ -1,0 +1,79 @@
+-- A machine that writes to several stores: one clock, and a node in each store.
+use Rattle.std.specs.Prelude.{◌≡◌, ℕ, ◌+◌, ◌<◌, ◌≤◌, List, [], ◌∷◌, ◌++◌, length, max, set, Option, Some, None, slice_get}
+use Rattle.std.specs.Prelude.{Ok, Err}
+use Rattle.std.specs.Option.{option_map}
+use Rattle.hlc_node.specs.Node.{NodeView, stamped, next_item, after_issue, expected_issue}
+use Rattle.hlc_node.specs.declared.item.Item.{Item}
+use Rattle.hlc_node.specs.declared.item.Body.{Body}
+use Rattle.hlc_node.specs.declared.item.Body.TheVariants.{Report}
+use Rattle.hlc_ranges.specs.Run.{Layout, Turn, Issued, last_stamp, IsLegal}
+use Rattle.hlc_ranges.specs.Calls.{IsNodeOf}
+use Rattle.hlc_routing.specs.Division.{DivisionView, store_of}
+use Rattle.hlc_routing.specs.declared.machine.MachineFault.{MachineFault}
+use Rattle.hlc_routing.specs.declared.machine.MachineFault.TheVariants.{NoStore, Node, NoMemory}
+
+-- the stamp of the last event, and the nodes, that of the first store first
+pub record MachineView : Type 0 where
+  pub last : ℕ
+  pub nodes : List NodeView
+
+-- the node with its clock raised to the machine's
+abbrev pub raised : ℕ → NodeView → NodeView
+raised last node = stamped node (max node.last last)
+
+-- the machine's node of a store, as it acts
+abbrev pub acting : MachineView → ℕ → Option NodeView
+acting machine s = option_map (raised machine.last) (slice_get machine.nodes s)
+
+-- the machine after its node of a store became this one
+abbrev pub moved : MachineView → ℕ → NodeView → MachineView
+moved machine s node = record { last = node.last; nodes = set machine.nodes s node }
+
+-- the machine issued an item with this body for a store
+pub record Issues (old new : MachineView) (s : ℕ) (body : Body) (reading : ℕ) (item : Item) : Type 0 where
+  pub node : NodeView
+  pub acts : acting old s ≡ Some node
+  pub expected : expected_issue node body reading ≡ Ok item.stamp
+  pub rises : node.last < item.stamp
+  pub item_is : item ≡ next_item node body item.stamp
+  pub new_is : new ≡ moved old s (after_issue node body item.stamp)
+
+-- why the machine issues no such item: it has no node in this store; or the node refuses it
+abbrev pub IsRefusedIssue : MachineView → ℕ → Body → ℕ → MachineFault → Type 0
+IsRefusedIssue old s body reading NoStore = acting old s ≡ None
+IsRefusedIssue old s body reading (Node fault) =
+    (node : NodeView) × (acting old s ≡ Some node) × (expected_issue node body reading ≡ Err fault)
+IsRefusedIssue old s body reading NoMemory = ⊥
+
+-- the machine reported to one store after another, and these are the reports
+pub data Reports (old : MachineView) (reading : ℕ) : MachineView → List Item → Type 0 where
+  none : Reports old reading old []
+  one : {machine new : MachineView} {items : List Item} (item : Item) → Reports old reading machine items
+      → Issues machine new (length items) Report reading item → Reports old reading new (items ++ item ∷ [])
+
+-- a store's report is refused, after those before it
+pub record IsRefusedReport (old : MachineView) (reading : ℕ) (fault : MachineFault) : Type 0 where
+  pub machine : MachineView
+  pub items : List Item
+  pub before : Reports old reading machine items
+  pub refused : IsRefusedIssue machine (length items) Report reading fault
+
+-- The machine is the run's: it has a node in each store, and its clock has reached that of the run's machine.
+pub record IsMachineOf (layout : Layout) (run : List Turn) (m : ℕ) (machine : MachineView) : Type 0 where
+  pub many : length machine.nodes ≡ layout.stores
+  pub nodes : (s : ℕ) (node : NodeView) → slice_get machine.nodes s ≡ Some node → IsNodeOf layout run s node
+  pub machines : (s : ℕ) (node : NodeView) → slice_get machine.nodes s ≡ Some node → layout.machine s node.id ≡ m
+  pub clock : last_stamp layout m run ≤ machine.last
+
+-- after this turn the run is legal, and the machine the run's
+abbrev pub GoesOn : Layout → Turn → List Turn → ℕ → MachineView → Type 0
+GoesOn layout turn run m new = IsLegal layout (turn ∷ run) × IsMachineOf layout (turn ∷ run) m new
+
+-- the layout's store of each key is the division's
+abbrev pub IsDividedBy : Layout → DivisionView → Type 0
+IsDividedBy layout division = (key : List ℕ) → layout.store_of key ≡ store_of division key
+
+-- the run after these items were issued, each for the store after that of the one before it
+abbrev pub issued_from : ℕ → List Item → List Turn → List Turn
+issued_from s [] run = run
+issued_from s (item ∷ items) run = issued_from (s + 1) items (Issued s item ∷ run)

@@ -1,0 +1,211 @@
+//! Calls of all stores.
+ghost use Rattle.std.specs.Prelude.{◌≡◌, ◌≤◌, ◌<◌, ◌↔◌, ℕ, List, [], Some, length, vec_len, vec_capacity, get_or};
+ghost use Rattle.std.specs.Prelude.{IsTrue, IfOk, IfErr, OnOk, OnErr, IsOkAnd, MatchResult, option_copied};
+ghost use Rattle.hlc_core.specs.Past.{Closed, Vacuumed};
+ghost use Rattle.hlc_ranges.specs.Run.{Layout, Turn};
+ghost use Rattle.hlc_ranges.specs.Cut.{IsConsistent};
+ghost use Rattle.hlc_routing.specs.Ranges.{RangesView, Represents, IsLeastFloor};
+ghost use Rattle.hlc_routing.specs.All.{each_stepped, IsOpenAll, OpensAll, ClosesAll, HaveStepped, HaveStopped};
+ghost use Rattle.hlc_routing.specs.All.{AreVacuumed, AreVacuumedSome, HaveJoined, HaveJoinedSome, next_id};
+ghost use Rattle.hlc_routing.specs.All.{open_refusals, vacuum_refusals, join_refusals, join_step, AreJoins, AreReports};
+ghost use Rattle.hlc_routing.specs.All.{HasOpenedTo, HasOpenedSome, AreOpenTo, AreCheckpoints};
+
+use crate::fault::RangesFault;
+use crate::ranges::Ranges;
+use crate::snapshot::RangesSnapshot;
+use hlc_checkpoint::Checkpoint;
+use hlc_clock::Stamp;
+use hlc_core::CoreFault;
+use hlc_ranges::cuts_are_consistent;
+use hlc_vacuum::Report;
+use hlc_values::NoMemory;
+use std::alloc::Global;
+
+impl Ranges {
+    /// Opens a snapshot of all stores at the cut: `open_at` the least floor.
+    pub fn open_cut(&mut self, alloc: Global) -> Result<RangesSnapshot, RangesFault>
+        ensures represents { (layout : Layout) (run : List Turn) → Represents layout self.old run
+            → (stamp : ℕ) × IsLeastFloor self.old.stores stamp
+            × OpensAll layout self.old self.new stamp run result }
+        ensures division { self.new.division ≡ self.old.division }
+    {
+        let stamp = self.cut();
+        self.open_at(alloc, stamp)
+    }
+
+    /// Opens a snapshot in each store at a stamp, from the horizon of each to its floor, so that the stamp is a cut.
+    ///
+    /// All stores open it or none has it open: where one refuses, those before it close it again; their ids are not
+    /// assigned again. Refused: out of memory for the ids, first of all; or by the first store that refuses, for the
+    /// reasons of `Core::open`.
+    pub fn open_at(&mut self, alloc: Global, stamp: Stamp) -> Result<RangesSnapshot, RangesFault>
+        ensures represents { (layout : Layout) (run : List Turn) → Represents layout self.old run
+            → OpensAll layout self.old self.new stamp run result }
+        ensures consistent { (layout : Layout) (run : List Turn) → Represents layout self.old run
+            → OnOk result (IsConsistent layout run stamp) }
+        ensures division { self.new.division ≡ self.old.division }
+    {
+        // The law of every cut, for the contract alone.
+        cuts_are_consistent();
+        let mut ids = match Vec::with_capacity(alloc, self.stores().len()) {
+            Ok(ids) => ids,
+            Err(_) => return Err(RangesFault::Store(CoreFault::NoMemory)),
+        };
+        match self.open_each(stamp, &mut ids) {
+            Ok(()) => Ok(RangesSnapshot::new(stamp, ids)),
+            Err(fault) => {
+                self.close_each(ids.as_slice());
+                Err(fault)
+            }
+        }
+    }
+
+    /// Closes a snapshot that is open in all stores. It needs no memory. A store in which it is not open stays as it is.
+    pub fn close_all(&mut self, snapshot: &RangesSnapshot)
+        ensures represents { (layout : Layout) (run : List Turn) → Represents layout self.old run
+            → IsOpenAll layout snapshot.now run → ClosesAll layout self.new snapshot.now run }
+        ensures division { self.new.division ≡ self.old.division }
+    {
+        self.close_each(snapshot.ids());
+    }
+
+    /// Vacuums all stores to a stamp, as `Core::vacuum_to` does, and returns the reports, that of the first store first.
+    ///
+    /// Refused: out of memory for the list, first of all; or by the first store that refuses. Then those before it are
+    /// vacuumed: the call may be repeated.
+    pub fn vacuum_to(&mut self, alloc: Global, at: Stamp) -> Result<Vec<Report>, RangesFault>
+        ensures ok { (layout : Layout) (run : List Turn) → Represents layout self.old run
+            → IfOk result (λ reports. AreVacuumed layout self.new at run reports.items) }
+        ensures err { (layout : Layout) (run : List Turn) → Represents layout self.old run
+            → IfErr result (AreVacuumedSome layout self.old self.new at run) }
+        ensures division { self.new.division ≡ self.old.division }
+    {
+        let mut reports = match Vec::with_capacity(alloc, self.stores().len()) {
+            Ok(reports) => reports,
+            Err(_) => return Err(RangesFault::Store(CoreFault::NoMemory)),
+        };
+        match self.vacuum_each(at, &mut reports) {
+            Ok(()) => Ok(reports),
+            Err(fault) => Err(fault),
+        }
+    }
+
+    /// Adds a node to all stores, for one more machine, and returns its number and its start in each, the first store
+    /// first. It starts at the floor of each store, so no floor moves.
+    ///
+    /// Refused: out of memory for the list, first of all; or by the first store that refuses, for the reasons of
+    /// `Core::join`. Then the numbers and starts in those before it are returned too, and hold back their floors:
+    /// `join_in` lets the node join the others, or it retires there.
+    pub fn join(
+        &mut self,
+        alloc: Global,
+    ) -> Result<Vec<(u16, Stamp)>, (RangesFault, Vec<(u16, Stamp)>)>
+        ensures ok { (layout : Layout) (run : List Turn) → Represents layout self.old run
+            → IfOk result (λ made. HaveJoined layout self.new run made.items) }
+        ensures err { (layout : Layout) (run : List Turn) → Represents layout self.old run
+            → IfErr result (λ refused.
+            HaveJoinedSome layout self.old self.new run refused.0 refused.1.items) }
+        ensures division { self.new.division ≡ self.old.division }
+    {
+        let mut made = match Vec::with_capacity(alloc, self.stores().len()) {
+            Ok(made) => made,
+            Err(_) => return Err((RangesFault::Store(CoreFault::NoMemory), Vec::new(alloc))),
+        };
+        match self.join_each(&mut made) {
+            Ok(()) => Ok(made),
+            Err(fault) => Err((fault, made)),
+        }
+    }
+
+    /// Makes a checkpoint of each store, the first store first: together they are one of all, at the cut. Refused only
+    /// if memory runs out.
+    pub fn checkpoints(&self, alloc: Global) -> Result<Vec<Checkpoint>, NoMemory>
+        ensures kept { IfOk result (λ made. AreCheckpoints self.now.stores made.items) }
+        ensures represents { (layout : Layout) (run : List Turn) → Represents layout self.now run
+            → IfOk result (λ made. Represents layout
+            (record { division = self.now.division; stores = made.items }) run) }
+    {
+        let mut made = Vec::with_capacity(alloc, self.stores().len())?;
+        for core in self.stores() {
+            made.push_reserved(core.checkpoint()?);
+        }
+        Ok(made)
+    }
+
+    /// Opens a snapshot in one store after another, up to the first that refuses, and appends their ids.
+    fn open_each(&mut self, stamp: Stamp, ids: &mut Vec<u64>) -> Result<(), RangesFault>
+        requires empty { ids.old.items ≡ [] }
+        requires room { length self.old.stores ≤ vec_capacity ids.old }
+        ensures ok { (layout : Layout) (run : List Turn) → Represents layout self.old run
+            → OnOk result (HasOpenedTo layout self.new stamp run ids.new.items layout.stores) }
+        ensures err { (layout : Layout) (run : List Turn) → Represents layout self.old run
+            → IfErr result (HasOpenedSome layout self.new stamp run ids.new.items) }
+        ensures division { self.new.division ≡ self.old.division }
+    {
+        let many = self.stores().len();
+        for store in 0..many {
+            match self.open(store, stamp) {
+                Ok(id) => ids.push_reserved(id),
+                Err(fault) => return Err(fault),
+            }
+        }
+        Ok(())
+    }
+
+    /// Closes the snapshots with these ids, one in each of the first stores.
+    fn close_each(&mut self, ids: &[u64])
+        ensures represents { (layout : Layout) (run : List Turn) → Represents layout self.old run
+            → length ids.now ≤ layout.stores → AreOpenTo run ids.now
+            → Represents layout self.new
+            (each_stepped (λ s. Closed (get_or ids.now s 0)) (length ids.now) run) }
+        ensures division { self.new.division ≡ self.old.division }
+    {
+        for store in 0..ids.len() {
+            // Each of them is open.
+            let _closed = self.close(store, ids[store]);
+        }
+    }
+
+    /// Vacuums one store after another, up to the first that refuses, and appends their reports.
+    fn vacuum_each(&mut self, at: Stamp, reports: &mut Vec<Report>) -> Result<(), RangesFault>
+        requires empty { reports.old.items ≡ [] }
+        requires room { length self.old.stores ≤ vec_capacity reports.old }
+        ensures ok { (layout : Layout) (run : List Turn) → Represents layout self.old run
+            → OnOk result (AreVacuumed layout self.new at run reports.new.items) }
+        ensures err { (layout : Layout) (run : List Turn) → Represents layout self.old run
+            → IfErr result (HaveStopped layout self.new run (vacuum_refusals layout run at)
+            (λ _. Vacuumed at)) }
+        ensures division { self.new.division ≡ self.old.division }
+    {
+        let stores = self.stores().len();
+        for store in 0..stores {
+            match self.vacuum_in(store, at) {
+                Ok(report) => reports.push_reserved(report),
+                Err(fault) => return Err(fault),
+            }
+        }
+        Ok(())
+    }
+
+    /// Lets a node join one store after another, up to the first that refuses, and appends its numbers and starts.
+    fn join_each(&mut self, made: &mut Vec<(u16, Stamp)>) -> Result<(), RangesFault>
+        requires empty { made.old.items ≡ [] }
+        requires room { length self.old.stores ≤ vec_capacity made.old }
+        ensures ok { (layout : Layout) (run : List Turn) → Represents layout self.old run
+            → OnOk result (HaveJoined layout self.new run made.new.items) }
+        ensures err { (layout : Layout) (run : List Turn) → Represents layout self.old run
+            → IfErr result (λ fault. (stopped : HaveStopped layout self.new run
+            (join_refusals layout run) (join_step layout run) fault)
+            × AreJoins layout run made.new.items stopped.at) }
+        ensures division { self.new.division ≡ self.old.division }
+    {
+        let stores = self.stores().len();
+        for store in 0..stores {
+            match self.join_in(store) {
+                Ok(node) => made.push_reserved(node),
+                Err(fault) => return Err(fault),
+            }
+        }
+        Ok(())
+    }
+}

@@ -1,0 +1,31 @@
+//! What events at machines leave of the stores, and steps of stores of the machines.
+ghost use Rattle.std.specs.Prelude.{◌≡◌, ◌∷◌, ℕ, List, None};
+ghost use Rattle.hlc_node.specs.declared.item.Item.{Item as AnItem};
+ghost use Rattle.hlc_core.specs.Past.{Step};
+ghost use Rattle.hlc_ranges.specs.Run.{Layout, Turn, Issued, Sent, Received, Observed, Stepped, IsLegal, start_of};
+ghost use Rattle.hlc_routing.specs.Machine.{MachineView, IsMachineOf};
+ghost use Rattle.hlc_routing.specs.Ranges.{RangesView, Represents};
+
+/// The stores represent the run after an event at a machine too: an item that was issued, a message that was sent or
+/// received, or an observation.
+pub fn events_keep_stores()
+    ensures issued { (layout : Layout) (kept : RangesView) (run : List Turn) (s : ℕ) (item : AnItem)
+        → Represents layout kept run → IsLegal layout (Issued s item ∷ run)
+        → Represents layout kept (Issued s item ∷ run) }
+    ensures sent { (layout : Layout) (kept : RangesView) (run : List Turn) (m stamp : ℕ)
+        → Represents layout kept run → IsLegal layout (Sent m stamp ∷ run)
+        → Represents layout kept (Sent m stamp ∷ run) }
+    ensures received { (layout : Layout) (kept : RangesView) (run : List Turn) (m message stamp : ℕ)
+        → Represents layout kept run → IsLegal layout (Received m message stamp ∷ run)
+        → Represents layout kept (Received m message stamp ∷ run) }
+    ensures observed { (layout : Layout) (kept : RangesView) (run : List Turn) (m s at stamp : ℕ)
+        → Represents layout kept run → IsLegal layout (Observed m s at stamp ∷ run)
+        → Represents layout kept (Observed m s at stamp ∷ run) }
+{}
+
+/// A machine is the run's after a step of a store too, if no node joins by it.
+pub fn steps_keep_machines()
+    ensures { (layout : Layout) (run : List Turn) (m s : ℕ) (machine : MachineView) (step : Step)
+        → IsMachineOf layout run m machine → start_of layout s step ≡ None
+        → IsMachineOf layout (Stepped s step ∷ run) m machine }
+{}
