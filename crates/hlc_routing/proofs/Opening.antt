@@ -3,11 +3,11 @@ use Rattle.std.proofs.Common.{◌≡◌, ℕ, ◌+◌, ◌<◌, ◌≤◌, List,
 use Rattle.std.proofs.Common.{refl, ap, sym, ◌∙◌, subst, inl, inr, arith, length-append}
 use Rattle.std.proofs.lemmas.Bool.{cases_eq}
 use Rattle.std.proofs.lemmas.List.{get_or_append_left, get_or_push}
-use Rattle.hlc_core.specs.Past.{Step, Opened, Closed, opened, open_snapshots, stamp_of, open_refusal}
+use Rattle.hlc_core.specs.Past.{Step, Opened, Closed, opened, open_snapshots, stamp_of, open_refusal, floor}
 use Rattle.hlc_core.specs.Past.{IsLegal as IsLegalPast}
 use Rattle.hlc_core.proofs.CheckpointLemmas.{register-of}
-use Rattle.hlc_core.proofs.PastLemmas.{open-below}
-use Rattle.hlc_snapshot.proofs.RegisterLemmas.{opened-here}
+use Rattle.hlc_core.proofs.PastLemmas.{open-below, open-low}
+use Rattle.hlc_snapshot.proofs.RegisterLemmas.{opened-here, stamp_in-all}
 use Rattle.hlc_ranges.specs.Run.{Layout, Turn, Stepped, past_of}
 use Rattle.hlc_ranges.specs.Cut.{IsCut}
 use Rattle.hlc_routing.specs.Ranges.{RangesView, Represents, OpensIn, ClosesIn}
@@ -181,3 +181,15 @@ few-opened layout old kept new stamp run ids fault h opened' closed =
     closed-again layout kept new stamp run ids fault opened'
     (closed (each_stepped (opening stamp) opened'.at run) opened'.opened.stepped.represents (omega arith)
     (open-to layout old kept stamp run ids opened'.at h (omega arith) opened'.opened))
+
+-- a snapshot that is open in all stores is at a cut
+pub open-cut : (layout : Layout) (kept : RangesView) (snapshot : SnapshotView) (run : List Turn)
+    → Represents layout kept run → IsOpenAll layout snapshot run → IsCut layout run snapshot.stamp
+open-cut layout kept snapshot run h open' = λ s inside.
+    let many : length kept.stores ≡ layout.stores = h.many in
+    let within : s < layout.stores = inside in
+    let store = get-some kept.stores s (omega (arith, within, many)) in
+    let legal : IsLegalPast (layout.nodes s) (past_of s run) =
+    subst (λ k. IsLegalPast k (past_of s run)) (h.nodes s store.0 store.1) (h.pasts s store.0 store.1).legal in
+    stamp_in-all (λ at. at ≤ floor (layout.nodes s) (past_of s run)) (get_or snapshot.ids s 0) snapshot.stamp
+    (open_snapshots (past_of s run)) (open-low (layout.nodes s) (past_of s run) legal) (open'.each s inside)

@@ -1,8 +1,9 @@
 //! Calls of all stores.
 ghost use Rattle.std.specs.Prelude.{◌≡◌, ◌≤◌, ◌<◌, ◌↔◌, ℕ, List, [], Some, length, vec_len, vec_capacity, get_or};
 ghost use Rattle.std.specs.Prelude.{IsTrue, IfOk, IfErr, OnOk, OnErr, IsOkAnd, MatchResult, option_copied};
+ghost use Rattle.hlc_node.specs.Rows.{answer};
 ghost use Rattle.hlc_core.specs.Past.{Closed, Vacuumed};
-ghost use Rattle.hlc_ranges.specs.Run.{Layout, Turn};
+ghost use Rattle.hlc_ranges.specs.Run.{Layout, Turn, issued_writes};
 ghost use Rattle.hlc_ranges.specs.Cut.{IsConsistent};
 ghost use Rattle.hlc_routing.specs.Ranges.{RangesView, Represents, IsLeastFloor};
 ghost use Rattle.hlc_routing.specs.All.{each_stepped, IsOpenAll, OpensAll, ClosesAll, HaveStepped, HaveStopped};
@@ -15,7 +16,7 @@ use crate::ranges::Ranges;
 use crate::snapshot::RangesSnapshot;
 use hlc_checkpoint::Checkpoint;
 use hlc_clock::Stamp;
-use hlc_core::CoreFault;
+use hlc_core::{CoreFault, NoSnapshot};
 use hlc_ranges::cuts_are_consistent;
 use hlc_vacuum::Report;
 use hlc_values::NoMemory;
@@ -67,6 +68,26 @@ impl Ranges {
         ensures division { self.new.division ≡ self.old.division }
     {
         self.close_each(snapshot.ids());
+    }
+
+    /// Returns the value of a key, or none, in a snapshot of all stores: the newest write of all that were issued at or
+    /// below its stamp. The key may be any bytes.
+    ///
+    /// Refused if the snapshot is not open in the key's store.
+    pub fn read_at(
+        &self,
+        snapshot: &RangesSnapshot,
+        key: &[u8],
+    ) -> Result<Option<&[u8]>, NoSnapshot>
+        ensures { (layout : Layout) (run : List Turn) → Represents layout self.now run
+            → IsOpenAll layout snapshot.now run → IsOkAnd result
+            (λ value. option_copied value ≡ answer (issued_writes run) key.now snapshot.now.stamp) }
+    {
+        let store = self.store_of(key);
+        let Some(id) = snapshot.ids().get(store) else {
+            return Err(NoSnapshot);
+        };
+        self.read(*id, key)
     }
 
     /// Vacuums all stores to a stamp, as `Core::vacuum_to` does, and returns the reports, that of the first store first.
