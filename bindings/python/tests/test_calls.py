@@ -578,6 +578,33 @@ class Restarts(unittest.TestCase):
                 copy.vacuum_to(copy.horizon)
                 self.assertEqual(copy.rows, store.rows)
 
+    def test_parts_of_a_checkpoint_go_on_and_become_the_whole(self):
+        store, node = filled([(b"key %d" % (i % 10), b"value %d" % i) for i in range(100)])
+        old, bound = store.snapshot(stamp(50)), b"key 4"
+        whole = store.checkpoint(7)
+        for key in b"", b"a", bound, b"z", bytes(300):
+            parts = hlcstore.split_checkpoint(bytearray(whole), memoryview(key))
+            self.assertEqual(hlcstore.merge_checkpoints(*map(bytearray, parts)), whole)
+        left, right = hlcstore.split_checkpoint(checkpoint=whole, key=bound)
+        low, high = Store.restore(left), Store.restore(right)
+        self.assertEqual((low.word, high.word, low.floor, high.horizon), (7, 7, store.floor, store.horizon))
+        for i in range(30):
+            item = node.write(200, b"key %d" % i, b"later") if i % 3 else node.delete(200, b"key %d" % i)
+            report = Item.report(item.node, item.number, item.stamp)
+            store.accept(item)
+            low.accept(item if item.key < bound else report)
+            high.accept(report if item.key < bound else item)
+        for each in store, low, high:
+            each.vacuum()
+        self.assertTrue(low.rows and high.rows)
+        new = store.snapshot()
+        for part, start, end in (low, b"", bound), (high, bound, b""):
+            self.assertEqual(part.snapshots()[0].digest(), old.digest(start, end))
+            self.assertEqual(part.snapshot().digest(), new.digest(start, end))
+        low.close_all(), high.close_all(), store.close_all()
+        merged = hlcstore.merge_checkpoints(left=low.checkpoint(8), right=high.checkpoint(9))
+        self.assertEqual(merged, store.checkpoint(8))
+
     def test_a_node_is_restored(self):
         store, node = filled([(b"a", b"x")])
         again = Node.restore(node.id, node.last, node.next)
@@ -608,7 +635,10 @@ class Arguments(unittest.TestCase):
             (snapshot.__getitem__, 1), (snapshot.__contains__, "a"), (hlcstore.check, "point 1.0"),
             (store.increment,), (store.increment, b""), (store.increment, 0, None), (store.increment, 0, 0, 0),
             (hlcstore.apply_increment, b""), (hlcstore.apply_increment, "", b""), (hlcstore.apply_increment, b"", 5),
-            (hlcstore.apply_increment, b"", b"", b""),
+            (hlcstore.apply_increment, b"", b"", b""), (hlcstore.split_checkpoint, b""),
+            (hlcstore.split_checkpoint, "", b""), (hlcstore.split_checkpoint, b"", 5),
+            (hlcstore.merge_checkpoints, b""), (hlcstore.merge_checkpoints, "", b""),
+            (hlcstore.merge_checkpoints, b"", b"", b""),
         ]  # fmt: skip
         for call, *args in calls:
             with self.assertRaises(TypeError, msg=f"{call} {args}"):

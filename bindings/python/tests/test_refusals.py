@@ -88,7 +88,7 @@ def increment():
     return saved, store.increment(stamp(2))
 
 
-# For each class, but NoMemory, and NotParts of a call that Python does not make: a call that raises it, and its word.
+# For each class, but NoMemory: a call that raises it, and its word.
 REFUSED = {
     hlcstore.NoNode: (lambda: Store(0), 0),
     hlcstore.ReadingTooLarge: (lambda: Node(0).report(2**48), 0),
@@ -115,6 +115,7 @@ REFUSED = {
     hlcstore.NoIncrement: (lambda: hlcstore.apply_increment(fed().checkpoint(), fed().checkpoint()), 3),
     hlcstore.NotLater: (lambda: hlcstore.apply_increment(Store(2).checkpoint(), increment()[1]), 0),
     hlcstore.Changed: (saved_in_vain, 0),
+    hlcstore.NotParts: (lambda: hlcstore.merge_checkpoints(fed().checkpoint(), fed().checkpoint()), 4),
 }
 # How the text of a refusal has its word.
 WORDS = {
@@ -130,6 +131,7 @@ WORDS = {
     hlcstore.BadBytes: "2",
     hlcstore.NoCheckpoint: "1",
     hlcstore.NoIncrement: "3",
+    hlcstore.NotParts: "4",
 }
 
 
@@ -162,7 +164,7 @@ class Refusals(unittest.TestCase):
         named = {code: name for code, name in names.items() if name and name not in WITHOUT_CLASS}
         classes = {kind.code: kind.__name__ for kind in Error.__subclasses__()}
         self.assertEqual(classes, {code: class_name(name) for code, name in named.items()})
-        self.assertEqual(set(REFUSED) | {hlcstore.NoMemory, hlcstore.NotParts}, set(Error.__subclasses__()))
+        self.assertEqual(set(REFUSED) | {hlcstore.NoMemory}, set(Error.__subclasses__()))
         self.assertLessEqual(set(classes.values()), set(hlcstore.__all__))
 
     def test_other_numbers_have_no_text(self):
@@ -191,6 +193,30 @@ class Refusals(unittest.TestCase):
             changed[at] ^= 1
             with self.assertRaises(hlcstore.NoIncrement):
                 hlcstore.apply_increment(saved, changed)
+
+    def test_parts_are_refused(self):
+        saved, none = fed().checkpoint(), checkpoint_without_nodes()
+        left, right = hlcstore.split_checkpoint(saved, b"a")
+        ahead, opened, vacuumed = (Store.restore(right) for _ in range(3))
+        ahead.accept_report(0, 1, stamp(3))
+        opened.snapshot().close()
+        vacuumed.vacuum()
+        split, merge = hlcstore.split_checkpoint, hlcstore.merge_checkpoints
+        for kind, word, call, *args in (
+            (hlcstore.BadBytes, 1, split, b"", b"a"),
+            (hlcstore.BadBytes, 2, split, saved[1:], b"a"),
+            (hlcstore.NoCheckpoint, 1, split, none, b"a"),
+            (hlcstore.BadBytes, 2, merge, left[1:], b""),
+            (hlcstore.BadBytes, 1, merge, left, b""),
+            (hlcstore.NotParts, 1, merge, left, ahead.checkpoint()),
+            (hlcstore.NotParts, 2, merge, left, opened.checkpoint()),
+            (hlcstore.NotParts, 3, merge, left, vacuumed.checkpoint()),
+            (hlcstore.NotParts, 4, merge, right, right),
+            (hlcstore.NoCheckpoint, 1, merge, none, none),
+        ):
+            with self.subTest(kind=kind, word=word), self.assertRaises(kind) as met:
+                call(*args)
+            self.assertEqual(met.exception.word, word)
 
     def test_a_refused_item_changes_nothing(self):
         node = Node(0)

@@ -265,6 +265,7 @@ class LongCalls(unittest.TestCase):
         wide, floor = self.wide, self.wide.floor
         pieces = [saved[at : at + 50_000] for at in range(0, len(saved), 50_000)]
         increment = self.store.increment(vacuum.stamp)
+        parts = hlcstore.split_checkpoint(saved, b"key 5")
         calls = {
             "accept_all": lambda: Store(1).accept_all(self.items),
             "accept_items": lambda: Store(1).accept_items(log),
@@ -276,9 +277,11 @@ class LongCalls(unittest.TestCase):
             "checkpoint_to": lambda: self.store.checkpoint_to(io.BytesIO()),
             "digest": self.snapshot.digest,
             "increment": partial(wide.increment, 0),
+            "merge_checkpoints": partial(hlcstore.merge_checkpoints, *parts),
             "restore": partial(Store.restore, saved),
             "restore from a piece": partial(Store.restore, [saved]),
             "restore from pieces": partial(Store.restore, pieces),
+            "split_checkpoint": partial(hlcstore.split_checkpoint, saved, b"key 5"),
             "vacuum": wide.vacuum,
             "vacuum_part": partial(wide.vacuum_part, floor, most=100_000),
             "vacuum_to": partial(wide.vacuum_to, floor),

@@ -53,6 +53,8 @@ with Store(1) as store:
     assert_type(store.checkpoint_to(io.BytesIO(), word=3), int)
     assert_type(store.checkpoint_to(open("saved", "wb", buffering=0)), int)
     assert_type(hlcstore.apply_increment(store.checkpoint(), bytearray(store.increment(0, word=3))), bytes)
+    parts = assert_type(hlcstore.split_checkpoint(bytearray(store.checkpoint()), b"m"), tuple[bytes, bytes])
+    assert_type(hlcstore.merge_checkpoints(parts[0], right=bytearray(parts[1])), bytes)
 assert_type(hlcstore.__version__, str)
 
 division = assert_type(Division.by_keys([b"m", bytearray(b"n")]), Division)

@@ -54,6 +54,8 @@ from ._native import (
     error_name,
     error_text,
     join_record,
+    merge_checkpoints,
+    split_checkpoint,
     threshold_record,
     version,
 )
@@ -108,7 +110,9 @@ __all__ = [
     "error_name",
     "error_text",
     "join_record",
+    "merge_checkpoints",
     "split",
+    "split_checkpoint",
     "stamp",
     "threshold_record",
     "version",

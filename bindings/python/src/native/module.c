@@ -76,6 +76,18 @@ static PyMethodDef functions[] = {
     { "check", check_certificate, METH_O,
       "check($module, certificate, /)\n--\n\n"
       "Check the text of a certificate, whoever made it: no rows with the same answers are fewer or cheaper." },
+    METHOD("merge_checkpoints", merge_checkpoints,
+           "merge_checkpoints($module, /, left, right)\n--\n\n"
+           "Return the bytes of the checkpoint that two neighbouring parts become, of which the left one has the\n"
+           "lower keys. It has the word of the left one.\n\n"
+           "NotParts is raised where they do not fit: its word is the number of the first thing that differs."),
+    METHOD("split_checkpoint", split_checkpoint,
+           "split_checkpoint($module, /, checkpoint, key)\n--\n\n"
+           "Return the bytes of the two parts of a checkpoint at a key: the first has the rows of lower keys, the\n"
+           "second the others.\n\n"
+           "Each has the links, the open snapshots, the horizon and the word of the whole. A store that is restored\n"
+           "from a part goes on from the same log: it takes each write of a key of the other part as a report with\n"
+           "the same number and stamp."),
     { "version", version, METH_NOARGS,
       "version($module, /)\n--\n\n"
       "Return the library's version: 10,000 times its first number, 100 times the second, and the third." },

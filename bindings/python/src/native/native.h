@@ -246,6 +246,12 @@ PyObject *store_increment(PyObject *self, PyObject *args, PyObject *words);
 /* The function apply_increment of the module. */
 PyObject *apply_increment(PyObject *module, PyObject *args, PyObject *words);
 
+/* ---- parts.c ---- */
+
+/* The functions split_checkpoint and merge_checkpoints of the module. */
+PyObject *split_checkpoint(PyObject *module, PyObject *args, PyObject *words);
+PyObject *merge_checkpoints(PyObject *module, PyObject *args, PyObject *words);
+
 /* ---- versions.c ---- */
 
 /* A method of a store. */

@@ -70,7 +70,7 @@ pub use item::{Content, Item, OwnedContent, OwnedItem};
 pub use listing::{ChangePage, Changes, KeyPage, Keys, Page, Pairs, PairsBack};
 pub use machine::Machine;
 pub use node::Node;
-pub use output::apply_increment;
+pub use output::{apply_increment, merge_checkpoints, split_checkpoint};
 pub use range::{KeyRange, Prefix};
 pub use ranges::Ranges;
 pub use ranges_error::RangesError;

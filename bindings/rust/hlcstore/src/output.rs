@@ -74,6 +74,60 @@ pub fn apply_increment(older: &[u8], increment: &[u8]) -> Result<Vec<u8>> {
     made.read()
 }
 
+/// Returns the bytes of the two parts of a checkpoint at a key: the first has the rows of lower keys, the second the
+/// others. Each has the links, the open snapshots, the horizon and the word of the whole. A store that is restored from
+/// a part goes on from the same log: it takes each write of a key of the other part as a report with the same number and
+/// stamp.
+///
+/// Refusals, in this order: `BadBytes`; `NoCheckpoint`, of either part; `NoMemory`, which may come in place of each.
+///
+/// ```
+/// use hlcstore::{Item, Node, Stamp, Store, merge_checkpoints, split_checkpoint};
+///
+/// let store = Store::open(1)?;
+/// let mut node = Node::new(0, Stamp::ZERO);
+/// store.accept_all(&[node.write(5, b"city", b"Lyon")?, node.write(6, b"river", b"Rhone")?])?;
+/// let saved = store.checkpoint(1)?;
+///
+/// let (left, right) = split_checkpoint(&saved, b"m")?;
+/// let (cities, _) = Store::restore(&left)?;
+/// let next = node.write(7, b"river", b"Saone")?;
+/// cities.accept(Item::report(next.node, next.number, next.stamp))?;
+/// assert_eq!(cities.snapshot()?.get(b"city")?.as_deref(), Some(&b"Lyon"[..]));
+/// assert_eq!(merge_checkpoints(&left, &right)?, saved);
+/// # Ok::<(), hlcstore::Error>(())
+/// ```
+pub fn split_checkpoint(checkpoint: &[u8], key: &[u8]) -> Result<(Vec<u8>, Vec<u8>)> {
+    let (mut left, mut right, mut word) = (Output::none(), Output::none(), 0);
+    let ((left_output, left_len), (right_output, right_len)) = (left.place(), right.place());
+    // SAFETY: both slices have these lengths, and the other pointers are live and not used otherwise during the call.
+    let code = unsafe {
+        let (bytes, bytes_len) = (checkpoint.as_ptr(), checkpoint.len());
+        let (key, key_len) = (key.as_ptr(), key.len());
+        sys::hlc_split(bytes, bytes_len, key, key_len, left_output, right_output, left_len, right_len, &mut word)
+    };
+    answer(code, word)?;
+    Ok((left.read()?, right.read()?))
+}
+
+/// Returns the bytes of the checkpoint that two neighbouring parts become, of which the left one has the lower keys. It
+/// has the word of the left one. If both are parts of one store that took the same log, opened and closed the same
+/// snapshots and were vacuumed to the same stamp, the result is that store's.
+///
+/// Refusals, in this order: `BadBytes`, of the left part and then of the right one; `NotParts`, with the number of the
+/// first thing that differs; `NoCheckpoint`; `NoMemory`, which may come in place of each.
+pub fn merge_checkpoints(left: &[u8], right: &[u8]) -> Result<Vec<u8>> {
+    let (mut made, mut word) = (Output::none(), 0);
+    let (output, len) = made.place();
+    // SAFETY: as in `split_checkpoint`.
+    let code = unsafe {
+        let (left, left_len) = (left.as_ptr(), left.len());
+        sys::hlc_merge(left, left_len, right.as_ptr(), right.len(), output, len, &mut word)
+    };
+    answer(code, word)?;
+    made.read()
+}
+
 /// How many rows a certificate has, what they cost, and its bytes.
 pub(crate) struct Certificate {
     pub(crate) kept: u64,

@@ -1,7 +1,7 @@
 //! Each kind of error that a call can return where there is memory, with its word and its text.
 
 use hlcstore::{Error, ErrorKind, Item, Node, Result, SharedStore, Stamp, Stopped, Store};
-use hlcstore::{apply_increment, check_certificate};
+use hlcstore::{apply_increment, check_certificate, merge_checkpoints, split_checkpoint};
 use std::fmt::Debug;
 
 /// The kind and the word of a refusal.
@@ -208,6 +208,36 @@ fn increments_are_refused() {
     assert_eq!(refused(apply_increment(&older, &late)), (ErrorKind::AboveFloor, at(5).to_bits()));
 }
 
+#[test]
+fn parts_are_refused() {
+    let store = Store::open(1).unwrap();
+    store.accept(item(0, 5)).unwrap();
+    let whole = store.checkpoint(7).unwrap();
+    let (left, right) = split_checkpoint(&whole, b"key").unwrap();
+    assert_eq!(refused(split_checkpoint(b"", b"key")), (ErrorKind::BadBytes, 1));
+    assert_eq!(refused(split_checkpoint(&whole[1..], b"key")), (ErrorKind::BadBytes, 2));
+    assert_eq!(refused(split_checkpoint(&from_hex(NO_NODES), b"key")), (ErrorKind::NoCheckpoint, 1));
+    assert_eq!(refused(merge_checkpoints(&left[1..], b"")), (ErrorKind::BadBytes, 2));
+    assert_eq!(refused(merge_checkpoints(&left, b"")), (ErrorKind::BadBytes, 1));
+    let none = from_hex(NO_NODES);
+    assert_eq!(refused(merge_checkpoints(&none, &none)), (ErrorKind::NoCheckpoint, 1));
+
+    // What differs of the other part: the links, the open snapshots, the horizon; or it has a lower key.
+    let other = |change: &dyn Fn(&Store)| {
+        let (other, _) = Store::restore(&right).unwrap();
+        change(&other);
+        other.checkpoint(7).unwrap()
+    };
+    let ahead = other(&|store| store.accept(Item::report(0, 1, at(6))).unwrap());
+    let opened = other(&|store| drop(store.snapshot()));
+    let vacuumed = other(&|store| assert!(store.vacuum_to(at(5)).is_ok()));
+    for (part, difference) in [(ahead, 1), (opened, 2), (vacuumed, 3)] {
+        assert_eq!(refused(merge_checkpoints(&left, &part)), (ErrorKind::NotParts, difference));
+    }
+    assert_eq!(refused(merge_checkpoints(&right, &right)), (ErrorKind::NotParts, 4));
+    assert_eq!(merge_checkpoints(&left, &right), Ok(whole));
+}
+
 /// A frame of a checkpoint that has no nodes, with the right digest.
 const NO_NODES: &str = concat!(
     "00000001000000000000001e0000000000000007000000000000000000000000000000000000000000000000000000000000",
@@ -245,8 +275,8 @@ fn texts_are_those_of_the_library() {
     assert_eq!(error.to_string(), "the bytes are no increment (1)");
     let error = check_certificate("no line\n").unwrap_err();
     assert_eq!(error.to_string(), "a line of the certificate is bad (1)");
-    let error = Error::new(113, 4);
-    assert_eq!(error.kind(), ErrorKind::NotParts);
+    let saved = store.checkpoint(0).unwrap();
+    let error = merge_checkpoints(&saved, &saved).unwrap_err();
     assert_eq!(error.to_string(), "the checkpoints are no two parts of one store (4)");
     let error = Item::report(1, 0, Stamp::ZERO);
     assert_eq!(store.accept(error).unwrap_err().to_string(), "no node has this number");

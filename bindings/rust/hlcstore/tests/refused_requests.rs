@@ -1,7 +1,7 @@
 //! Each request of the crate for memory is refused in its turn, by the allocator of this program. An iterator returns
 //! the error once, and then none.
 
-use hlcstore::{Error, ErrorKind, Item, Node, Stamp, Store, apply_increment};
+use hlcstore::{Error, ErrorKind, Item, Node, Stamp, Store, apply_increment, merge_checkpoints, split_checkpoint};
 use std::alloc::{GlobalAlloc, Layout, System};
 use std::cell::Cell;
 use std::fmt::Debug;
@@ -130,6 +130,10 @@ fn calls_return_the_error_and_lose_nothing() {
     let older = Store::open(1).unwrap().checkpoint(0).unwrap();
     let newer = store.checkpoint(8);
     refuse_each(|| apply_increment(&older, increment.as_ref().unwrap()) == newer, is_right);
+    let parts = split_checkpoint(newer.as_ref().unwrap(), b"kkk");
+    refuse_each(|| split_checkpoint(newer.as_ref().unwrap(), b"kkk") == parts, is_right);
+    let (left, right) = parts.as_ref().unwrap();
+    refuse_each(|| merge_checkpoints(left, right) == newer, is_right);
     let floor = store.vacuum().unwrap().stamp;
     refuse_each(|| store.certificate(floor).is_ok(), is_right);
     refuse_each(|| store.versions(&all[70].0, Stamp::ZERO, floor).is_ok_and(|rows| rows.len() == 1), is_right);

@@ -1,6 +1,7 @@
 //! Replicas: a log of items as bytes, checkpoints, and nodes after a restart.
 
-use hlcstore::{Applied, ErrorKind, Item, Node, Record, Result, Stamp, Stopped, Store, apply_increment};
+use hlcstore::{Applied, Content, ErrorKind, Item, Node, Record, Result, Stamp, Stopped, Store};
+use hlcstore::{apply_increment, merge_checkpoints, split_checkpoint};
 
 /// Appends the items of two nodes to a log: writes, deletions, reports and, at the end, a retirement.
 fn make_log() -> Result<Vec<u8>> {
@@ -111,6 +112,58 @@ fn checkpoint_becomes_a_newer_one_by_increments() {
         assert_eq!(same.digest(..), protected.digest(..));
     }
     assert!(lengths.is_sorted());
+}
+
+/// Accepts the items of a log: those of keys of a part as they are, and the others as reports, but for a retirement.
+fn accept_part(store: &Store, mut log: &[u8], has: impl Fn(&[u8]) -> bool) {
+    while !log.is_empty() {
+        let (item, rest) = Item::decode(log).unwrap();
+        let is_other = match item.content {
+            Content::Write { key, .. } | Content::Delete { key } => !has(key),
+            Content::Report | Content::Retire => false,
+        };
+        let report = Item::report(item.node, item.number, item.stamp);
+        store.accept(if is_other { report } else { item }).unwrap();
+        log = rest;
+    }
+}
+
+#[test]
+fn parts_of_a_checkpoint_go_on_and_become_the_whole() {
+    let log = make_log().unwrap();
+    let places = places(&log);
+    let (store, bound) = (Store::open(2).unwrap(), b"key 3");
+    store.accept_items(&log[..places[200]]).unwrap();
+    let protected = store.snapshot().unwrap();
+    let whole = store.checkpoint(200).unwrap();
+    let (left, right) = split_checkpoint(&whole, bound).unwrap();
+    assert_eq!(merge_checkpoints(&left, &right).unwrap(), whole);
+
+    store.accept_items(&log[places[200]..]).unwrap();
+    let (below, from) = (Store::restore(&left).unwrap().0, Store::restore(&right).unwrap().0);
+    accept_part(&below, &log[places[200]..], |key| key < &bound[..]);
+    accept_part(&from, &log[places[200]..], |key| key >= &bound[..]);
+    assert_eq!(below.floor(), store.floor());
+    let all = store.snapshot().unwrap();
+    let (low, high) = (below.snapshot().unwrap(), from.snapshot().unwrap());
+    assert!(low.count(..).unwrap() > 0 && high.count(..).unwrap() > 0);
+    assert_eq!(low.digest(..), all.digest(..&bound[..]));
+    assert_eq!(high.digest(..), all.digest(&bound[..]..));
+    let old = from.snapshot_by_id(protected.id()).unwrap();
+    assert_eq!(old.digest(..), protected.digest(&bound[..]..));
+    for each in [&store, &below, &from] {
+        each.vacuum().unwrap();
+    }
+    let merged = merge_checkpoints(&below.checkpoint(9).unwrap(), &from.checkpoint(9).unwrap()).unwrap();
+    assert_eq!(merged, store.checkpoint(9).unwrap());
+
+    // Bounds beyond all keys, and no bound, leave a part without rows.
+    for (bound, part) in [(&b"z"[..], 1), (b"", 0)] {
+        let parts = split_checkpoint(&whole, bound).unwrap();
+        let empty = if part == 0 { &parts.0 } else { &parts.1 };
+        assert_eq!(Store::restore(empty).unwrap().0.rows(), Ok(0));
+        assert_eq!(merge_checkpoints(&parts.0, &parts.1).unwrap(), whole);
+    }
 }
 
 #[test]
