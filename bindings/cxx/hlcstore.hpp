@@ -21,6 +21,7 @@
 #include "hlcstore/error.hpp"
 #include "hlcstore/call.hpp"
 #include "hlcstore/node.hpp"
+#include "hlcstore/items.hpp"
 #include "hlcstore/snapshot.hpp"
 #include "hlcstore/store.hpp"
 #include "hlcstore/slots.hpp"

@@ -472,6 +472,66 @@ void owned_items() {
   EXPECT(shared.checkpoint(0) == saved);
 }
 
+// What a log says, item by item, is what was encoded; and of bytes with one change, or cut, that which a store says.
+void decoded_items() {
+  using hlcstore::item_kind;
+  using hlcstore::owned_item;
+  node writer(3);
+  std::vector<owned_item> items;
+  for (const string& value : {string(), string("x\0y", 3), string(65535, 'v')}) {
+    items.push_back({writer.write(1, string(255, 'k'), value), item_kind::write, string(255, 'k'), value});
+    items.push_back({writer.erase(2, "b"), item_kind::erase, "b", ""});
+    items.push_back({writer.report(3), item_kind::report, "", ""});
+  }
+  items.push_back({writer.retire(4), item_kind::retire, "", ""});
+  string log;
+  for (const owned_item& item : items) log += encode(item);
+  const hlcstore::log_items read(log);
+  EXPECT(std::equal(read.begin(), read.end(), items.begin(), items.end()));
+  EXPECT(read.begin() != read.end() && read.begin() == read.begin() && read.begin()->number == 0);
+  EXPECT(hlcstore::log_items("").begin() == read.end());
+  string_view rest = log;
+  for (const owned_item& item : items) EXPECT(owned_item::decode(rest) == item);
+  EXPECT(rest.empty());
+  hlcstore::log_items::iterator place = read.begin();
+  EXPECT(place.rest().size() == log.size() - encode(items[0]).size() && (++place)->kind == item_kind::erase);
+
+  const owned_item first{{0, 0, {1}}, item_kind::write, "key", "value"};
+  const owned_item second{{0, 1, {2}}, item_kind::erase, "key", ""};
+  const string some = encode(first) + encode(second);
+  const auto is_read_alike = [](string_view bytes) {
+    store taken(1);
+    const hlcstore::log_answer answer = taken.accept_log(bytes);
+    std::size_t many = 0, left = bytes.size();
+    try {
+      for (auto at = hlcstore::log_items(bytes).begin(); at != hlcstore::log_items::iterator(); ++at) {
+        left = at.rest().size();
+        many++;
+      }
+    } catch (const hlcstore::error& refused) {
+      EXPECT(refused.code() == HLC_BAD_BYTES && many >= answer.many);
+      // The store may refuse an item before the bad bytes.
+      if (answer.code != HLC_BAD_BYTES) return answer.code != HLC_OK;
+      return refused.word() == answer.word && many == answer.many && bytes.size() - left == answer.used;
+    }
+    return answer.code != HLC_BAD_BYTES;
+  };
+  for (std::size_t at = 0; at < some.size(); at++) {
+    EXPECT(is_read_alike(string_view(some).substr(0, at)));
+    string changed = some;
+    for (int byte = 0; byte < 256; byte++) {
+      changed[at] = static_cast<char>(byte);
+      EXPECT(is_read_alike(changed));
+    }
+  }
+  rest = string_view(some).substr(0, 9);
+  EXPECT(refusal_of([&] { owned_item::decode(rest); }) == HLC_BAD_BYTES && rest.size() == 9);
+  const string cut = some.substr(0, some.size() - 1);
+  hlcstore::log_items::iterator last(cut);
+  const owned_item before = *last;
+  EXPECT(refusal_of([&] { ++last; }) == HLC_BAD_BYTES && *last == before && last != read.end());
+}
+
 // A shared store has the methods of a store, and can be moved, as its snapshots can.
 void shared_stores() {
   const std::map<string, string> pairs = many_pairs();
@@ -525,6 +585,7 @@ void views() {
   static_assert(std::ranges::view<hlcstore::pair_range> && std::ranges::input_range<hlcstore::pair_range>);
   static_assert(std::ranges::view<hlcstore::owning_key_range> && std::ranges::view<hlcstore::joint_pair_range>);
   static_assert(std::ranges::view<hlcstore::shared_back_range> && std::ranges::input_range<hlcstore::snapshot>);
+  static_assert(std::ranges::view<hlcstore::log_items> && std::ranges::input_range<hlcstore::log_items>);
   store store = filled(many_pairs());
   string found;
   for (const string& key : store.open_snapshot().keys("key00100") | std::views::take(2)) found += key;
@@ -685,6 +746,7 @@ int main() {
   increments();
   stamps();
   owned_items();
+  decoded_items();
   shared_stores();
   views();
   std::puts(wrong == 0 ? "all right" : "wrong");

@@ -79,6 +79,96 @@ func (i Item) AppendTo(log []byte) ([]byte, error) {
 	return longer[:len(longer)+int(part.len)], nil
 }
 
+// DecodeItem returns the first item of a log, and the bytes after it. It is the opposite of Encode.
+//
+// Refusal: ErrBadBytes, with the number of the fault, which is 1 if the bytes end within the item; then the item is
+// empty, and the bytes are the whole log.
+func DecodeItem(log []byte) (Item, []byte, error) {
+	fields := itemFields{rest: log}
+	item := fields.item()
+	if fields.fault != 0 {
+		return Item{}, log, &Error{Code: ErrBadBytes, Word: uint64(fields.fault)}
+	}
+	return item, fields.rest, nil
+}
+
+// The faults of an item's bytes, as docs/formats.md numbers them.
+const (
+	faultShort = iota + 1
+	faultVersion
+	faultKind
+	faultKey
+	faultFlag
+)
+
+// itemFields has the bytes of a log from the next field on, and the first fault of those before, or 0. After a fault
+// there are no more bytes.
+type itemFields struct {
+	rest  []byte
+	fault int
+}
+
+func (f *itemFields) fail(fault int) {
+	if f.fault == 0 {
+		f.fault, f.rest = fault, nil
+	}
+}
+
+func (f *itemFields) bytes(length int) []byte {
+	if length > len(f.rest) {
+		f.fail(faultShort)
+		return nil
+	}
+	field := f.rest[:length]
+	f.rest = f.rest[length:]
+	return field
+}
+
+// number returns a number of so many bytes, the high one first.
+func (f *itemFields) number(size int) uint64 {
+	var number uint64
+	for _, b := range f.bytes(size) {
+		number = number<<8 | uint64(b)
+	}
+	return number
+}
+
+func (f *itemFields) item() Item {
+	if version := f.number(1); version != 1 {
+		f.fail(faultVersion)
+	}
+	item := Item{Node: uint16(f.number(2)), Number: f.number(8), Stamp: Stamp(f.number(8))}
+	switch f.number(1) {
+	case 0:
+		f.write(&item)
+	case 1:
+		item.Kind = Report
+	case 2:
+		item.Kind = Retire
+	default:
+		f.fail(faultKind)
+	}
+	return item
+}
+
+// write fills the kind, the key and the value of a write or a deletion.
+func (f *itemFields) write(item *Item) {
+	length := f.number(1)
+	if length == 0 {
+		f.fail(faultKey)
+	}
+	key, value := f.bytes(int(length)), []byte(nil)
+	switch f.number(1) {
+	case 0:
+		item.Kind = Delete
+	case 1:
+		value = f.bytes(int(f.number(2)))
+	default:
+		f.fail(faultFlag)
+	}
+	item.Key, item.Value = owned(key, value)
+}
+
 // unknown returns why an item of no kind is refused.
 func (i Item) unknown() error {
 	return fmt.Errorf("hlcstore: %v is no kind of an item", i.Kind)

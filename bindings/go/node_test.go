@@ -1,6 +1,7 @@
 package hlcstore_test
 
 import (
+	"errors"
 	"testing"
 
 	"hlcstore"
@@ -106,6 +107,65 @@ func TestItemAsBytes(t *testing.T) {
 		refused(t, refusal, err, 0)
 		equal(t, string(same), string(log))
 	}
+}
+
+func TestItemsFromBytes(t *testing.T) {
+	items := []hlcstore.Item{
+		{Node: 2, Number: 3, Stamp: at(5), Key: "a", Value: "xy"},
+		{Node: 1, Number: 4, Stamp: at(6), Key: string(make([]byte, 255)), Value: string(make([]byte, 65535))},
+		{Key: "b"},
+		{Kind: hlcstore.Delete, Node: 65535, Number: 1<<64 - 1, Stamp: 1<<64 - 1, Key: "a"},
+		{Kind: hlcstore.Report, Node: 1, Number: 5, Stamp: at(7)},
+		{Kind: hlcstore.Retire, Node: 1, Number: 6, Stamp: at(8)},
+	}
+	var log []byte
+	for _, item := range items {
+		log = must(item.AppendTo(log))
+	}
+	rest := log
+	for _, item := range items {
+		decoded, after, err := hlcstore.DecodeItem(rest)
+		ok(t, err)
+		equal(t, decoded, item)
+		rest = after
+	}
+	equal(t, len(rest), 0)
+}
+
+// Of bytes with one change, or cut, an item has the fault that a store finds in them.
+func TestBadItemsFromBytes(t *testing.T) {
+	write := must(hlcstore.Item{Stamp: at(1), Key: "key", Value: "value"}.Encode())
+	check := func(log []byte) {
+		t.Helper()
+		store := must(hlcstore.Open(1))
+		defer store.Close()
+		_, accepted := store.AcceptItems(log)
+		item, rest, err := hlcstore.DecodeItem(log)
+		if !errors.Is(accepted, hlcstore.ErrBadBytes) {
+			ok(t, err)
+			return
+		}
+		var fault *hlcstore.Error
+		errors.As(accepted, &fault)
+		refused(t, err, hlcstore.ErrBadBytes, fault.Word)
+		equal(t, item, hlcstore.Item{})
+		equal(t, string(rest), string(log))
+	}
+	for at := range write {
+		if at > 0 {
+			check(write[:at])
+		}
+		changed := append([]byte(nil), write...)
+		for b := 0; b < 256; b++ {
+			changed[at] = byte(b)
+			if whole, _, err := hlcstore.DecodeItem(changed); err == nil && len(must(whole.Encode())) != len(write) {
+				continue // bytes follow that are no item
+			}
+			check(changed)
+		}
+	}
+	_, _, err := hlcstore.DecodeItem(nil)
+	refused(t, err, hlcstore.ErrBadBytes, 1)
 }
 
 func TestItemOfNoKind(t *testing.T) {

@@ -67,6 +67,10 @@ struct owned_item : item {
   item_kind kind = item_kind::report;
   std::string key, value;
 
+  // The first item of a log, whose bytes are taken from the front. It is the opposite of `encode`. Where they are no
+  // item it throws HLC_BAD_BYTES, with the number of the fault that accept_log would return, and takes none.
+  static owned_item decode(std::string_view& log);
+
   friend bool operator==(const owned_item& a, const owned_item& b) noexcept {
     return static_cast<const item&>(a) == b && a.kind == b.kind && a.key == b.key && a.value == b.value;
   }

@@ -347,6 +347,20 @@ class Snapshots(unittest.TestCase):
             with self.assertRaises(hlcstore.NoSnapshot):
                 closed[b"a"]
 
+    def test_a_snapshot_by_its_id(self):
+        store, node = filled([(b"a", b"x"), (b"a", b"y")])
+        old, new = store.snapshot(stamp(1)), store.snapshot()
+        with Store.restore(store.checkpoint()) as copy:
+            for mine in old, new:
+                its = copy.snapshot_by_id(mine.id)
+                self.assertEqual((its.id, its.stamp, its[b"a"]), (mine.id, mine.stamp, mine[b"a"]))
+            del its
+            self.assertEqual(len(copy.snapshots()), 2)
+            copy.snapshot_by_id(old.id).close()
+            for none in old.id, 0, 2**64 - 1:
+                with self.assertRaises(hlcstore.NoSnapshot):
+                    copy.snapshot_by_id(none)
+
     def test_all_open_snapshots_are_listed(self):
         store, node = filled([(b"a", b"x")])
         for reading in range(2, 1025):
@@ -355,6 +369,7 @@ class Snapshots(unittest.TestCase):
         listed = [(each.id, each.stamp) for each in store.snapshots()]
         self.assertEqual(listed, [(number, stamp(number)) for number in range(1, 1025)])
         self.assertEqual(listed, [(each.id, each.stamp) for each in opened])
+        self.assertEqual(store.snapshot_by_id(1024).stamp, stamp(1024))
 
     def test_a_finalizer_uses_the_iterator(self):
         """Garbage may be collected while a pair is made. Its finalizers call the same iterator, which gives each pair
@@ -627,6 +642,7 @@ class Arguments(unittest.TestCase):
             (store.accept_all, 5), (store.accept_all, [item, None]), (store.accept_items, [1, 2]),
             (store.accept_items, 8), (store.accept_write, 0, 0, 1, ["a"], b""), (store.snapshot, "floor"),
             (store.close_snapshot, None), (store.restore, None), (store.checkpoint, b""), (store.link, None),
+            (store.snapshot_by_id, "1"),
             (store.checkpoint_to,), (store.checkpoint_to, io.BytesIO(), b""), (store.checkpoint_to, io.StringIO()),
             (snapshot.get, "a"), (snapshot.get,), (snapshot.get, b"a", 1, 2), (snapshot.items, 1),
             (snapshot.read_all, b"ab"), (snapshot.read_all, None), (snapshot.digest, b"", "z"),

@@ -101,6 +101,7 @@ def keep(store):
     refuse(TypeError, store.checkpoint_to, io.StringIO())
     refuse(AttributeError, store.checkpoint_to, KEY)
     with Store.restore(saved) as copy:
+        [copy.snapshot_by_id(each.id) for each in copy.snapshots()], refuse(hlcstore.NoSnapshot, copy.snapshot_by_id, 0)
         copy.snapshots(), copy.link(0), copy.floor, copy.join(), copy.join_at(2**50), copy.floor_node()
     with Store.restore(saved[at : at + 500] for at in range(0, len(saved), 500)) as copy:
         empty_a_key(copy)

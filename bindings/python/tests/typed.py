@@ -40,6 +40,7 @@ with Store(1) as store:
             assert_type(snapshot.read_all([b"a"]), list[bytes | None])
             assert_type(b"a" in snapshot, bool)
             assert_type(split(snapshot.stamp), tuple[int, int])
+            assert_type(store.snapshot_by_id(snapshot.id), Snapshot)
     except AboveFloor as refused:
         assert_type(refused.word, int)
     except NotNext as refused_item:

@@ -269,6 +269,7 @@ typedef struct {
 
 /* Methods of a store. */
 PyObject *store_snapshot(PyObject *self, PyObject *args, PyObject *words);
+PyObject *store_snapshot_by_id(PyObject *self, PyObject *id);
 PyObject *store_snapshots(PyObject *self, PyObject *none);
 PyObject *store_close_snapshot(PyObject *self, PyObject *id);
 

@@ -100,6 +100,29 @@ static uint32_t list_opened(Store *store, Opened *opened, Py_ssize_t *many)
     return code == HLC_NO_SNAPSHOT ? HLC_OK : code;
 }
 
+/* An object of a snapshot that is open, and stays so where the object is dropped. */
+static PyObject *opened_object(PyObject *store, const Opened *opened)
+{
+    Snapshot *snapshot = snapshot_object(store);
+    if (!snapshot) return NULL;
+    snapshot->id = opened->id;
+    snapshot->stamp = opened->stamp;
+    return (PyObject *)snapshot;
+}
+
+PyObject *store_snapshot_by_id(PyObject *self, PyObject *from)
+{
+    Opened opened[MOST_OPEN];
+    Py_ssize_t many;
+    uint64_t id;
+    if (!take_u64(from, &id)) return NULL;
+    uint32_t code = list_opened((Store *)self, opened, &many);
+    if (code != HLC_OK) return refuse(code, 0);
+    for (Py_ssize_t i = 0; i < many; i++)
+        if (opened[i].id == id) return opened_object(self, &opened[i]);
+    return refuse(HLC_NO_SNAPSHOT, 0);
+}
+
 PyObject *store_snapshots(PyObject *self, PyObject *none)
 {
     Opened opened[MOST_OPEN];
@@ -109,12 +132,8 @@ PyObject *store_snapshots(PyObject *self, PyObject *none)
     if (code != HLC_OK) return refuse(code, 0);
     PyObject *list = PyList_New(many);
     for (Py_ssize_t i = 0; list && i < many; i++) {
-        Snapshot *snapshot = snapshot_object(self);
-        if (snapshot) {
-            snapshot->id = opened[i].id;
-            snapshot->stamp = opened[i].stamp;
-        }
-        if (!snapshot || PyList_SetItem(list, i, (PyObject *)snapshot)) Py_CLEAR(list);
+        PyObject *snapshot = opened_object(self, &opened[i]);
+        if (!snapshot || PyList_SetItem(list, i, snapshot)) Py_CLEAR(list);
     }
     return list;
 }

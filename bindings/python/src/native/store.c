@@ -529,6 +529,10 @@ static PyMethodDef store_methods[] = {
            "is the square of the number of the key's rows."),
     METHOD("snapshot", store_snapshot,
            "snapshot($self, /, stamp=None)\n--\n\nOpen a snapshot at a stamp, or at the floor."),
+    { "snapshot_by_id", store_snapshot_by_id, METH_O,
+      "snapshot_by_id($self, id, /)\n--\n\n"
+      "Return the open snapshot with this id, for example of a store that was restored.\n\n"
+      "It stays open where the object is dropped. NoSnapshot is raised where none has the id." },
     { "snapshots", store_snapshots, METH_NOARGS,
       "snapshots($self, /)\n--\n\n"
       "Return the open snapshots, the oldest first.\n\nThey stay open where these objects are dropped." },
