@@ -43,7 +43,7 @@ static void fill(void)
     uint64_t word;
     for (int i = 0; i < WRITES; i++) {
         key_of(key, i % KEYS);
-        must(hlc_accept_write(&store, 0, i, (uint64_t)(i + 1) << 16, key, 8, value, 8, &word));
+        must(hlc_store_accept_write(&store, 0, i, (uint64_t)(i + 1) << 16, key, 8, value, 8, &word));
     }
 }
 
@@ -59,7 +59,7 @@ static void fill_in_batches(void)
             memcpy(bytes + 16 * i + 8, "value000", 8);
             entries[i] = (hlc_entry){ 0, false, start + i, (uint64_t)(start + i + 1) << 16, 16 * i, 8, 16 * i + 8, 8 };
         }
-        must(hlc_accept_all(&store, entries, BATCH, bytes, sizeof bytes, &many, &word));
+        must(hlc_store_accept_all(&store, entries, BATCH, bytes, sizeof bytes, &many, &word));
     }
 }
 
@@ -67,7 +67,8 @@ static void fill_from_logs(uint8_t logs[WRITES / BATCH][BATCH * ITEM], const siz
 {
     size_t used, many;
     uint64_t word;
-    for (int i = 0; i < WRITES / BATCH; i++) must(hlc_items_accept(&store, logs[i], lens[i], &used, &many, &word));
+    for (int i = 0; i < WRITES / BATCH; i++) must(hlc_store_accept_items(&store, logs[i], lens[i], &used, &many,
+                                                                         &word));
 }
 
 /* Measures the same writes as the items of logs. */
@@ -79,15 +80,15 @@ static void take_logs(int kind)
     for (int i = 0; i < WRITES; i++) {
         size_t *end = &lens[i / BATCH];
         key_of(key, i % KEYS);
-        must(hlc_item_write(0, i, (uint64_t)(i + 1) << 16, key, 8, (const uint8_t *)"value000", 8,
-                            logs[i / BATCH] + *end, sizeof *logs - *end, &len));
+        must(hlc_item_encode_write(0, i, (uint64_t)(i + 1) << 16, key, 8, (const uint8_t *)"value000", 8,
+                                   logs[i / BATCH] + *end, sizeof *logs - *end, &len));
         *end += len;
     }
-    must(hlc_open(&store, 1));
+    must(hlc_store_open(&store, 1));
     double t = now();
     fill_from_logs(logs, lens);
     take(kind, t, WRITES);
-    hlc_close(&store);
+    hlc_store_close(&store);
 }
 
 /* Measures many reads in one call, and a scan per key. */
@@ -101,10 +102,10 @@ static void take_many(uint64_t id, int read, int scan)
         places[i] = (hlc_place){ 8 * i, 8 };
     }
     double t = now();
-    must(hlc_read_all(&store, id, places, KEYS, bytes, sizeof bytes, out, sizeof out, &len, &many));
+    must(hlc_snapshot_read_all(&store, id, places, KEYS, bytes, sizeof bytes, out, sizeof out, &len, &many));
     take(read, t, KEYS);
     t = now();
-    must(hlc_scan(&store, id, NULL, 0, NULL, 0, out, sizeof out, &len, &many));
+    must(hlc_snapshot_scan(&store, id, NULL, 0, NULL, 0, out, sizeof out, &len, &many));
     take(scan, t, KEYS);
 }
 
@@ -119,36 +120,36 @@ int main(void)
     for (int run = 0; run < 9; run++) {
         hlc_node node = hlc_node_open(0, 0);
         take_logs(7);
-        must(hlc_open(&store, 1));
+        must(hlc_store_open(&store, 1));
         double t = now();
         fill_in_batches();
         take(1, t, WRITES);
-        hlc_close(&store);
-        must(hlc_open(&store, 1));
+        hlc_store_close(&store);
+        must(hlc_store_open(&store, 1));
         t = now();
         fill();
         take(0, t, WRITES);
         t = now();
-        for (int i = 0; i < WRITES; i++) must(hlc_rows(&store, &word));
+        for (int i = 0; i < WRITES; i++) must(hlc_store_rows(&store, &word));
         take(2, t, WRITES);
         t = now();
-        for (int i = 0; i < WRITES; i++) must(hlc_floor(&store, &at));
+        for (int i = 0; i < WRITES; i++) must(hlc_store_floor(&store, &at));
         take(3, t, WRITES);
         key_of(key, 5);
         t = now();
         for (int i = 0; i < WRITES; i++) {
-            if (hlc_accept_write(&store, 0, 1, 1, key, 8, key, 8, &word) == HLC_OK) exit(1);
+            if (hlc_store_accept_write(&store, 0, 1, 1, key, 8, key, 8, &word) == HLC_OK) exit(1);
         }
         take(4, t, WRITES);
-        must(hlc_open_snapshot_at_floor(&store, &id, &at));
+        must(hlc_snapshot_open_at_floor(&store, &id, &at));
         t = now();
         for (int i = 0; i < WRITES; i++) {
             key_of(key, i * 7 % KEYS);
-            must(hlc_read(&store, id, key, 8, out, sizeof out, &len));
+            must(hlc_snapshot_read(&store, id, key, 8, out, sizeof out, &len));
         }
         take(5, t, WRITES);
         take_many(id, 8, 9);
-        hlc_close(&store);
+        hlc_store_close(&store);
         t = now();
         for (int i = 0; i < WRITES; i++) must(hlc_node_write(&node, i, key, 8, key, 8, &number, &word));
         take(6, t, WRITES);

@@ -56,7 +56,7 @@ static void read_key(unsigned k)
     uint8_t out[8];
     size_t len;
     key_of(k, key);
-    must(hlc_read(&mine, snapshot, (uint8_t *)key, 8, out, sizeof out, &len));
+    must(hlc_snapshot_read(&mine, snapshot, (uint8_t *)key, 8, out, sizeof out, &len));
     if (len != 8 || memcmp(out, key, 8) != 0) exit(1);
 }
 
@@ -145,13 +145,13 @@ static void fill(void)
     hlc_node node = hlc_node_open(0, 0);
     uint64_t number, stamp, word;
     char key[9];
-    must(hlc_open(&store, 1));
+    must(hlc_store_open(&store, 1));
     for (unsigned i = 0; i < KEYS * VERSIONS; i++) {
         key_of(i, key);
         must(hlc_node_write(&node, i + 1, (uint8_t *)key, 8, (uint8_t *)key, 8, &number, &stamp));
-        must(hlc_accept_write(&store, 0, number, stamp, (uint8_t *)key, 8, (uint8_t *)key, 8, &word));
+        must(hlc_store_accept_write(&store, 0, number, stamp, (uint8_t *)key, 8, (uint8_t *)key, 8, &word));
     }
-    must(hlc_open_snapshot_at_floor(&store, &snapshot, &stamp));
+    must(hlc_snapshot_open_at_floor(&store, &snapshot, &stamp));
 }
 
 /* Returns how many million reads a second so many threads make. */
@@ -193,6 +193,6 @@ int main(void)
             printf(" %s %.2f, %.2f%s", names[kind], rates[kind][0], rates[kind][RUNS / 2], kind + 1 < KINDS ? ";" : "\n");
         }
     }
-    hlc_close(&store);
+    hlc_store_close(&store);
     return 0;
 }

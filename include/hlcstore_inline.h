@@ -14,7 +14,7 @@ extern "C" {
 /* ---- Answers ---- */
 
 /* Leaves an answer out of account: of a call that cannot be refused here, or whose refusal changes nothing. */
-static inline void hlc_ignore(hlc_answer answer)
+static inline void hlc_answer_ignore(hlc_answer answer)
 {
     (void)answer;
 }
@@ -67,18 +67,18 @@ static inline const char *hlc_strerror(uint32_t answer)
  *
  * HLC_COPY(store) is a copy of a store for one of the calls that may run beside reads:
  *
- *     answer = hlc_read(HLC_COPY(store), id, key, key_len, out, sizeof out, &len);
+ *     answer = hlc_snapshot_read(HLC_COPY(store), id, key, key_len, out, sizeof out, &len);
  *
  * The store is a pointer, to const or not, and is not changed. In C the copy lives until the block ends, in C++ until
  * the full expression does. */
-HLC_NONNULL(1) static inline hlc_store hlc_copy(const hlc_store *store)
+HLC_NONNULL(1) static inline hlc_store hlc_store_copy(const hlc_store *store)
 {
     return *store;
 }
 #ifndef __cplusplus
-#define HLC_COPY(store) ((hlc_store[1]){ hlc_copy(store) })
+#define HLC_COPY(store) ((hlc_store[1]){ hlc_store_copy(store) })
 #else
-#define HLC_COPY(store) (hlc_copied{ hlc_copy(store) })
+#define HLC_COPY(store) (hlc_copied{ hlc_store_copy(store) })
 struct hlc_copied {
     hlc_store own;
     operator hlc_store *() { return &own; }
@@ -91,7 +91,7 @@ struct hlc_copied {
  *
  *     hlc_bytes rest = { out, len };
  *     hlc_pair pair;
- *     while (hlc_next_pair(&rest, &pair)) ...
+ *     while (hlc_pair_next(&rest, &pair)) ...
  *
  * It returns false where no whole one is there, whatever the bytes are: then it leaves them, and writes 0. So at the
  * end of the loop rest.len is 0 if all bytes were read. What is read points into the bytes, which stay the caller's. */
@@ -160,8 +160,8 @@ HLC_CHECKED(1, 2) static inline bool hlc_inline_value(hlc_bytes *rest, hlc_value
     return !value->exists || hlc_inline_sized(rest, &value->bytes);
 }
 
-/* The next pair of hlc_list, hlc_scan and hlc_scan_back. */
-HLC_CHECKED(1, 2) static inline bool hlc_next_pair(hlc_bytes *rest, hlc_pair *pair)
+/* The next pair of hlc_snapshot_list, hlc_snapshot_scan and hlc_snapshot_scan_back. */
+HLC_CHECKED(1, 2) static inline bool hlc_pair_next(hlc_bytes *rest, hlc_pair *pair)
 {
     const hlc_bytes whole = *rest;
     memset(pair, 0, sizeof *pair);
@@ -171,8 +171,8 @@ HLC_CHECKED(1, 2) static inline bool hlc_next_pair(hlc_bytes *rest, hlc_pair *pa
     return false;
 }
 
-/* The next key of hlc_scan_keys. */
-HLC_CHECKED(1, 2) static inline bool hlc_next_key(hlc_bytes *rest, hlc_bytes *key)
+/* The next key of hlc_snapshot_scan_keys. */
+HLC_CHECKED(1, 2) static inline bool hlc_key_next(hlc_bytes *rest, hlc_bytes *key)
 {
     const hlc_bytes whole = *rest;
     memset(key, 0, sizeof *key);
@@ -181,8 +181,8 @@ HLC_CHECKED(1, 2) static inline bool hlc_next_key(hlc_bytes *rest, hlc_bytes *ke
     return false;
 }
 
-/* The next answer of hlc_read_all. */
-HLC_CHECKED(1, 2) static inline bool hlc_next_value(hlc_bytes *rest, hlc_value *value)
+/* The next answer of hlc_snapshot_read_all. */
+HLC_CHECKED(1, 2) static inline bool hlc_value_next(hlc_bytes *rest, hlc_value *value)
 {
     const hlc_bytes whole = *rest;
     if (hlc_inline_value(rest, value)) return true;
@@ -191,8 +191,8 @@ HLC_CHECKED(1, 2) static inline bool hlc_next_value(hlc_bytes *rest, hlc_value *
     return false;
 }
 
-/* The next key of hlc_changes, with its value in the snapshot `after`. */
-HLC_CHECKED(1, 2) static inline bool hlc_next_change(hlc_bytes *rest, hlc_change *change)
+/* The next key of hlc_snapshot_changes, with its value in the snapshot `after`. */
+HLC_CHECKED(1, 2) static inline bool hlc_change_next(hlc_bytes *rest, hlc_change *change)
 {
     const hlc_bytes whole = *rest;
     memset(change, 0, sizeof *change);
@@ -202,8 +202,8 @@ HLC_CHECKED(1, 2) static inline bool hlc_next_change(hlc_bytes *rest, hlc_change
     return false;
 }
 
-/* The next row of hlc_versions. */
-HLC_CHECKED(1, 2) static inline bool hlc_next_version(hlc_bytes *rest, hlc_key_version *version)
+/* The next row of hlc_store_versions. */
+HLC_CHECKED(1, 2) static inline bool hlc_key_version_next(hlc_bytes *rest, hlc_key_version *version)
 {
     const hlc_bytes whole = *rest;
     uint64_t node;
@@ -273,9 +273,9 @@ HLC_CHECKED(1, 2) static inline bool hlc_inline_content(hlc_bytes *rest, hlc_ite
     return has_value == 0 || hlc_inline_field(rest, 2, &item->value);
 }
 
-/* The next item of a log, as hlc_item_write and its like wrote it, for whoever looks at a log before a store accepts
- * it. It returns false where hlc_items_accept would return 106, and at the end. */
-HLC_CHECKED(1, 2) static inline bool hlc_next_item(hlc_bytes *rest, hlc_item *item)
+/* The next item of a log, as hlc_item_encode_write and its like wrote it, for whoever looks at a log before a store
+ * accepts it. It returns false where hlc_store_accept_items would return 106, and at the end. */
+HLC_CHECKED(1, 2) static inline bool hlc_item_next(hlc_bytes *rest, hlc_item *item)
 {
     const hlc_bytes whole = *rest;
     uint64_t version, node;
@@ -306,11 +306,11 @@ typedef struct {
     uint64_t value_bytes;
 } hlc_store_sizes;
 
-/* By hlc_sizes. */
-HLC_CHECKED(1, 2) static inline hlc_answer hlc_get_sizes(const hlc_store *store, hlc_store_sizes *sizes)
+/* By hlc_store_size. */
+HLC_CHECKED(1, 2) static inline hlc_answer hlc_store_get_sizes(const hlc_store *store, hlc_store_sizes *sizes)
 {
     hlc_store mine = *store;
-    return hlc_sizes(&mine, &sizes->rows, &sizes->keys, &sizes->key_bytes, &sizes->value_bytes);
+    return hlc_store_size(&mine, &sizes->rows, &sizes->keys, &sizes->key_bytes, &sizes->value_bytes);
 }
 
 /* What was accepted from a node: the number of its next item, the stamp of its last accepted item or of its start, and
@@ -321,12 +321,13 @@ typedef struct {
     bool retired;
 } hlc_link_state;
 
-/* By hlc_link. */
-HLC_CHECKED(1, 3) static inline hlc_answer hlc_get_link(const hlc_store *store, uint16_t node, hlc_link_state *link)
+/* By hlc_store_link. */
+HLC_CHECKED(1, 3)
+static inline hlc_answer hlc_store_get_link(const hlc_store *store, uint16_t node, hlc_link_state *link)
 {
     hlc_store mine = *store;
     link->retired = false;
-    return hlc_link(&mine, node, &link->next, &link->head, &link->retired);
+    return hlc_store_link(&mine, node, &link->next, &link->head, &link->retired);
 }
 
 /* An open snapshot. */
@@ -335,25 +336,25 @@ typedef struct {
     uint64_t stamp;
 } hlc_snapshot_info;
 
-/* By hlc_snapshot. */
+/* By hlc_snapshot_at_place. */
 HLC_CHECKED(1, 3)
-static inline hlc_answer hlc_get_snapshot(const hlc_store *store, uint64_t place, hlc_snapshot_info *snapshot)
+static inline hlc_answer hlc_snapshot_get(const hlc_store *store, uint64_t place, hlc_snapshot_info *snapshot)
 {
     hlc_store mine = *store;
-    return hlc_snapshot(&mine, place, &snapshot->id, &snapshot->stamp);
+    return hlc_snapshot_at_place(&mine, place, &snapshot->id, &snapshot->stamp);
 }
 
-/* Returns the stamp of the open snapshot of an id. Refusal: 10. Makes at most eleven calls of hlc_snapshot, whose ids
- * rise. */
+/* Returns the stamp of the open snapshot of an id. Refusal: 10. Makes at most eleven calls of hlc_snapshot_at_place,
+ * whose ids rise. */
 HLC_CHECKED(1, 3)
-static inline hlc_answer hlc_get_snapshot_stamp(const hlc_store *store, uint64_t id, uint64_t *stamp)
+static inline hlc_answer hlc_snapshot_get_stamp(const hlc_store *store, uint64_t id, uint64_t *stamp)
 {
     hlc_snapshot_info open;
     uint64_t low = 0, high = HLC_MAX_OPEN_SNAPSHOTS;
     *stamp = 0;
     while (low < high) {
         const uint64_t place = low + (high - low) / 2;
-        const hlc_answer answer = hlc_get_snapshot(store, place, &open);
+        const hlc_answer answer = hlc_snapshot_get(store, place, &open);
         if (answer != HLC_OK && answer != HLC_NO_SNAPSHOT) return answer;
         if (answer == HLC_OK && open.id == id) {
             *stamp = open.stamp;
@@ -378,19 +379,19 @@ typedef struct {
     uint64_t word;
 } hlc_vacuum_report;
 
-/* By hlc_vacuum. */
-HLC_CHECKED(1, 2) static inline hlc_answer hlc_run_vacuum(hlc_store *store, hlc_vacuum_report *report)
+/* By hlc_store_vacuum. */
+HLC_CHECKED(1, 2) static inline hlc_answer hlc_store_run_vacuum(hlc_store *store, hlc_vacuum_report *report)
 {
     report->word = 0;
-    return hlc_vacuum(store, &report->stamp, &report->kept, &report->bytes, &report->dropped);
+    return hlc_store_vacuum(store, &report->stamp, &report->kept, &report->bytes, &report->dropped);
 }
 
-/* By hlc_vacuum_to. */
+/* By hlc_store_vacuum_to. */
 HLC_CHECKED(1, 3)
-static inline hlc_answer hlc_run_vacuum_to(hlc_store *store, uint64_t stamp, hlc_vacuum_report *report)
+static inline hlc_answer hlc_store_run_vacuum_to(hlc_store *store, uint64_t stamp, hlc_vacuum_report *report)
 {
     const hlc_answer answer =
-        hlc_vacuum_to(store, stamp, &report->word, &report->kept, &report->bytes, &report->dropped);
+        hlc_store_vacuum_to(store, stamp, &report->word, &report->kept, &report->bytes, &report->dropped);
     report->stamp = answer == HLC_OK ? report->word : 0;
     if (answer == HLC_OK) report->word = 0;
     return answer;
@@ -407,20 +408,22 @@ typedef struct {
 
 #define HLC_FIRST_PART { { 0, 0, 0, 0, 0 }, true, 0, { 0 } }
 
-/* Makes the next part by hlc_vacuum_part, of at most so many keys.
+/* Makes the next part by hlc_store_vacuum_part, of at most so many keys.
  *
  *     hlc_partial_vacuum part = HLC_FIRST_PART;
- *     while (answer == HLC_OK && part.more) answer = hlc_run_vacuum_part(&store, stamp, 1024, &part);
+ *     while (answer == HLC_OK && part.more) answer = hlc_store_run_vacuum_part(&store, stamp, 1024, &part);
  *
  * After a refusal the part has the word, and is otherwise as it was: the call may be made again. */
 HLC_CHECKED(1, 4)
-static inline hlc_answer hlc_run_vacuum_part(hlc_store *store, uint64_t stamp, size_t most, hlc_partial_vacuum *part)
+static inline hlc_answer hlc_store_run_vacuum_part(hlc_store *store, uint64_t stamp, size_t limit,
+                                                   hlc_partial_vacuum *part)
 {
     hlc_partial_vacuum made = HLC_FIRST_PART;
     hlc_vacuum_report *report = &made.report;
     const hlc_answer answer =
-        hlc_vacuum_part(store, stamp, part->after, part->after_len, most, &report->word, &report->kept, &report->bytes,
-                        &report->dropped, made.after, sizeof made.after, &made.after_len, &made.more);
+        hlc_store_vacuum_part(store, stamp, part->after, part->after_len, limit, &report->word, &report->kept,
+                              &report->bytes, &report->dropped, made.after, sizeof made.after, &made.after_len,
+                              &made.more);
     if (answer != HLC_OK) {
         part->report.word = report->word;
         return answer;
@@ -440,14 +443,14 @@ typedef struct {
     uint64_t word;
 } hlc_certified;
 
-/* By hlc_certificate. */
+/* By hlc_certificate_make. */
 HLC_CHECKED(1, 3, 4)
-static inline hlc_answer hlc_get_certificate(const hlc_store *store, uint64_t stamp, hlc_output *output,
+static inline hlc_answer hlc_certificate_get(const hlc_store *store, uint64_t stamp, hlc_output *output,
                                              hlc_certified *certified)
 {
     hlc_store mine = *store;
-    return hlc_certificate(&mine, stamp, &certified->word, &certified->kept, &certified->bytes, output,
-                           &certified->len);
+    return hlc_certificate_make(&mine, stamp, &certified->word, &certified->kept, &certified->bytes, output,
+                                &certified->len);
 }
 
 /* What a certificate shows: that no row set with the same answers has fewer rows, or costs fewer bytes. */
@@ -457,36 +460,38 @@ typedef struct {
     uint64_t word;
 } hlc_shown;
 
-/* By hlc_check. */
-HLC_CHECKED(3) static inline hlc_answer hlc_check_certificate(const uint8_t *text, size_t text_len, hlc_shown *shown)
+/* By hlc_certificate_check. */
+HLC_CHECKED(3)
+static inline hlc_answer hlc_certificate_get_shown(const uint8_t *text, size_t text_len, hlc_shown *shown)
 {
-    return hlc_check(text, text_len, &shown->rows, &shown->bytes, &shown->word);
+    return hlc_certificate_check(text, text_len, &shown->rows, &shown->bytes, &shown->word);
 }
 
 /* How far a store came in a log, also at a refusal: how many items or records it accepted or passed over, how many
  * bytes these have, and the greatest retention threshold among them, or 0. */
 typedef struct {
-    size_t many;
+    size_t count;
     size_t used;
     uint64_t threshold;
     uint64_t word;
 } hlc_applied;
 
-/* By hlc_items_accept; threshold is 0. */
+/* By hlc_store_accept_items; threshold is 0. */
 HLC_CHECKED(1, 4)
-static inline hlc_answer hlc_accept_log(hlc_store *store, const uint8_t *bytes, size_t bytes_len, hlc_applied *applied)
+static inline hlc_answer hlc_store_accept_log(hlc_store *store, const uint8_t *bytes, size_t bytes_len,
+                                              hlc_applied *applied)
 {
     applied->threshold = 0;
-    return hlc_items_accept(store, bytes, bytes_len, &applied->used, &applied->many, &applied->word);
+    return hlc_store_accept_items(store, bytes, bytes_len, &applied->used, &applied->count, &applied->word);
 }
 
-/* By hlc_records_apply. */
+/* By hlc_store_apply_records. */
 HLC_CHECKED(1, 4)
-static inline hlc_answer hlc_apply_records(hlc_store *store, const uint8_t *bytes, size_t bytes_len,
-                                           hlc_applied *applied)
+static inline hlc_answer hlc_store_apply_log(hlc_store *store, const uint8_t *bytes, size_t bytes_len,
+                                             hlc_applied *applied)
 {
-    return hlc_records_apply(store, bytes, bytes_len, &applied->used, &applied->many, &applied->threshold,
-                             &applied->word);
+    return hlc_store_apply_records(store, bytes, bytes_len, &applied->used, &applied->count, &applied->threshold,
+                                   &applied->word);
 }
 
 #ifdef __cplusplus

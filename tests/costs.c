@@ -84,8 +84,8 @@ static void put_value(hlc_store *store, uint64_t number, uint64_t key_number, co
     uint8_t key[16];
     size_t key_len = key_of(key_number, key);
     uint64_t word;
-    must(hlc_accept_write(store, 0, number, STAMP(number + 1), key, key_len, (const uint8_t *)value, strlen(value),
-                          &word));
+    must(hlc_store_accept_write(store, 0, number, STAMP(number + 1), key, key_len, (const uint8_t *)value,
+                                strlen(value), &word));
 }
 
 static void put(hlc_store *store, uint64_t number, uint64_t key_number)
@@ -96,21 +96,21 @@ static void put(hlc_store *store, uint64_t number, uint64_t key_number)
 /* Opens a store with so many keys of one version, a power of 2, that came in a scattered order or in their own. */
 static void fill(hlc_store *store, uint64_t keys, bool scatter)
 {
-    must(hlc_open(store, 1));
+    must(hlc_store_open(store, 1));
     for (uint64_t i = 0; i < keys; i++) put(store, i, scatter ? scattered(i, keys) : i);
 }
 
 /* Opens a store with so many versions of one key. */
 static void fill_key(hlc_store *store, uint64_t versions)
 {
-    must(hlc_open(store, 1));
+    must(hlc_store_open(store, 1));
     for (uint64_t i = 0; i < versions; i++) put(store, i, 0);
 }
 
 static uint64_t open_at_floor(hlc_store *store)
 {
     uint64_t id, stamp;
-    must(hlc_open_snapshot_at_floor(store, &id, &stamp));
+    must(hlc_snapshot_open_at_floor(store, &id, &stamp));
     return id;
 }
 
@@ -118,7 +118,7 @@ static void read_key(hlc_store *store, uint64_t id, uint64_t key_number)
 {
     uint8_t key[16], value[8];
     size_t len;
-    must(hlc_read(store, id, key, key_of(key_number, key), value, sizeof value, &len));
+    must(hlc_snapshot_read(store, id, key, key_of(key_number, key), value, sizeof value, &len));
 }
 
 /* What a store has is known without a look at its rows. */
@@ -127,19 +127,19 @@ static void measure_questions(hlc_store *store, uint64_t keys)
     uint64_t a, b, c, d;
     bool retired = false;
     begin();
-    for (int i = 0; i < TIMES; i++) must(hlc_rows(store, &a));
+    for (int i = 0; i < TIMES; i++) must(hlc_store_rows(store, &a));
     end("rows", keys, TIMES);
     begin();
-    for (int i = 0; i < TIMES; i++) must(hlc_sizes(store, &a, &b, &c, &d));
+    for (int i = 0; i < TIMES; i++) must(hlc_store_size(store, &a, &b, &c, &d));
     end("sizes", keys, TIMES);
     begin();
-    for (int i = 0; i < TIMES; i++) must(hlc_floor(store, &a));
+    for (int i = 0; i < TIMES; i++) must(hlc_store_floor(store, &a));
     end("floor", keys, TIMES);
     begin();
-    for (int i = 0; i < TIMES; i++) must(hlc_horizon(store, &a));
+    for (int i = 0; i < TIMES; i++) must(hlc_store_horizon(store, &a));
     end("horizon", keys, TIMES);
     begin();
-    for (int i = 0; i < TIMES; i++) must(hlc_link(store, 0, &a, &b, &retired));
+    for (int i = 0; i < TIMES; i++) must(hlc_store_link(store, 0, &a, &b, &retired));
     end("link", keys, TIMES);
 }
 
@@ -151,19 +151,19 @@ static void measure_pages(hlc_store *store, uint64_t keys, uint64_t id)
     size_t from_len = key_of(keys / 2, from), to_len = key_of(keys / 2 + 100, to), len, pairs;
     uint64_t many;
     begin();
-    must(hlc_scan(store, id, from, from_len, NULL, 0, out, sizeof out, &len, &pairs));
+    must(hlc_snapshot_scan(store, id, from, from_len, NULL, 0, out, sizeof out, &len, &pairs));
     end("scan", keys, 1);
     if (pairs != 100) exit(1);
     begin();
-    must(hlc_scan_back(store, id, NULL, 0, to, to_len, out, sizeof out, &len, &pairs));
+    must(hlc_snapshot_scan_back(store, id, NULL, 0, to, to_len, out, sizeof out, &len, &pairs));
     end("scan-back", keys, 1);
     if (pairs != 100) exit(1);
     begin();
-    must(hlc_count(store, id, from, from_len, to, to_len, &many));
+    must(hlc_snapshot_count(store, id, from, from_len, to, to_len, &many));
     end("count", keys, 1);
     if (many != 100) exit(1);
     begin();
-    must(hlc_digest(store, id, from, from_len, to, to_len, digest, sizeof digest, &len));
+    must(hlc_snapshot_digest(store, id, from, from_len, to, to_len, digest, sizeof digest, &len));
     end("digest", keys, 1);
 }
 
@@ -174,10 +174,10 @@ static void measure_part(hlc_store *store, uint64_t keys)
     size_t after_len = key_of(keys / 2, after), len;
     uint64_t floor, word, kept, bytes, dropped;
     bool more = false;
-    must(hlc_floor(store, &floor));
+    must(hlc_store_floor(store, &floor));
     begin();
-    must(hlc_vacuum_part(store, floor, after, after_len, 100, &word, &kept, &bytes, &dropped, out, sizeof out, &len,
-                         &more));
+    must(hlc_store_vacuum_part(store, floor, after, after_len, 100, &word, &kept, &bytes, &dropped, out, sizeof out,
+                               &len, &more));
     end("part", keys, 1);
     if (kept != 100 || dropped != 0) exit(1);
 }
@@ -191,7 +191,7 @@ static void measure_first_keys(uint64_t keys)
     begin();
     for (uint64_t i = 0; i < TIMES; i++) read_key(&store, id, i * 128 % keys);
     end("first-key", keys, TIMES);
-    hlc_close(&store);
+    hlc_store_close(&store);
 }
 
 static void measure_keys(uint64_t keys)
@@ -208,7 +208,7 @@ static void measure_keys(uint64_t keys)
     begin();
     for (uint64_t i = 0; i < TIMES; i++) put(&store, keys + i, keys + scattered(i, 1024));
     end("new-key", keys, TIMES);
-    hlc_close(&store);
+    hlc_store_close(&store);
 }
 
 /* What changes in a range of a hundred keys, of which ten get another value, costs a look at these keys. All keys
@@ -226,10 +226,10 @@ static void measure_changes(uint64_t keys)
     }
     uint64_t after = open_at_floor(&store);
     begin();
-    must(hlc_changes(&store, before, after, from, from_len, to, to_len, out, sizeof out, &len, &many));
+    must(hlc_snapshot_changes(&store, before, after, from, from_len, to, to_len, out, sizeof out, &len, &many));
     end("changes", keys, 1);
     if (many != 10) exit(1);
-    hlc_close(&store);
+    hlc_store_close(&store);
 }
 
 /* Reads at stamps among the versions of one key, and further versions. */
@@ -238,14 +238,14 @@ static void measure_versions(uint64_t versions)
     hlc_store store = HLC_CLOSED_STORE;
     uint64_t ids[100];
     fill_key(&store, versions);
-    for (uint64_t i = 0; i < 100; i++) must(hlc_open_snapshot(&store, STAMP(versions / 100 * i + 1), &ids[i]));
+    for (uint64_t i = 0; i < 100; i++) must(hlc_snapshot_open(&store, STAMP(versions / 100 * i + 1), &ids[i]));
     begin();
     for (int i = 0; i < TIMES; i++) read_key(&store, ids[i % 100], 0);
     end("version", versions, TIMES);
     begin();
     for (uint64_t i = 0; i < 10 * TIMES; i++) put(&store, versions + i, 0);
     end("push", versions, 10 * TIMES);
-    hlc_close(&store);
+    hlc_store_close(&store);
 }
 
 /* The same versions from 64 nodes, one node after the other, so that they come in another order than their stamps. */
@@ -253,16 +253,16 @@ static void measure_nodes(uint64_t versions)
 {
     hlc_store store = HLC_CLOSED_STORE;
     uint64_t word, each = versions / 64;
-    must(hlc_open(&store, 64));
+    must(hlc_store_open(&store, 64));
     begin();
     for (uint16_t node = 0; node < 64; node++) {
         for (uint64_t i = 0; i < each; i++) {
-            must(hlc_accept_write(&store, node, i, STAMP(i + 1), (const uint8_t *)"k", 1, (const uint8_t *)"v", 1,
-                                  &word));
+            must(hlc_store_accept_write(&store, node, i, STAMP(i + 1), (const uint8_t *)"k", 1, (const uint8_t *)"v", 1,
+                                        &word));
         }
     }
     end("push-by-nodes", versions, versions);
-    hlc_close(&store);
+    hlc_store_close(&store);
 }
 
 /* The newest of so many open snapshots is found at once. */
@@ -275,7 +275,7 @@ static void measure_snapshots(uint64_t snapshots)
     begin();
     for (int i = 0; i < TIMES; i++) read_key(&store, id, 7);
     end("snapshot", snapshots, TIMES);
-    hlc_close(&store);
+    hlc_store_close(&store);
 }
 
 /* A restore in small pieces costs what its bytes cost. */
@@ -287,20 +287,20 @@ static void measure_pieces(uint64_t keys)
     size_t len, at = 0, read;
     uint64_t word;
     fill(&store, keys, false);
-    must(hlc_checkpoint(&store, 0, &output, &len));
-    hlc_close(&store);
-    must(hlc_restore_start(&restoring));
+    must(hlc_checkpoint_make(&store, 0, &output, &len));
+    hlc_store_close(&store);
+    must(hlc_restoring_start(&restoring));
     begin();
     while (at < len) {
         uint8_t piece[512];
         must(hlc_output_read(&output, at, piece, sizeof piece, &read));
-        must(hlc_restore_feed(&restoring, piece, read));
+        must(hlc_restoring_feed(&restoring, piece, read));
         at += read;
     }
-    must(hlc_restore_finish(&restoring, &store, &word));
+    must(hlc_restoring_finish(&restoring, &store, &word));
     end("pieces", keys, keys);
     hlc_output_drop(&output);
-    hlc_close(&store);
+    hlc_store_close(&store);
 }
 
 /* Prints what a store of so many keys takes. */
@@ -310,7 +310,7 @@ static void print_memory(const char *name, uint64_t keys, bool scatter)
     uint64_t before = live;
     fill(&store, keys, scatter);
     printf("%s %" PRIu64 "\n", name, live - before);
-    hlc_close(&store);
+    hlc_store_close(&store);
     if (live != before) exit(1);
 }
 

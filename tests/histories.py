@@ -38,7 +38,7 @@ class History:
         self.pick, self.store = pick, Handle()
         self.links = [[0, 0] for _ in range(pick.randint(1, 3))]
         self.writes, self.snapshots, self.horizon = [], {}, 0
-        ok("open", self.store, len(self.links))
+        ok("store_open", self.store, len(self.links))
 
     def floor(self):
         return min(last for _, last in self.links)
@@ -51,26 +51,26 @@ class History:
         self.links[node] = [number + 1, stamp]
         kind = self.pick.choice(("write", "write", "write", "delete", "report"))
         if kind == "report":
-            ok("accept_report", self.store, node, number, stamp)
+            ok("store_accept_report", self.store, node, number, stamp)
             return
         value = self.pick.choice(VALUES) if kind == "write" else None
         parts = (key,) if value is None else (key, value)
-        ok("accept_" + kind, self.store, node, number, stamp, *parts)
+        ok("store_accept_" + kind, self.store, node, number, stamp, *parts)
         self.writes.append((stamp, node, key, value))
 
     def open(self):
         stamp = self.pick.choice((self.floor(), self.pick.randint(self.horizon, self.floor())))
-        (id,) = ok("open_snapshot", self.store, stamp)
+        (id,) = ok("snapshot_open", self.store, stamp)
         self.snapshots[id] = stamp
 
     def close(self):
         if len(self.snapshots) > 2:
             id = self.pick.choice(list(self.snapshots))
-            assert ok("close_snapshot", self.store, id) == [self.snapshots.pop(id)]
+            assert ok("snapshot_close", self.store, id) == [self.snapshots.pop(id)]
 
     def vacuum(self):
         self.horizon = self.pick.randint(self.horizon, self.floor())
-        ok("vacuum_to", self.store, self.horizon)
+        ok("store_vacuum_to", self.store, self.horizon)
 
     def play(self):
         events = [self.issue] * 6 + [self.open] * 2 + [self.close, self.vacuum]
@@ -81,7 +81,7 @@ class History:
     def listing(self, id):
         """What a snapshot lists, which must be what all writes give."""
         pairs, at = {}, 0
-        length, data = ok("list", self.store, id, ROOM)
+        length, data = ok("snapshot_list", self.store, id, ROOM)
         while at < length:
             key, at = take_part(data, at)
             pairs[key], at = take_part(data, at)
@@ -95,7 +95,7 @@ class History:
         found, start, code = [], b"", MORE
         while code == MORE:
             room = self.pick.choice((0, 30, 60, ROOM))
-            code, length, data, many = library.call("changes", self.store, before, after, start, b"", room)
+            code, length, data, many = library.call("snapshot_changes", self.store, before, after, start, b"", room)
             at, value = 0, None
             while at < length:
                 key, at = take_part(data, at)
@@ -128,6 +128,6 @@ for _ in range(HISTORIES):
     history = History(pick)
     history.play()
     compared += history.compare()
-    library.call("close", history.store)
+    library.call("store_close", history.store)
 print(f"{compared} pairs of snapshots", file=sys.stderr)
 print("all right")

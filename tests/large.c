@@ -226,7 +226,7 @@ static uint64_t pairs_in(uint64_t stamp, uint32_t from, uint32_t to)
     return many;
 }
 
-/* The answers of hlc_read_all to all keys. */
+/* The answers of hlc_snapshot_read_all to all keys. */
 static Bytes answers(uint64_t stamp)
 {
     Bytes made = { 0 };
@@ -392,8 +392,8 @@ static void expect(bool is_right, const char *what)
 static void open_snapshots(hlc_store *store)
 {
     uint64_t id, stamp;
-    expect(hlc_open_snapshot(store, points[0], &id) == HLC_OK && id == HALF, "the snapshot at a stamp");
-    expect(hlc_open_snapshot_at_floor(store, &id, &stamp) == HLC_OK && id == WHOLE && stamp == points[1],
+    expect(hlc_snapshot_open(store, points[0], &id) == HLC_OK && id == HALF, "the snapshot at a stamp");
+    expect(hlc_snapshot_open_at_floor(store, &id, &stamp) == HLC_OK && id == WHOLE && stamp == points[1],
            "the snapshot at the floor");
 }
 
@@ -410,7 +410,7 @@ static void accept_entries(hlc_store *store)
         put_value_to(&texts, row);
         entries[row] = (hlc_entry){ 0, deletes(row), row, row + 1, at, KEY_LEN, at + KEY_LEN, value_len(row) };
     }
-    uint32_t code = hlc_accept_all(store, entries, rows, texts.at, texts.len, &many, &word);
+    uint32_t code = hlc_store_accept_all(store, entries, rows, texts.at, texts.len, &many, &word);
     expect(code == HLC_OK && many == rows && word == 0, "entries that are accepted");
     free(entries);
     free(texts.at);
@@ -422,7 +422,7 @@ static void accept_log(hlc_store *store)
     size_t used, many;
     uint64_t word;
     for (uint32_t row = 0; row < rows; row++) put_item(&log, row);
-    uint32_t code = hlc_items_accept(store, log.at, log.len, &used, &many, &word);
+    uint32_t code = hlc_store_accept_items(store, log.at, log.len, &used, &many, &word);
     expect(code == HLC_OK && used == log.len && many == rows && word == 0, "items that are accepted");
     free(log.at);
 }
@@ -431,10 +431,10 @@ static void check_sizes(hlc_store *store)
 {
     uint64_t got[4], value_bytes = 0, many;
     for (uint32_t row = 0; row < rows; row++) value_bytes += value_len(row);
-    uint32_t code = hlc_sizes(store, &got[0], &got[1], &got[2], &got[3]);
+    uint32_t code = hlc_store_size(store, &got[0], &got[1], &got[2], &got[3]);
     expect(code == HLC_OK && got[0] == rows && got[1] == keys && got[2] == (uint64_t)KEY_LEN * keys
                && got[3] == value_bytes, "the sizes");
-    expect(hlc_rows(store, &many) == HLC_OK && many == rows, "the number of rows");
+    expect(hlc_store_rows(store, &many) == HLC_OK && many == rows, "the number of rows");
 }
 
 /* The key of the last pair of a page. Its values have fewer than 256 bytes. */
@@ -452,7 +452,7 @@ static bool has_pages(hlc_store *store, uint64_t id, const Bytes *expected, uint
     size_t at = 0, from_len = 0, len, many;
     uint32_t code = HLC_MORE;
     while (code == HLC_MORE) {
-        code = hlc_scan(store, id, from, from_len, NULL, 0, page, room, &len, &many);
+        code = hlc_snapshot_scan(store, id, from, from_len, NULL, 0, page, room, &len, &many);
         if (len == 0 || expected->len - at < len || memcmp(page, expected->at + at, len) != 0) break;
         at += len;
         pairs -= many;
@@ -467,7 +467,7 @@ static void check_digest(hlc_store *store, uint64_t id, const char *what)
 {
     uint8_t got[32];
     size_t len;
-    uint32_t code = hlc_digest(store, id, NULL, 0, NULL, 0, got, sizeof got, &len);
+    uint32_t code = hlc_snapshot_digest(store, id, NULL, 0, NULL, 0, got, sizeof got, &len);
     expect(code == HLC_OK && len == sizeof got && memcmp(got, expected_digest[id - 1], sizeof got) == 0, what);
 }
 
@@ -481,7 +481,8 @@ static void check_reads(hlc_store *store, uint64_t id)
         put_key_to(&texts, key);
     }
     grow(&got, expected.len);
-    uint32_t code = hlc_read_all(store, id, places, keys, texts.at, texts.len, got.at, got.len, &got.len, &many);
+    uint32_t code = hlc_snapshot_read_all(store, id, places, keys, texts.at, texts.len, got.at, got.len, &got.len,
+                                          &many);
     expect(code == HLC_OK && many == keys && are_same(&got, &expected), "the values of all keys");
     free(expected.at);
     free(texts.at);
@@ -498,15 +499,15 @@ static void check_listings(hlc_store *store, uint64_t id)
     put_key(keys / 6, from);
     put_key(keys / 3, to);
     grow(&got, expected.len);
-    expect(hlc_list(store, id, NULL, 0, &len) == HLC_OK && len == expected.len, "the length of a listing");
-    expect(hlc_list(store, id, got.at, got.len, &len) == HLC_OK && are_same(&got, &expected), "a listing");
+    expect(hlc_snapshot_list(store, id, NULL, 0, &len) == HLC_OK && len == expected.len, "the length of a listing");
+    expect(hlc_snapshot_list(store, id, got.at, got.len, &len) == HLC_OK && are_same(&got, &expected), "a listing");
     expect(has_pages(store, id, &expected, all, 1000000), "pages");
     expect(has_pages(store, id, &expected, all, expected.len), "a page of all pairs");
-    uint32_t code = hlc_scan_keys(store, id, from, KEY_LEN, to, KEY_LEN, got.at, alone.len, &got.len, &many);
+    uint32_t code = hlc_snapshot_scan_keys(store, id, from, KEY_LEN, to, KEY_LEN, got.at, alone.len, &got.len, &many);
     expect(code == HLC_OK && are_same(&got, &alone) && many == pairs_in(at, keys / 6, keys / 3), "a page of keys");
-    code = hlc_count(store, id, NULL, 0, NULL, 0, &counted);
+    code = hlc_snapshot_count(store, id, NULL, 0, NULL, 0, &counted);
     expect(code == HLC_OK && counted == all, "the number of keys");
-    code = hlc_count(store, id, from, KEY_LEN, to, KEY_LEN, &counted);
+    code = hlc_snapshot_count(store, id, from, KEY_LEN, to, KEY_LEN, &counted);
     expect(code == HLC_OK && counted == pairs_in(at, keys / 6, keys / 3), "the number of keys of a range");
     free(expected.at);
     free(alone.at);
@@ -529,7 +530,7 @@ static Bytes saved(hlc_store *store)
 {
     hlc_output output = HLC_NO_OUTPUT;
     size_t len;
-    expect(hlc_checkpoint(store, WORD, &output, &len) == HLC_OK, "a checkpoint");
+    expect(hlc_checkpoint_make(store, WORD, &output, &len) == HLC_OK, "a checkpoint");
     return taken(&output, len);
 }
 
@@ -545,12 +546,12 @@ static void restore_pieces(hlc_store *store, const Bytes *from)
     enum { PIECE = 100000 };
     hlc_restoring restoring = HLC_NO_RESTORING;
     uint64_t word;
-    uint32_t code = hlc_restore_start(&restoring);
+    uint32_t code = hlc_restoring_start(&restoring);
     for (size_t at = 0; code == HLC_OK && at < from->len; at += PIECE)
-        code = hlc_restore_feed(&restoring, from->at + at, from->len - at < PIECE ? from->len - at : PIECE);
-    if (code == HLC_OK) code = hlc_restore_finish(&restoring, store, &word);
+        code = hlc_restoring_feed(&restoring, from->at + at, from->len - at < PIECE ? from->len - at : PIECE);
+    if (code == HLC_OK) code = hlc_restoring_finish(&restoring, store, &word);
     expect(code == HLC_OK && word == WORD, "a restore in pieces");
-    hlc_restore_drop(&restoring);
+    hlc_restoring_drop(&restoring);
 }
 
 /* Whether these are the numbers of a vacuum to the floor: the stamp, and the numbers of rows and of bytes. */
@@ -563,7 +564,7 @@ static bool has_numbers(const uint64_t numbers[4])
 static void vacuum_whole(hlc_store *store)
 {
     uint64_t got[4];
-    uint32_t code = hlc_vacuum(store, &got[0], &got[1], &got[2], &got[3]);
+    uint32_t code = hlc_store_vacuum(store, &got[0], &got[1], &got[2], &got[3]);
     expect(code == HLC_OK && has_numbers(got), "a vacuum");
 }
 
@@ -573,8 +574,8 @@ static void vacuum_in_one_part(hlc_store *store)
     uint8_t key[255];
     size_t len;
     bool more;
-    uint32_t code = hlc_vacuum_part(store, rows, NULL, 0, SIZE_MAX, &got[0], &got[1], &got[2], &got[3], key,
-                                    sizeof key, &len, &more);
+    uint32_t code = hlc_store_vacuum_part(store, rows, NULL, 0, SIZE_MAX, &got[0], &got[1], &got[2], &got[3], key,
+                                          sizeof key, &len, &more);
     expect(code == HLC_OK && has_numbers(got) && !more && len == 0, "a vacuum in one part");
 }
 
@@ -585,14 +586,14 @@ static void certify(hlc_store *store)
     Bytes expected = certificate();
     uint64_t got[2], checked[2], word;
     size_t len;
-    uint32_t code = hlc_certificate(store, rows, &word, &got[0], &got[1], &output, &len);
+    uint32_t code = hlc_certificate_make(store, rows, &word, &got[0], &got[1], &output, &len);
     expect(code == HLC_NOT_FEWEST && word + got[0] + got[1] + len == 0, "no certificate before a vacuum");
     vacuum_whole(store);
-    code = hlc_certificate(store, rows, &word, &got[0], &got[1], &output, &len);
+    code = hlc_certificate_make(store, rows, &word, &got[0], &got[1], &output, &len);
     expect(code == HLC_OK && got[0] == expected_kept && got[1] == expected_cost, "a certificate after a vacuum");
     Bytes text = taken(&output, len);
     expect(are_same(&text, &expected), "a certificate");
-    code = hlc_check(text.at, text.len, &checked[0], &checked[1], &word);
+    code = hlc_certificate_check(text.at, text.len, &checked[0], &checked[1], &word);
     expect(code == HLC_OK && checked[0] == expected_kept && checked[1] == expected_cost, "a checked certificate");
     free(text.at);
     free(expected.at);
@@ -602,7 +603,7 @@ static void check_copies(const Bytes *from)
 {
     hlc_store whole = HLC_CLOSED_STORE, pieces = HLC_CLOSED_STORE;
     uint64_t word;
-    expect(hlc_restore(&whole, from->at, from->len, &word) == HLC_OK && word == WORD, "a restore");
+    expect(hlc_store_restore(&whole, from->at, from->len, &word) == HLC_OK && word == WORD, "a restore");
     restore_pieces(&pieces, from);
     check_sizes(&whole);
     check_sizes(&pieces);
@@ -614,18 +615,18 @@ static void check_copies(const Bytes *from)
         check_digest(&whole, id, "the digest after a vacuum");
         check_digest(&pieces, id, "the digest after a vacuum in one part");
     }
-    hlc_close(&whole);
-    hlc_close(&pieces);
+    hlc_store_close(&whole);
+    hlc_store_close(&pieces);
 }
 
 static void check_log(void)
 {
     hlc_store store = HLC_CLOSED_STORE;
-    expect(hlc_open(&store, 1) == HLC_OK, "a store");
+    expect(hlc_store_open(&store, 1) == HLC_OK, "a store");
     accept_log(&store);
     open_snapshots(&store);
     check_saved(&store, false, "the checkpoint of a store that took a log");
-    hlc_close(&store);
+    hlc_store_close(&store);
 }
 
 static void play(uint32_t many_keys, uint32_t many_rows)
@@ -633,7 +634,7 @@ static void play(uint32_t many_keys, uint32_t many_rows)
     hlc_store store = HLC_CLOSED_STORE;
     plan(many_keys, many_rows);
     prepare();
-    expect(hlc_open(&store, 1) == HLC_OK, "a store");
+    expect(hlc_store_open(&store, 1) == HLC_OK, "a store");
     accept_entries(&store);
     open_snapshots(&store);
     check_sizes(&store);
@@ -645,7 +646,7 @@ static void play(uint32_t many_keys, uint32_t many_rows)
     check_copies(&from);
     free(from.at);
     certify(&store);
-    hlc_close(&store);
+    hlc_store_close(&store);
     free(first);
     free(second);
 }

@@ -58,7 +58,7 @@ def put(name, *args):
     """Makes a call whose last argument is an output. Returns its answer, how many bytes it made, and what numbers it
     wrote."""
     code, *written = library.call(name, *args)
-    length = written.pop(0 if name.startswith("increment") else -1)
+    length = written.pop(0 if name.startswith("increment_") else -1)
     return code, length, written
 
 
@@ -75,12 +75,12 @@ def made(pick, name, *args):
 
 def whole_state(pick, store):
     """Returns the bytes of a checkpoint, with the word 5."""
-    return made(pick, "checkpoint", store, 5)
+    return made(pick, "checkpoint_make", store, 5)
 
 
 def opened(nodes):
     store = Handle()
-    ok("open", store, nodes)
+    ok("store_open", store, nodes)
     return store
 
 
@@ -90,12 +90,12 @@ def sized(part):
 
 
 def listing(pairs):
-    """The bytes of some pairs, as hlc_list writes them."""
+    """The bytes of some pairs, as hlc_snapshot_list writes them."""
     return b"".join(sized(part) for pair in pairs for part in pair)
 
 
 def answer(value):
-    """The bytes of an answer, as hlc_read_all writes them."""
+    """The bytes of an answer, as hlc_snapshot_read_all writes them."""
     return b"\0" if value is None else b"\1" + sized(value)
 
 
@@ -164,10 +164,11 @@ class Model:
 
 def vacuum_part(pick, store, model):
     """Makes the next part of a vacuum, or the first one of another, and compares what it returns with the model."""
-    floor = ok("floor", store)
+    floor = ok("store_floor", store)
     at, after = model.begun or (pick.randint(model.horizon, floor + 1), b"")
     most, room = pick.randint(0, 3), pick.choice((0, 2, 255))
-    answer, word, kept, bytes, dropped, length, end, more = library.call("vacuum_part", store, at, after, most, room)
+    made_part = library.call("store_vacuum_part", store, at, after, most, room)
+    answer, word, kept, bytes, dropped, length, end, more = made_part
     if at > floor or at < model.horizon:
         refusal = (ABOVE_FLOOR, floor) if at > floor else (BELOW_HORIZON, model.horizon)
         assert (answer, word, kept, bytes, dropped, length, more) == (*refusal, 0, 0, 0, 0, False)
@@ -182,37 +183,37 @@ def vacuum_part(pick, store, model):
     if not more and pick.random() < 0.5:
         kept, bytes, dropped = model.vacuum(at, model.keys())
         certify(pick, store, model, at, kept, bytes)
-        assert ok("vacuum_to", store, at) == (at, kept, bytes, 0) and dropped == 0
+        assert ok("store_vacuum_to", store, at) == (at, kept, bytes, 0) and dropped == 0
 
 
 def certify(pick, store, model, at, kept, bytes):
     """Makes the certificate of the rows at or below a stamp, and compares it with the model."""
-    *numbers, text = made(pick, "certificate", store, at)
-    assert numbers == [0, kept, bytes] and ok("check", text) == (kept, bytes, 0)
+    *numbers, text = made(pick, "certificate_make", store, at)
+    assert numbers == [0, kept, bytes] and ok("certificate_check", text) == (kept, bytes, 0)
     assert certified_rows(text) == sorted((row for row in model.rows if row[0] <= at), key=by_key)
 
 
 def refuse_certificates(pick, store, model):
     """Makes no certificate above the floor or below the horizon."""
-    floor, output = ok("floor", store), Handle()
+    floor, output = ok("store_floor", store), Handle()
     above = pick.randint(floor + 1, floor + 9)
-    assert tuple(library.call("certificate", store, above, output)) == (ABOVE_FLOOR, floor, 0, 0, 0)
+    assert tuple(library.call("certificate_make", store, above, output)) == (ABOVE_FLOOR, floor, 0, 0, 0)
     if model.horizon > 0:
         below = pick.randint(0, model.horizon - 1)
-        assert tuple(library.call("certificate", store, below, output)) == (BELOW_HORIZON, model.horizon, 0, 0, 0)
+        assert tuple(library.call("certificate_make", store, below, output)) == (BELOW_HORIZON, model.horizon, 0, 0, 0)
     assert has_no_bytes(output)
 
 
 def vacuum(pick, store, model):
     """Vacuums to the floor, or to a stamp. A certificate is there after it, and before it where it drops nothing."""
-    floor = ok("floor", store)
+    floor = ok("store_floor", store)
     at = floor if pick.random() < 0.3 else pick.randint(model.horizon, floor)
-    name, args = ("vacuum", ()) if at == floor and pick.random() < 0.9 else ("vacuum_to", (at,))
+    name, args = ("store_vacuum", ()) if at == floor and pick.random() < 0.9 else ("store_vacuum_to", (at,))
     refuse_certificates(pick, store, model)
     kept, bytes, dropped = model.vacuum(at, model.keys())
     if dropped > 0:
         output = Handle()
-        assert tuple(library.call("certificate", store, at, output)) == (NOT_FEWEST, 0, 0, 0, 0)
+        assert tuple(library.call("certificate_make", store, at, output)) == (NOT_FEWEST, 0, 0, 0, 0)
         assert has_no_bytes(output)
     else:
         certify(pick, store, model, at, kept, bytes)
@@ -229,17 +230,17 @@ class Older(NamedTuple):
 
 
 def older_of(pick, store, model):
-    return Older(whole_state(pick, store), ok("floor", store), list(model.rows))
+    return Older(whole_state(pick, store), ok("store_floor", store), list(model.rows))
 
 
 def increment_of(pick, store, model, since):
     """Returns an increment with the word 5; or none where the stamp is below the horizon, and that is refused."""
     if since < model.horizon:
         output = Handle()
-        assert tuple(library.call("increment", store, since, 5, output)) == (BELOW_HORIZON, 0, model.horizon)
+        assert tuple(library.call("increment_make", store, since, 5, output)) == (BELOW_HORIZON, 0, model.horizon)
         assert has_no_bytes(output)
         return None
-    zero, increment = made(pick, "increment", store, since, 5)
+    zero, increment = made(pick, "increment_make", store, since, 5)
     assert zero == 0
     return increment
 
@@ -256,17 +257,17 @@ def newer_of(pick, store, model, older):
     assert zero == 0
     if sorted(rows, key=by_key) == sorted(model.rows, key=by_key):
         assert saved == whole_state(pick, store)
-    return Older(saved, ok("floor", store), rows)
+    return Older(saved, ok("store_floor", store), rows)
 
 
 def shared_record(pick, store, nodes, reading):
     """Returns a record that is no item, with its threshold or 0: a node joins at the floor or above, and is one of the
     nodes from then on; or the reading is a threshold."""
     if len(nodes) > 7 or pick.random() < 0.7:
-        return whole("record_threshold", reading), reading
-    start = ok("floor", store) + pick.randint(0, 2)
+        return whole("record_encode_threshold", reading), reading
+    start = ok("store_floor", store) + pick.randint(0, 2)
     nodes += library.call("node_open", len(nodes), start)
-    return whole("record_join", len(nodes) - 1, start), 0
+    return whole("record_encode_join", len(nodes) - 1, start), 0
 
 
 def item_bytes(kind, node, number, stamp, key=b"", value=b""):
@@ -295,18 +296,18 @@ def feed(pick, store, nodes, keys):
         number, stamp = ok("node_" + kind, nodes[node], reading, *parts)
         if parts:
             model.write((stamp, node, key, value))
-        encoded = whole("item_" + kind, node, number, stamp, *parts)
+        encoded = whole("item_encode_" + kind, node, number, stamp, *parts)
         assert encoded == item_bytes(kind, node, number, stamp, *parts)
-        assert ok("items_accept", store, encoded) == (len(encoded), 1, 0)
+        assert ok("store_accept_items", store, encoded) == (len(encoded), 1, 0)
         log.append((encoded, 0))
         if pick.random() < 0.1:
             entry = shared_record(pick, store, nodes, reading)
-            assert ok("records_apply", store, entry[0]) == (len(entry[0]), 1, entry[1], 0)
+            assert ok("store_apply_records", store, entry[0]) == (len(entry[0]), 1, entry[1], 0)
             log.append(entry)
         if pick.random() < 0.1:
             library.call("node_raise", nodes[node], max(other.last for other in nodes))
         if pick.random() < 0.2 and len(snapshots) < 6:
-            id, stamp = ok("open_snapshot_at_floor", store)
+            id, stamp = ok("snapshot_open_at_floor", store)
             snapshots[id] = stamp
         if pick.random() < 0.05:
             vacuum(pick, store, model)
@@ -316,7 +317,7 @@ def feed(pick, store, nodes, keys):
             older = older_of(pick, store, model)
         if pick.random() < 0.1:
             older = newer_of(pick, store, model, older) or older
-    assert whole("item_retire", 263, 3, 131_077) == item_bytes("retire", 263, 3, 131_077)
+    assert whole("item_encode_retire", 263, 3, 131_077) == item_bytes("retire", 263, 3, 131_077)
     return model, log, older
 
 
@@ -327,8 +328,8 @@ def entries_of(name, data):
         first = at
         (length,) = struct.unpack_from("<Q", data, at)
         key, at = data[at + 8 : at + 8 + length], at + 8 + length
-        at += 1 if name == "changes" else 0
-        if name != "changes" or data[at - 1]:
+        at += 1 if name == "snapshot_changes" else 0
+        if name != "snapshot_changes" or data[at - 1]:
             at += 8 + struct.unpack_from("<Q", data, at)[0]
         entries.append(data[first:at])
     return entries, key
@@ -344,7 +345,7 @@ def in_pieces(pick, name, *args):
         assert (len(data), len(entries)) == (length, many)
         found += entries
         if many > 0:
-            start, end = (start, last) if name == "scan_back" else (last + b"\0", end)
+            start, end = (start, last) if name == "snapshot_scan_back" else (last + b"\0", end)
     assert code == OK
     return found
 
@@ -355,27 +356,27 @@ def some_range(pick):
 
 def look(pick, store, id, pairs, keys):
     """Compares what a snapshot returns with its pairs."""
-    assert whole("list", store, id) == listing(pairs)
+    assert whole("snapshot_list", store, id) == listing(pairs)
     for _ in range(6):
         start, end = some_range(pick)
         part = [pair for pair in pairs if pair[0] >= start and (not end or pair[0] < end)]
-        assert ok("count", store, id, start, end) == len(part)
-        assert whole("digest", store, id, start, end) == hashlib.sha256(listing(part)).digest()
+        assert ok("snapshot_count", store, id, start, end) == len(part)
+        assert whole("snapshot_digest", store, id, start, end) == hashlib.sha256(listing(part)).digest()
         room = pick.randint(0, 120)
         both = [listing([pair]) for pair in part]
-        assert library.call("scan", store, id, start, end, room) == expected(both, room)
+        assert library.call("snapshot_scan", store, id, start, end, room) == expected(both, room)
         alone = [len(key).to_bytes(8, "little") + key for key, _ in part]
-        assert library.call("scan_keys", store, id, start, end, room) == expected(alone, room)
-        assert library.call("scan_back", store, id, start, end, room) == expected(both[::-1], room)
-        assert in_pieces(pick, "scan", store, id, start, end) == both
-        assert in_pieces(pick, "scan_back", store, id, start, end) == both[::-1]
+        assert library.call("snapshot_scan_keys", store, id, start, end, room) == expected(alone, room)
+        assert library.call("snapshot_scan_back", store, id, start, end, room) == expected(both[::-1], room)
+        assert in_pieces(pick, "snapshot_scan", store, id, start, end) == both
+        assert in_pieces(pick, "snapshot_scan_back", store, id, start, end) == both[::-1]
         asked = [pick.choice(keys + [b"zz", b""]) for _ in range(pick.randint(0, 6))]
         places, data = b"", b""
         for key in asked:
             places += PLACE.pack(len(data), len(key))
             data += key
         answers = [answer(dict(pairs).get(key)) for key in asked]
-        assert library.call("read_all", store, id, places, data, room) == expected(answers, room)
+        assert library.call("snapshot_read_all", store, id, places, data, room) == expected(answers, room)
 
 
 def look_at_changes(pick, store, answers):
@@ -386,11 +387,11 @@ def look_at_changes(pick, store, answers):
     changed = [key for key in sorted({*old, *new}) if old.get(key) != new.get(key)]
     parts = [sized(key) + answer(new.get(key)) for key in changed if key >= start and (not end or key < end)]
     room = pick.randint(0, 120)
-    assert library.call("changes", store, before, after, start, end, room) == expected(parts, room)
-    assert in_pieces(pick, "changes", store, before, after, start, end) == parts
+    assert library.call("snapshot_changes", store, before, after, start, end, room) == expected(parts, room)
+    assert in_pieces(pick, "snapshot_changes", store, before, after, start, end) == parts
     missing = max(answers) + 1
     for ids in (before, missing), (missing, after):
-        assert library.call("changes", store, *ids, start, end, room) == (NO_SNAPSHOT, 0, b"", 0)
+        assert library.call("snapshot_changes", store, *ids, start, end, room) == (NO_SNAPSHOT, 0, b"", 0)
 
 
 def look_at_versions(pick, store, model, keys):
@@ -402,7 +403,7 @@ def look_at_versions(pick, store, model, keys):
     rows.sort(key=lambda row: row[:2], reverse=True)
     data = b"".join(struct.pack("<QH", stamp, node) + answer(value) for stamp, node, _, value in rows)
     returned = OK, len(data), data if len(data) <= room else None, len(rows)
-    assert library.call("versions", store, key, above, to, room) == returned
+    assert library.call("store_versions", store, key, above, to, room) == returned
     if above >= model.horizon:
         accepted = [row for row in model.writes if row[2] == key and above < row[0] <= to]
         assert sorted(rows, key=by_key) == sorted(accepted, key=by_key)
@@ -412,7 +413,7 @@ def open_snapshots(store):
     """The ids and the stamps of the open snapshots."""
     found = []
     while True:
-        code, id, stamp = library.call("snapshot", store, len(found))
+        code, id, stamp = library.call("snapshot_at_place", store, len(found))
         if code == NO_SNAPSHOT:
             return found
         found.append((id, stamp))
@@ -420,12 +421,12 @@ def open_snapshots(store):
 
 def compare(pick, store, model, keys, nodes):
     """Compares all that the store returns with the model."""
-    heads = [ok("link", store, node)[1] for node in range(nodes)]
-    assert ok("nodes", store) == nodes and ok("floor", store) == min(heads)
-    assert ok("floor_node", store) == heads.index(min(heads))
+    heads = [ok("store_link", store, node)[1] for node in range(nodes)]
+    assert ok("store_nodes", store) == nodes and ok("store_floor", store) == min(heads)
+    assert ok("store_floor_node", store) == heads.index(min(heads))
     assert open_snapshots(store) == sorted(model.snapshots.items())
-    assert ok("horizon", store) == model.horizon
-    assert ok("sizes", store) == sizes(model.rows)
+    assert ok("store_horizon", store) == model.horizon
+    assert ok("store_size", store) == sizes(model.rows)
     answers = {}
     for id, stamp in model.snapshots.items():
         newest = {key: value for at, _, key, value in sorted(model.writes, key=lambda row: row[:2]) if at <= stamp}
@@ -494,25 +495,25 @@ def change_while_saved(pick, saved):
     ok("saving_start", saving, store, 5)
     room = pick.randrange(len(saved))
     assert library.call("saving_read", saving, store, room) == (MORE, room, saved[:room])
-    id, _ = ok("open_snapshot_at_floor", store)
+    id, _ = ok("snapshot_open_at_floor", store)
     assert library.call("saving_read", saving, store, 9) == (CHANGED, 0, b"")
-    ok("close_snapshot", store, id)
+    ok("snapshot_close", store, id)
     assert library.call("saving_read", saving, store, 9) == (CHANGED, 0, b"")
     library.call("saving_drop", saving)
     assert library.call("saving_read", saving, store, 9) == (CLOSED, 0, b"")
-    library.call("close", store)
+    library.call("store_close", store)
 
 
 def restore_in_pieces(pick, store, saved):
     """Restores a store from pieces by lot, and returns the answer and the word."""
     restoring = Handle()
-    ok("restore_start", restoring)
+    ok("restoring_start", restoring)
     while saved:
         size = pick.randint(0, 200)
-        ok("restore_feed", restoring, saved[:size])
+        ok("restoring_feed", restoring, saved[:size])
         saved = saved[size:]
-    returned = library.call("restore_finish", restoring, store)
-    library.call("restore_drop", restoring)
+    returned = library.call("restoring_finish", restoring, store)
+    library.call("restoring_drop", restoring)
     return returned
 
 
@@ -520,7 +521,7 @@ def apply_all(store, log):
     """Applies records, of which none is refused."""
     data = b"".join(entry for entry, _ in log)
     greatest = max((threshold for _, threshold in log), default=0)
-    assert ok("records_apply", store, data) == (len(data), len(log), greatest, 0)
+    assert ok("store_apply_records", store, data) == (len(data), len(log), greatest, 0)
 
 
 def read_again(pick, store, log, nodes, saved):
@@ -534,40 +535,41 @@ def read_again(pick, store, log, nodes, saved):
     apply_all(copy, log[middle:])
     apply_all(early, log[pick.randint(0, middle) :])
     assert whole_state(pick, early) == whole_state(pick, copy)
-    for node in range(ok("nodes", store)):
-        assert ok("link", copy, node) == ok("link", store, node)
-    ids = [ok("open_snapshot_at_floor", each) for each in (store, copy)]
-    assert whole("list", store, ids[0][0]) == whole("list", copy, ids[1][0]) and ids[0][1] == ids[1][1]
-    ok("close_snapshot", store, ids[0][0])
-    next = ok("nodes", store)
-    gap = whole("record_join", next + 1, ids[0][1])
-    assert tuple(library.call("records_apply", store, gap)) == (NOT_NEXT, 0, 0, 0, next)
+    for node in range(ok("store_nodes", store)):
+        assert ok("store_link", copy, node) == ok("store_link", store, node)
+    ids = [ok("snapshot_open_at_floor", each) for each in (store, copy)]
+    assert whole("snapshot_list", store, ids[0][0]) == whole("snapshot_list", copy, ids[1][0])
+    assert ids[0][1] == ids[1][1]
+    ok("snapshot_close", store, ids[0][0])
+    next = ok("store_nodes", store)
+    gap = whole("record_encode_join", next + 1, ids[0][1])
+    assert tuple(library.call("store_apply_records", store, gap)) == (NOT_NEXT, 0, 0, 0, next)
     for each in copy, early:
-        library.call("close", each)
+        library.call("store_close", each)
 
 
 def refuse(pick, saved, log, nodes):
     """Checks that changed and cut bytes are refused, by a restore in pieces too."""
     changed = bytearray(saved)
     changed[pick.randrange(len(changed))] ^= 1 << pick.randrange(8)
-    refused = library.call("restore", Handle(), bytes(changed))
+    refused = library.call("store_restore", Handle(), bytes(changed))
     assert refused[0] == BAD_BYTES and restore_in_pieces(pick, Handle(), bytes(changed)) == refused
     cut = saved[: pick.randrange(len(saved))]
-    assert restore_in_pieces(pick, Handle(), cut) == library.call("restore", Handle(), cut)
+    assert restore_in_pieces(pick, Handle(), cut) == library.call("store_restore", Handle(), cut)
     for end in range(0, len(log), len(log) // 20 + 1):
         other = opened(nodes)
-        code, used, _, _, word = library.call("records_apply", other, log[:end])
+        code, used, _, _, word = library.call("store_apply_records", other, log[:end])
         assert (code, used, word) == (OK, end, 0) or (code, word) == (BAD_BYTES, 1)
-        library.call("close", other)
+        library.call("store_close", other)
 
 
 def refuse_full(pick, store):
     """Makes each call with an output that has bytes: nothing takes place, and it keeps them. A closed store is refused
     before it, and a stamp above the floor or below the horizon after it."""
     output, saved = Handle(), whole_state(pick, store)
-    length = ok("checkpoint", store, 5, output)
-    stamp = pick.randint(0, 2 * ok("floor", store) + 1)
-    for name, *args in ("certificate", stamp), ("checkpoint", 6), ("increment", stamp, 6):
+    length = ok("checkpoint_make", store, 5, output)
+    stamp = pick.randint(0, 2 * ok("store_floor", store) + 1)
+    for name, *args in ("certificate_make", stamp), ("checkpoint_make", 6), ("increment_make", stamp, 6):
         for each, refusal in (store, HAS_BYTES), (Handle(), CLOSED):
             code, *written = library.call(name, each, *args, output)
             assert code == refusal and not any(written)
@@ -597,7 +599,7 @@ def refuse_increments(pick, store, model, older, many):
 
     changed = bytearray(saved)
     changed[pick.randrange(len(changed))] ^= 1 << pick.randrange(8)
-    assert refusal(bytes(changed), b"") == (BAD_BYTES, library.call("restore", Handle(), bytes(changed))[1])
+    assert refusal(bytes(changed), b"") == (BAD_BYTES, library.call("store_restore", Handle(), bytes(changed))[1])
     assert refusal(saved, increment[: pick.randrange(len(increment))]) == (NO_INCREMENT, 1)
     assert refusal(saved, saved) == (NO_INCREMENT, 3)
     inner = increment[21:-32]
@@ -612,7 +614,7 @@ def refuse_increments(pick, store, model, older, many):
         assert refusal(saved, framed(b"\1" + framed(early[41:-64], since), 5)) == (NO_INCREMENT, 0)
     other = opened(many + 1)
     assert refusal(saved, increment_of(pick, other, Model(), 0)) == (NOT_LATER, 0)
-    library.call("close", other)
+    library.call("store_close", other)
     if len(increment) < 500 and pick.random() < 0.1:
         for bit in range(8 * len(increment)):
             changed = bytearray(increment)
@@ -632,14 +634,14 @@ def look_at_newer(pick, store, model, older, keys, nodes):
     assert whole_state(pick, copy) == newer.saved
     compare(pick, copy, seen, keys, nodes)
     at = model.horizon
-    assert ok("vacuum_to", copy, at) == (at, *seen.vacuum(at, seen.keys()))
-    assert ok("sizes", copy) == sizes(seen.rows)
-    library.call("close", copy)
+    assert ok("store_vacuum_to", copy, at) == (at, *seen.vacuum(at, seen.keys()))
+    assert ok("store_size", copy) == sizes(seen.rows)
+    library.call("store_close", copy)
 
 
 def restored(saved):
     store = Handle()
-    ok("restore", store, saved)
+    ok("store_restore", store, saved)
     return store
 
 
@@ -681,7 +683,7 @@ def refuse_memory(pick, saved, name, *args):
     store = restored(saved)
     for _ in refused_in_turn(pick, name, store, *args):
         assert whole_state(pick, store) == saved
-    library.call("close", store)
+    library.call("store_close", store)
 
 
 def play(pick):
@@ -691,40 +693,41 @@ def play(pick):
     nodes = [library.call("node_open", node, 0)[0] for node in range(many)]
     model, log, older = feed(pick, store, nodes, keys)
     saved = whole_state(pick, store)
-    assert ok("restore", copy, saved) == 5 and whole_state(pick, copy) == saved
-    library.call("close", copy)
+    assert ok("store_restore", copy, saved) == 5 and whole_state(pick, copy) == saved
+    library.call("store_close", copy)
     assert tuple(restore_in_pieces(pick, copy, saved)) == (OK, 5) and whole_state(pick, copy) == saved
     assert save_in_pieces(pick, store, 5) == saved == save_in_pieces(pick, copy, 5)
     change_while_saved(pick, saved)
     for each in store, copy:
         compare(pick, each, model, keys, len(nodes))
-    assert ok("rows", store) == ok("sizes", store)[0]
+    assert ok("store_rows", store) == ok("store_size", store)[0]
     refuse(pick, saved, b"".join(entry for entry, _ in log), many)
     refuse_full(pick, store)
     look_at_newer(pick, store, model, older, keys, len(nodes))
     refuse_increments(pick, store, model, older, many)
-    at, kept, total, _ = ok("vacuum", store)
-    *numbers, text = made(pick, "certificate", store, at)
-    assert at == ok("floor", store) and numbers == [0, kept, total] and ok("check", text) == (kept, total, 0)
+    at, kept, total, _ = ok("store_vacuum", store)
+    *numbers, text = made(pick, "certificate_make", store, at)
+    assert at == ok("store_floor", store) and numbers == [0, kept, total]
+    assert ok("certificate_check", text) == (kept, total, 0)
     above = [row for row in model.writes if row[0] > at]
-    assert ok("sizes", store) == sizes(certified_rows(text) + above)
-    assert ok("horizon", store) == ok("floor", store)
+    assert ok("store_size", store) == sizes(certified_rows(text) + above)
+    assert ok("store_horizon", store) == ok("store_floor", store)
     if pick.random() < 0.1:
         vacuumed = whole_state(pick, store)
-        refuse_memory(pick, vacuumed, "checkpoint", 5)
-        refuse_memory(pick, vacuumed, "certificate", at)
-        refuse_memory(pick, vacuumed, "increment", at, 5)
-        for _ in refused_in_turn(pick, "increment_apply", vacuumed, made(pick, "increment", store, at, 5)[1]):
+        refuse_memory(pick, vacuumed, "checkpoint_make", 5)
+        refuse_memory(pick, vacuumed, "certificate_make", at)
+        refuse_memory(pick, vacuumed, "increment_make", at, 5)
+        for _ in refused_in_turn(pick, "increment_apply", vacuumed, made(pick, "increment_make", store, at, 5)[1]):
             pass
     model.begun = (at, b"")
     while model.begun:
         vacuum_part(pick, copy, model)
-    assert ok("sizes", copy) == ok("sizes", store)
-    ok("close_all", store)
+    assert ok("store_size", copy) == ok("store_size", store)
+    ok("snapshot_close_all", store)
     assert open_snapshots(store) == []
     read_again(pick, store, log, many, whole_state(pick, store))
-    library.call("close", store)
-    library.call("close", copy)
+    library.call("store_close", store)
+    library.call("store_close", copy)
 
 
 library = Library(sys.argv[1])

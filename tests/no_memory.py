@@ -20,8 +20,8 @@ KEY, VALUE = b"key %06d, which is longer than 30 bytes", b"value %d of key %06d,
 ABSENT = b"no key of a store, and longer than 30 bytes"
 PLENTY = 3_000_000
 # Refusals that these calls find in what they take memory for.
-LATE = {"certificate": {109}, "check": {16}, "restore": {107}, "restore_finish": {107}}
-LATE |= {"increment_apply": {8, 107, 110, 111}, "split": {107}, "merge": {107, 113}}
+LATE = {"certificate_make": {109}, "certificate_check": {16}, "store_restore": {107}, "restoring_finish": {107}}
+LATE |= {"increment_apply": {8, 107, 110, 111}, "checkpoint_split": {107}, "checkpoint_merge": {107, 113}}
 
 
 # ---- The table of the header ----
@@ -60,12 +60,14 @@ def table():
         parts = refusals.split("; ")
         for place, name in enumerate(names):
             texts[name], memory[name] = parts[min(place, len(parts) - 1)], takes_memory
-    on_stores = set(re.findall(r"hlc_(\w+)\(hlc_store \*store", HEADER.read_text())) - {"open", "restore", "close"}
+    on_stores = set(re.findall(r"hlc_(\w+)\(hlc_store \*store", HEADER.read_text()))
+    on_stores -= {"store_open", "store_restore", "store_close"}
 
     def refusals_of(name):
         found = {int(number) for number in re.findall(r"\d+", re.split(r"\b15\b", texts[name])[0])}
-        if "those of hlc_accept" in texts[name]:
-            found |= refusals_of("accept_write" if name == "accept_all" else name.replace("check", "accept"))
+        if "those of hlc_store_accept" in texts[name]:
+            same = "store_accept_write" if name == "store_accept_all" else name.replace("check", "accept")
+            found |= refusals_of(same)
         # A deletion has no value that could be too long.
         found -= {13} if name.endswith("_delete") else LATE.get(name, set())
         return found | ({CLOSED} if name in on_stores else set())
@@ -127,8 +129,8 @@ def filled_store(calls):
     """Returns a store, and how many items node 0 wrote, at the stamps from 1 on: two values of each key, and then a
     deletion of every seventh. Node 1 has retired. Snapshots are open after each of these turns, and in the first."""
     store, number = Handle(), 0
-    calls.ok("open", store, 2)
-    calls.ok("accept_retire", store, 1, 0, 3 * KEYS)
+    calls.ok("store_open", store, 2)
+    calls.ok("store_accept_retire", store, 1, 0, 3 * KEYS)
     for turn, step in (0, 1), (1, 1), (2, 7):
         entries, texts = [], bytearray()
         for i in range(0, KEYS, step):
@@ -136,9 +138,9 @@ def filled_store(calls):
             entries.append(entry(number, number + 1, key, value, deletes=turn == 2, at=len(texts)))
             texts += key + value
             number += 1
-        assert calls.ok("accept_all", store, b"".join(entries), bytes(texts)) == [len(entries), 0]
-        calls.ok("open_snapshot_at_floor", store)
-    calls.ok("open_snapshot", store, KEYS // 2)
+        assert calls.ok("store_accept_all", store, b"".join(entries), bytes(texts)) == [len(entries), 0]
+        calls.ok("snapshot_open_at_floor", store)
+    calls.ok("snapshot_open", store, KEYS // 2)
     return store, number
 
 
@@ -153,20 +155,20 @@ def checkpoint_of(nodes, next, opened):
 def spent_store(calls):
     """A store in which no number of node 0 is left, and no id of a snapshot."""
     store = Handle()
-    calls.ok("restore", store, checkpoint_of(1, TOP, TOP - 1))
+    calls.ok("store_restore", store, checkpoint_of(1, TOP, TOP - 1))
     return store
 
 
 def full_output(calls, store):
     output = Handle()
-    calls.ok("checkpoint", store, 5, output)
+    calls.ok("checkpoint_make", store, 5, output)
     return output
 
 
 def restoring_of(calls, saved):
     restoring = Handle()
-    calls.ok("restore_start", restoring)
-    calls.ok("restore_feed", restoring, saved)
+    calls.ok("restoring_start", restoring)
+    calls.ok("restoring_feed", restoring, saved)
     return restoring
 
 
@@ -179,43 +181,44 @@ def count_reads(calls, store):
     places = b"".join(PLACE.pack(i * len(KEY % 0), len(KEY % 0)) for i in range(3000))
     for id in 1, 2, 3, 4:
         for room in 0, 100, PLENTY:
-            calls.count(OK, "list", store, id, room)
+            calls.count(OK, "snapshot_list", store, id, room)
             for start, end in (b"", b""), (KEY % 5, KEY % 9000), (ABSENT, b""):
-                calls.count(OK if room == PLENTY else None, "scan", store, id, start, end, room)
-                calls.count(OK if room == PLENTY else None, "scan_keys", store, id, start, end, room)
-                calls.count(OK if room == PLENTY else None, "scan_back", store, id, start, end, room)
-                calls.count(OK if room == PLENTY else None, "changes", store, id, 2, start, end, room)
-                calls.count(OK, "digest", store, id, start, end, room)
-                calls.count(OK, "count", store, id, start, end)
-            calls.count(OK, "read", store, id, KEY % 1, room)
-            calls.count(102, "read", store, id, ABSENT, room)
-            calls.count(OK if room == PLENTY else MORE, "read_all", store, id, places, texts, room)
-        calls.count(103, "read_all", store, id, PLACE.pack(len(texts), 1), texts, PLENTY)
-        calls.count(OK, "snapshot", store, id - 1)
+                calls.count(OK if room == PLENTY else None, "snapshot_scan", store, id, start, end, room)
+                calls.count(OK if room == PLENTY else None, "snapshot_scan_keys", store, id, start, end, room)
+                calls.count(OK if room == PLENTY else None, "snapshot_scan_back", store, id, start, end, room)
+                calls.count(OK if room == PLENTY else None, "snapshot_changes", store, id, 2, start, end, room)
+                calls.count(OK, "snapshot_digest", store, id, start, end, room)
+                calls.count(OK, "snapshot_count", store, id, start, end)
+            calls.count(OK, "snapshot_read", store, id, KEY % 1, room)
+            calls.count(102, "snapshot_read", store, id, ABSENT, room)
+            calls.count(OK if room == PLENTY else MORE, "snapshot_read_all", store, id, places, texts, room)
+        calls.count(103, "snapshot_read_all", store, id, PLACE.pack(len(texts), 1), texts, PLENTY)
+        calls.count(OK, "snapshot_at_place", store, id - 1)
     whole = b"", b"", PLENTY
-    words = {"list": whole[2:], "count": whole[:2], "digest": whole, "scan": whole, "scan_keys": whole}
-    words |= {"scan_back": whole, "changes": (1, *whole)}
-    words |= {"read": (KEY % 1, PLENTY), "read_all": (places, texts, PLENTY), "snapshot": ()}
+    words = {"snapshot_list": whole[2:], "snapshot_count": whole[:2], "snapshot_digest": whole}
+    words |= {"snapshot_scan": whole, "snapshot_scan_keys": whole, "snapshot_scan_back": whole}
+    words |= {"snapshot_changes": (1, *whole)}
+    words |= {"snapshot_read": (KEY % 1, PLENTY), "snapshot_read_all": (places, texts, PLENTY), "snapshot_at_place": ()}
     for name, args in words.items():
         calls.count(10, name, store, 9, *args)
         calls.count(CLOSED, name, Handle(), 1, *args)
-    calls.count(10, "changes", store, 1, 9, *whole)
+    calls.count(10, "snapshot_changes", store, 1, 9, *whole)
 
 
 def count_questions(calls, store, floor, retired):
     """Counts the calls that ask what a store has. In another one all nodes have retired."""
     for each, answer in (store, OK), (Handle(), CLOSED):
-        for name in "floor", "rows", "sizes", "horizon", "nodes", "floor_node":
+        for name in "store_floor", "store_rows", "store_size", "store_horizon", "store_nodes", "store_floor_node":
             calls.count(answer, name, each)
-        calls.count(answer, "link", each, 1)
+        calls.count(answer, "store_link", each, 1)
         for key in KEY % 1, ABSENT:
             for room in 0, PLENTY:
-                calls.count(answer, "versions", each, key, 0, TOP, room)
-        calls.count(answer, "check_vacuum", each, floor)
-    calls.count(1, "floor_node", retired)
-    calls.count(1, "link", store, 2)
-    calls.count(8, "check_vacuum", store, floor + 1)
-    calls.count(9, "check_vacuum", store, floor - 1)
+                calls.count(answer, "store_versions", each, key, 0, TOP, room)
+        calls.count(answer, "store_check_vacuum", each, floor)
+    calls.count(1, "store_floor_node", retired)
+    calls.count(1, "store_link", store, 2)
+    calls.count(8, "store_check_vacuum", store, floor + 1)
+    calls.count(9, "store_check_vacuum", store, floor - 1)
 
 
 def item_refusals(kind, store, next, spent):
@@ -243,15 +246,15 @@ def count_items(calls, store, next, spent):
     """Counts the checks of items, and each refusal of one."""
     for kind, parts in ("write", (KEY % 1, VALUE % (1, 1))), ("delete", (KEY % 1,)), ("report", ()), ("retire", ()):
         for answer, (each, item) in item_refusals(kind, store, next, spent).items():
-            calls.count(answer, "accept_" + kind, each, *item)
+            calls.count(answer, "store_accept_" + kind, each, *item)
             if kind != "retire":
-                calls.count(answer, "check_" + kind, each, *item)
+                calls.count(answer, "store_check_" + kind, each, *item)
         if kind != "retire":
-            calls.count(OK, "check_" + kind, store, 0, next, next + 1, *parts)
+            calls.count(OK, "store_check_" + kind, store, 0, next, next + 1, *parts)
     for answer, (each, (*numbers, key, value)) in item_refusals("write", store, next, spent).items():
         packed = entry(numbers[1], numbers[2], key, value, node=numbers[0])
-        calls.count(answer, "accept_all", each, packed, key + value)
-    calls.count(103, "accept_all", store, entry(next, next + 1, KEY % 1, b"12"), KEY % 1 + b"1")
+        calls.count(answer, "store_accept_all", each, packed, key + value)
+    calls.count(103, "store_accept_all", store, entry(next, next + 1, KEY % 1, b"12"), KEY % 1 + b"1")
 
 
 def count_outputs(calls, store):
@@ -269,14 +272,14 @@ def count_ends(calls, store):
     output = full_output(calls, store)
     restoring = restoring_of(calls, calls.ok("output_read", output, 0, PLENTY)[1])
     calls.library.call("output_drop", output)
-    calls.count(OK, "close_snapshot", store, 2)
-    calls.count(10, "close_snapshot", store, 2)
-    calls.count(CLOSED, "close_snapshot", Handle(), 2)
-    calls.count(OK, "close_all", store)
-    calls.count(CLOSED, "close_all", Handle())
+    calls.count(OK, "snapshot_close", store, 2)
+    calls.count(10, "snapshot_close", store, 2)
+    calls.count(CLOSED, "snapshot_close", Handle(), 2)
+    calls.count(OK, "snapshot_close_all", store)
+    calls.count(CLOSED, "snapshot_close_all", Handle())
     for _ in range(2):
-        calls.count(None, "restore_drop", restoring)
-        calls.count(None, "close", store)
+        calls.count(None, "restoring_drop", restoring)
+        calls.count(None, "store_close", store)
 
 
 def count_nodes(calls):
@@ -310,50 +313,50 @@ def count_nodes(calls):
 def count_opening(calls, store, floor, spent):
     """Counts the refusals of calls that open a store or a snapshot, or let a node join."""
     nodes, snapshots = Handle(), Handle()
-    calls.ok("open", nodes, 64)
+    calls.ok("store_open", nodes, 64)
     for _ in range(1024 - 64):
-        calls.ok("join", nodes)
-    calls.ok("open", snapshots, 1)
+        calls.ok("store_join", nodes)
+    calls.ok("store_open", snapshots, 1)
     for _ in range(1024):
-        calls.ok("open_snapshot_at_floor", snapshots)
-    calls.count(1, "open", Handle(), 65)
-    calls.count(101, "open", store, 1)
+        calls.ok("snapshot_open_at_floor", snapshots)
+    calls.count(1, "store_open", Handle(), 65)
+    calls.count(101, "store_open", store, 1)
     for answer, each in (26, nodes), (CLOSED, Handle()):
-        calls.count(answer, "join", each)
-        calls.count(answer, "join_at", each, TOP)
-    calls.count(9, "join_at", store, floor - 1)
+        calls.count(answer, "store_join", each)
+        calls.count(answer, "store_join_at", each, TOP)
+    calls.count(9, "store_join_at", store, floor - 1)
     for answer, each, join in (26, nodes, (1024, TOP)), (9, store, (2, floor - 1)), (6, store, (3, TOP)):
-        calls.count(answer, "records_apply", each, calls.ok("record_join", *join, PLENTY)[1])
+        calls.count(answer, "store_apply_records", each, calls.ok("record_encode_join", *join, PLENTY)[1])
     for answer, each in (11, snapshots), (14, spent), (CLOSED, Handle()):
-        calls.count(answer, "open_snapshot", each, 0)
-        calls.count(answer, "open_snapshot_at_floor", each)
-    calls.count(8, "open_snapshot", store, floor + 1)
-    calls.count(9, "open_snapshot", store, floor - 1)
+        calls.count(answer, "snapshot_open", each, 0)
+        calls.count(answer, "snapshot_open_at_floor", each)
+    calls.count(8, "snapshot_open", store, floor + 1)
+    calls.count(9, "snapshot_open", store, floor - 1)
     for each in nodes, snapshots:
-        calls.library.call("close", each)
+        calls.library.call("store_close", each)
 
 
 def count_outputs_refused(calls, store, floor):
     """Counts the refusals of vacuums, checkpoints, increments and certificates."""
     full = full_output(calls, store)
-    calls.count(CLOSED, "vacuum", Handle())
+    calls.count(CLOSED, "store_vacuum", Handle())
     for answer, each, stamp in (8, store, floor + 1), (9, store, floor - 1), (CLOSED, Handle(), floor):
-        calls.count(answer, "vacuum_to", each, stamp)
-        calls.count(answer, "certificate", each, stamp, Handle())
-        calls.count(answer, "vacuum_part", each, stamp, KEY % 1, TOP, 255)
+        calls.count(answer, "store_vacuum_to", each, stamp)
+        calls.count(answer, "certificate_make", each, stamp, Handle())
+        calls.count(answer, "store_vacuum_part", each, stamp, KEY % 1, TOP, 255)
     for answer, each, output in (108, store, full), (CLOSED, Handle(), Handle()):
-        calls.count(answer, "certificate", each, floor, output)
-        calls.count(answer, "checkpoint", each, 5, output)
-        calls.count(answer, "increment", each, floor - 1, 5, output)
-    calls.count(9, "increment", store, floor - 1, 5, Handle())
+        calls.count(answer, "certificate_make", each, floor, output)
+        calls.count(answer, "checkpoint_make", each, 5, output)
+        calls.count(answer, "increment_make", each, floor - 1, 5, output)
+    calls.count(9, "increment_make", store, floor - 1, 5, Handle())
     calls.count(108, "increment_apply", bytes(60), bytes(60), full)
     calls.count(106, "increment_apply", bytes(60), bytes(60), Handle())
-    calls.count(108, "split", bytes(60), KEY % 1, Handle(), full)
-    calls.count(106, "split", bytes(60), KEY % 1, Handle(), Handle())
-    calls.count(108, "merge", bytes(60), bytes(60), full)
-    calls.count(106, "merge", bytes(60), bytes(60), Handle())
+    calls.count(108, "checkpoint_split", bytes(60), KEY % 1, Handle(), full)
+    calls.count(106, "checkpoint_split", bytes(60), KEY % 1, Handle(), Handle())
+    calls.count(108, "checkpoint_merge", bytes(60), bytes(60), full)
+    calls.count(106, "checkpoint_merge", bytes(60), bytes(60), Handle())
     calls.library.call("output_drop", full)
-    assert calls.starved("check", b"point 1.0\npoint")[0] == 16
+    assert calls.starved("certificate_check", b"point 1.0\npoint")[0] == 16
 
 
 def count_logs(calls, store, next, spent):
@@ -361,36 +364,36 @@ def count_logs(calls, store, next, spent):
     kinds = {"write": (KEY % 1, VALUE % (1, 1)), "delete": (KEY % 1,), "report": (), "retire": ()}
     for kind, parts in kinds.items():
         for room in 0, 100, PLENTY:
-            calls.count(OK, "item_" + kind, 0, next, next + 1, *parts, room)
+            calls.count(OK, "item_encode_" + kind, 0, next, next + 1, *parts, room)
     for room in 0, PLENTY:
-        calls.count(OK, "record_join", 2, next, room)
-        calls.count(OK, "record_threshold", next, room)
-    calls.count(12, "item_write", 0, 0, 1, bytes(256), b"", PLENTY)
-    calls.count(12, "item_delete", 0, 0, 1, bytes(256), PLENTY)
-    calls.count(13, "item_write", 0, 0, 1, KEY % 1, bytes(65536), PLENTY)
-    for name in "items_accept", "records_apply":
+        calls.count(OK, "record_encode_join", 2, next, room)
+        calls.count(OK, "record_encode_threshold", next, room)
+    calls.count(12, "item_encode_write", 0, 0, 1, bytes(256), b"", PLENTY)
+    calls.count(12, "item_encode_delete", 0, 0, 1, bytes(256), PLENTY)
+    calls.count(13, "item_encode_write", 0, 0, 1, KEY % 1, bytes(65536), PLENTY)
+    for name in "store_accept_items", "store_apply_records":
         for kind in kinds:
             for answer, (each, item) in item_refusals(kind, store, next, spent).items():
                 if answer not in (12, 13):
-                    calls.count(answer, name, each, calls.ok("item_" + kind, *item, PLENTY)[1])
-        write = calls.ok("item_write", 0, next, next + 1, *kinds["write"], PLENTY)[1]
-        old = calls.ok("item_write", 0, 0, 1, *kinds["write"], PLENTY)[1]
+                    calls.count(answer, name, each, calls.ok("item_encode_" + kind, *item, PLENTY)[1])
+        write = calls.ok("item_encode_write", 0, next, next + 1, *kinds["write"], PLENTY)[1]
+        old = calls.ok("item_encode_write", 0, 0, 1, *kinds["write"], PLENTY)[1]
         calls.count(106, name, store, write[:-1])
         assert calls.starved(name, store, old + old) == (OK, False)
-    calls.count(106, "records_apply", store, b"\4")
+    calls.count(106, "store_apply_records", store, b"\4")
 
 
 def count_restores(calls, store):
     """Counts the refusals of restores."""
     damaged, no_nodes = bytes(60), checkpoint_of(0, 0, 0)
-    calls.count(101, "restore", store, no_nodes)
-    calls.count(106, "restore", Handle(), damaged)
-    calls.count(100, "restore_feed", Handle(), KEY)
-    calls.count(100, "restore_finish", Handle(), Handle())
+    calls.count(101, "store_restore", store, no_nodes)
+    calls.count(106, "store_restore", Handle(), damaged)
+    calls.count(100, "restoring_feed", Handle(), KEY)
+    calls.count(100, "restoring_finish", Handle(), Handle())
     restoring = restoring_of(calls, damaged)
-    calls.count(101, "restore_start", restoring)
-    calls.count(101, "restore_finish", restoring, store)
-    calls.count(106, "restore_finish", restoring, Handle())
+    calls.count(101, "restoring_start", restoring)
+    calls.count(101, "restoring_finish", restoring, store)
+    calls.count(106, "restoring_finish", restoring, Handle())
 
 
 def count_savings(calls, store, other):
@@ -412,11 +415,11 @@ def check(library):
     spent = spent_store(calls)
     store, next = filled_store(calls)
     retired = Handle()
-    calls.ok("open", retired, 1)
-    calls.ok("accept_retire", retired, 0, 0, 1)
+    calls.ok("store_open", retired, 1)
+    calls.ok("store_accept_retire", retired, 0, 0, 1)
     count_nodes(calls)
     count_reads(calls, store)
-    calls.ok("vacuum_to", store, next)
+    calls.ok("store_vacuum_to", store, next)
     count_reads(calls, store)
     count_questions(calls, store, next, retired)
     count_items(calls, store, next, spent)
@@ -426,9 +429,9 @@ def check(library):
     count_restores(calls, store)
     count_savings(calls, store, retired)
     count_outputs(calls, store)
-    calls.count(OK, "accept_report", store, 0, next, next + 1)
-    calls.count(OK, "accept_retire", store, 0, next + 1, next + 2)
+    calls.count(OK, "store_accept_report", store, 0, next, next + 1)
+    calls.count(OK, "store_accept_retire", store, 0, next + 1, next + 2)
     count_ends(calls, store)
     calls.check_all()
     for each in spent, retired:
-        library.call("close", each)
+        library.call("store_close", each)

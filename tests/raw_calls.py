@@ -16,7 +16,7 @@ import struct
 HEADER = pathlib.Path(__file__).resolve().parent.parent / "include" / "hlcstore.h"
 NUMBERS = {"uint16_t": c.c_uint16, "uint32_t": c.c_uint32, "uint64_t": c.c_uint64, "size_t": c.c_size_t}
 NUMBERS |= {"bool": c.c_bool, "hlc_answer": c.c_uint32}
-# An entry of hlc_accept_all and a place of hlc_read_all, packed in the layout of C.
+# An entry of hlc_store_accept_all and a place of hlc_snapshot_read_all, packed in the layout of C.
 ENTRY = struct.Struct("@H?QQNNNN")
 PLACE = struct.Struct("@NN")
 SIZES = {"uint8_t": 1, "hlc_entry": ENTRY.size, "hlc_place": PLACE.size}

@@ -64,8 +64,8 @@ static void write_all(hlc_store *store, uint64_t *number)
         uint64_t word;
         snprintf(key, sizeof key, "k%07u", order[i]);
         snprintf(value, sizeof value, "v%07u", i);
-        check(hlc_accept_write(store, 0, *number, (*number + 1) << 16, (const uint8_t *)key, LEN,
-                               (const uint8_t *)value, LEN, &word));
+        check(hlc_store_accept_write(store, 0, *number, (*number + 1) << 16, (const uint8_t *)key, LEN,
+                                     (const uint8_t *)value, LEN, &word));
         (*number)++;
     }
 }
@@ -75,17 +75,17 @@ static void measure(unsigned rounds, double most)
     double before = in_blocks();
     hlc_store store = HLC_CLOSED_STORE;
     uint64_t number = 0, id, floor, kept, bytes, dropped;
-    check(hlc_open(&store, 1));
+    check(hlc_store_open(&store, 1));
     for (unsigned round = 0; round < rounds; round++) write_all(&store, &number);
     expect("written", rounds, (in_blocks() - before) / KEYS, most);
-    check(hlc_open_snapshot(&store, number << 16, &id));
-    check(hlc_vacuum(&store, &floor, &kept, &bytes, &dropped));
+    check(hlc_snapshot_open(&store, number << 16, &id));
+    check(hlc_store_vacuum(&store, &floor, &kept, &bytes, &dropped));
     if (kept != KEYS || dropped != (uint64_t)(rounds - 1) * KEYS) {
         puts("the vacuum leaves other rows");
         wrong++;
     }
     expect("after a vacuum", rounds, (in_blocks() - before) / KEYS, MOST_OF_ONE);
-    hlc_close(&store);
+    hlc_store_close(&store);
     expect("closed", rounds, (in_blocks() - before) / KEYS, 1);
 }
 
@@ -149,28 +149,28 @@ static void measure_checkpoint(void)
     uint64_t number = 0, word;
     size_t len, from = 0, got;
     double empty = in_blocks();
-    check(hlc_open(&store, 1));
+    check(hlc_store_open(&store, 1));
     for (unsigned round = 0; round < 4; round++) write_all(&store, &number);
     measure_saving(&store, in_blocks() - empty);
     double before = begin_peak();
-    check(hlc_checkpoint(&store, 7, &output, &len));
+    check(hlc_checkpoint_make(&store, 7, &output, &len));
     expect_peak("a checkpoint", before, MOST_OF_PEAK * (double)len);
     double blocks = in_blocks();
     before = begin_peak();
-    check(hlc_restore_start(&restoring));
+    check(hlc_restoring_start(&restoring));
     for (uint32_t code = HLC_MORE; code == HLC_MORE; from += got) {
         code = hlc_output_read(&output, from, piece, sizeof piece, &got);
-        check(hlc_restore_feed(&restoring, piece, got));
+        check(hlc_restoring_feed(&restoring, piece, got));
     }
-    check(hlc_restore_finish(&restoring, &copy, &word));
+    check(hlc_restoring_finish(&restoring, &copy, &word));
     expect_peak("a restore in pieces", before, MOST_OF_PEAK * (in_blocks() - blocks));
     if (word != 7) {
         puts("the word of the checkpoint is another");
         wrong++;
     }
     hlc_output_drop(&output);
-    hlc_close(&store);
-    hlc_close(&copy);
+    hlc_store_close(&store);
+    hlc_store_close(&copy);
 }
 
 int main(void)

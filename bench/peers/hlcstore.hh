@@ -8,29 +8,29 @@ class Store {
   static constexpr const char* name = "hlcstore";
   static constexpr bool wants_order = true;
 
-  Store() { check(hlc_open(&store_, 1)); }
+  Store() { check(hlc_store_open(&store_, 1)); }
 
   void put(uint64_t stamp, uint64_t node, string_view key, const string_view* value) {
     uint64_t word;
-    check(hlc_accept_write(&store_, node, number_++, stamp, bytes(key), key.size(), bytes(*value), value->size(),
-                           &word));
+    check(hlc_store_accept_write(&store_, node, number_++, stamp, bytes(key), key.size(), bytes(*value), value->size(),
+                                 &word));
   }
 
   void flush() {}
 
   void open(uint64_t id, uint64_t stamp) {
     ids_.resize(id + 1);
-    check(hlc_open_snapshot(&store_, stamp, &ids_[id]));
+    check(hlc_snapshot_open(&store_, stamp, &ids_[id]));
   }
 
   void close(uint64_t id) {
     uint64_t stamp;
-    check(hlc_close_snapshot(&store_, ids_[id], &stamp));
+    check(hlc_snapshot_close(&store_, ids_[id], &stamp));
   }
 
   bool read(uint64_t id, uint64_t, string_view key, string_view* value) {
     size_t len;
-    const uint32_t code = hlc_read(&store_, ids_[id], bytes(key), key.size(), out_, sizeof out_, &len);
+    const uint32_t code = hlc_snapshot_read(&store_, ids_[id], bytes(key), key.size(), out_, sizeof out_, &len);
     if (code == HLC_NO_VALUE) return false;
     check(code);
     *value = string_view(reinterpret_cast<char*>(out_), len);
@@ -43,10 +43,11 @@ class Store {
     string from;
     for (uint32_t code = HLC_MORE; code == HLC_MORE;) {
       size_t len, pairs;
-      code = hlc_scan(&store_, ids_[id], bytes(from), from.size(), nullptr, 0, out_, sizeof out_, &len, &pairs);
+      code = hlc_snapshot_scan(&store_, ids_[id], bytes(from), from.size(), nullptr, 0, out_, sizeof out_, &len,
+                               &pairs);
       if (code != HLC_MORE) check(code);
       hlc_bytes rest = {out_, len}, last = {};
-      for (hlc_pair pair; hlc_next_pair(&rest, &pair); last = pair.key) touch(text_of(pair.value));
+      for (hlc_pair pair; hlc_pair_next(&rest, &pair); last = pair.key) touch(text_of(pair.value));
       count += pairs;
       // On from the first key after the last one of the piece.
       from.assign(text_of(last)).push_back(0);
@@ -58,12 +59,12 @@ class Store {
 
   void vacuum(const Points&, uint64_t) {
     uint64_t floor, kept, bytes, dropped;
-    check(hlc_vacuum(&store_, &floor, &kept, &bytes, &dropped));
+    check(hlc_store_vacuum(&store_, &floor, &kept, &bytes, &dropped));
   }
 
   uint64_t rows() {
     uint64_t rows;
-    check(hlc_rows(&store_, &rows));
+    check(hlc_store_rows(&store_, &rows));
     return rows;
   }
 

@@ -38,8 +38,8 @@ static double reports(unsigned nodes)
         double started = now();
         for (unsigned n = 0; n < nodes; n++) {
             for (unsigned s = 0; s < RANGES; s++) {
-                must(hlc_accept_report(&stores[s], (uint16_t)n, numbers[n], (numbers[n] + 1) << 16, &word));
-                hlc_floor(&stores[s], &word);
+                must(hlc_store_accept_report(&stores[s], (uint16_t)n, numbers[n], (numbers[n] + 1) << 16, &word));
+                hlc_store_floor(&stores[s], &word);
             }
             numbers[n]++;
         }
@@ -74,8 +74,8 @@ static void print_rows(void)
     for (uint64_t i = 0; i < KEYS * VERSIONS; i++) {
         uint64_t key = i * 7919 % KEYS;
         for (unsigned s = 0; s < RANGES; s++)
-            must(hlc_accept_write(&stores[s], 0, number + i, (number + i + 1) << 16, (uint8_t *)&key, 8,
-                                  (uint8_t *)&i, 8, &word));
+            must(hlc_store_accept_write(&stores[s], 0, number + i, (number + i + 1) << 16, (uint8_t *)&key, 8,
+                                        (uint8_t *)&i, 8, &word));
     }
     numbers[0] += KEYS * VERSIONS;
     printf("write %g\n", (now() - started) / KEYS / VERSIONS / RANGES);
@@ -83,16 +83,16 @@ static void print_rows(void)
     started = now();
     for (unsigned s = 0; s < RANGES; s++) {
         hlc_output output = HLC_NO_OUTPUT;
-        must(hlc_checkpoint(&stores[s], 0, &output, &len));
+        must(hlc_checkpoint_make(&stores[s], 0, &output, &len));
         hlc_output_drop(&output);
     }
     printf("checkpoint %g\n", (now() - started) / KEYS / VERSIONS / RANGES);
     for (unsigned s = 0; s < RANGES; s++)
         for (unsigned n = 1; n < FEW; n++)
-            must(hlc_accept_report(&stores[s], (uint16_t)n, numbers[n], (numbers[0] + 1) << 16, &word));
+            must(hlc_store_accept_report(&stores[s], (uint16_t)n, numbers[n], (numbers[0] + 1) << 16, &word));
     started = now();
     for (unsigned s = 0; s < RANGES; s++)
-        must(hlc_vacuum_to(&stores[s], numbers[0] << 16, &word, &kept, &bytes, &dropped));
+        must(hlc_store_vacuum_to(&stores[s], numbers[0] << 16, &word, &kept, &bytes, &dropped));
     printf("vacuum %g\n", (now() - started) / KEYS / RANGES);
 }
 
@@ -105,14 +105,14 @@ int main(void)
     for (uint64_t i = 0; i < 1000000; i++) must(hlc_node_report(&made, i, &start, &word));
     printf("issue %g\n", (now() - started) / 1000000);
     printf("message %g\n", message());
-    for (unsigned s = 0; s < RANGES; s++) must(hlc_open(&stores[s], FEW));
+    for (unsigned s = 0; s < RANGES; s++) must(hlc_store_open(&stores[s], FEW));
     printf("accept_few %g\n", reports(FEW));
     print_rows();
-    for (unsigned s = 0; s < RANGES; s++) hlc_close(&stores[s]);
-    for (unsigned s = 0; s < RANGES; s++) must(hlc_open(&stores[s], FEW));
+    for (unsigned s = 0; s < RANGES; s++) hlc_store_close(&stores[s]);
+    for (unsigned s = 0; s < RANGES; s++) must(hlc_store_open(&stores[s], FEW));
     double before = memory();
     for (unsigned n = FEW; n < MANY; n++)
-        for (unsigned s = 0; s < RANGES; s++) must(hlc_join(&stores[s], &node, &start));
+        for (unsigned s = 0; s < RANGES; s++) must(hlc_store_join(&stores[s], &node, &start));
     printf("link %.0f\n", (memory() - before) / (MANY - FEW) / RANGES);
     for (unsigned n = 0; n < MANY; n++) numbers[n] = 0;
     printf("accept_many %g\n", reports(MANY));

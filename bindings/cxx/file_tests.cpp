@@ -155,7 +155,7 @@ void ranges_have_the_pairs_of_a_model(const std::string& path) {
   EXPECT(snapshot.count() == 3000);
   EXPECT(store.read([](hlc_store* mine) {
     std::uint64_t rows = 0;
-    return hlc_rows(mine, &rows) == HLC_OK ? rows : 0;
+    return hlc_store_rows(mine, &rows) == HLC_OK ? rows : 0;
   }) == 3001);
 }
 

@@ -202,8 +202,8 @@ void read_all(store& store, std::uint64_t id, std::size_t many_keys, std::size_t
   string out(room, '\0');
   std::size_t len, many;
   const std::uint32_t code =
-      hlc_read_all(store.raw(), id, places, many_keys, reinterpret_cast<const std::uint8_t*>(keys.data()), keys.size(),
-                   reinterpret_cast<std::uint8_t*>(out.data()), room, &len, &many);
+      hlc_snapshot_read_all(store.raw(), id, places, many_keys, reinterpret_cast<const std::uint8_t*>(keys.data()),
+                            keys.size(), reinterpret_cast<std::uint8_t*>(out.data()), room, &len, &many);
   print_part("read all", code, string_view(out).substr(0, len), many);
 }
 
@@ -362,9 +362,9 @@ void accept_three(store& store, node& node) {
   const string_view bytes = "lakeComotown";
   std::size_t many;
   std::uint64_t word;
-  const std::uint32_t code = hlc_accept_all(store.raw(), entries, std::size(entries),
-                                            reinterpret_cast<const std::uint8_t*>(bytes.data()), bytes.size(), &many,
-                                            &word);
+  const std::uint32_t code = hlc_store_accept_all(store.raw(), entries, std::size(entries),
+                                                  reinterpret_cast<const std::uint8_t*>(bytes.data()), bytes.size(),
+                                                  &many, &word);
   print("all", code, many, word);
   again.erase(erased, "town");
   accept_all(store, again);
@@ -451,7 +451,8 @@ void check(string_view certificate) try {
 void read_short(store& store, std::uint64_t id) {
   std::uint8_t out[] = "xxxxx";
   std::size_t len;
-  const std::uint32_t code = hlc_read(store.raw(), id, reinterpret_cast<const std::uint8_t*>("city"), 4, out, 4, &len);
+  const std::uint32_t code = hlc_snapshot_read(store.raw(), id, reinterpret_cast<const std::uint8_t*>("city"), 4, out,
+                                               4, &len);
   print("short", code, len, std::equal(out, out + 5, "xxxxx"));
 }
 

@@ -21,11 +21,11 @@ uint32_t raise_horizon(hlc_file *file, uint64_t stamp)
     uint64_t floor, horizon, word, kept, bytes, dropped;
     size_t len;
     bool more;
-    hlc_ignore(hlc_floor(&file->store, &floor));
-    hlc_ignore(hlc_horizon(&file->store, &horizon));
+    hlc_answer_ignore(hlc_store_floor(&file->store, &floor));
+    hlc_answer_ignore(hlc_store_horizon(&file->store, &horizon));
     if (stamp > floor) stamp = floor;
     if (stamp <= horizon) return HLC_OK;
-    return hlc_vacuum_part(&file->store, stamp, NULL, 0, 0, &word, &kept, &bytes, &dropped, NULL, 0, &len, &more);
+    return hlc_store_vacuum_part(&file->store, stamp, NULL, 0, 0, &word, &kept, &bytes, &dropped, NULL, 0, &len, &more);
 }
 
 /* Lets the store accept the rest of an entry. Only memory can be missing: the links took all of its records. */
@@ -33,8 +33,8 @@ static uint32_t accept_entry(hlc_file *file, struct entry *entry)
 {
     size_t used, many;
     uint64_t threshold, word;
-    uint32_t answer = hlc_records_apply(&file->store, entry->bytes + entry->used, entry->len - entry->used, &used,
-                                        &many, &threshold, &word);
+    uint32_t answer = hlc_store_apply_records(&file->store, entry->bytes + entry->used, entry->len - entry->used, &used,
+                                              &many, &threshold, &word);
     entry->used += used;
     if (answer == HLC_OK) answer = raise_horizon(file, entry->horizon);
     if (answer != HLC_OK) return answer;

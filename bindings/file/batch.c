@@ -43,8 +43,9 @@ static uint32_t write_item(hlc_file_batch *batch, const struct change *change, s
 {
     uint8_t *out = batch->entry ? batch->entry->bytes + batch->entry->len : NULL;
     size_t room = batch->entry ? batch->room - batch->entry->len : 0;
-    if (change->deletes) return hlc_item_delete(0, 0, 0, change->key, change->key_len, out, room, len);
-    return hlc_item_write(0, 0, 0, change->key, change->key_len, change->value, change->value_len, out, room, len);
+    if (change->deletes) return hlc_item_encode_delete(0, 0, 0, change->key, change->key_len, out, room, len);
+    return hlc_item_encode_write(0, 0, 0, change->key, change->key_len, change->value, change->value_len, out, room,
+                                 len);
 }
 
 static uint32_t add(hlc_file_batch *batch, const struct change *change)
@@ -54,7 +55,7 @@ static uint32_t add(hlc_file_batch *batch, const struct change *change)
     bool fits = answer == HLC_OK && batch->entry && len <= batch->room - batch->entry->len;
     if (answer == HLC_OK && !fits) {
         answer = make_room(batch, len);
-        if (answer == HLC_OK) hlc_ignore(write_item(batch, change, &len));
+        if (answer == HLC_OK) hlc_answer_ignore(write_item(batch, change, &len));
     }
     if (answer != HLC_OK) return answer;
     batch->entry->len += len;

@@ -38,7 +38,7 @@ static uint32_t copy_store(hlc_file *file, struct making *making)
     making->place = file->applied;
     making->log_sum = file->applied_sum;
     making->logged = file->accepted;
-    uint32_t answer = hlc_checkpoint(&mine, making->place, &making->output, &making->len);
+    uint32_t answer = hlc_checkpoint_make(&mine, making->place, &making->output, &making->len);
     copy_end(file);
     return answer;
 }
@@ -91,7 +91,7 @@ static uint32_t write_pieces(hlc_file *file, struct making *making)
     uint8_t *buffer = malloc(PIECE);
     if (!buffer) return HLC_NO_MEMORY;
     for (size_t at = 0; answer == HLC_OK && at < making->len; at += len) {
-        hlc_ignore(hlc_output_read(&making->output, at, buffer, PIECE, &len));
+        hlc_answer_ignore(hlc_output_read(&making->output, at, buffer, PIECE, &len));
         answer = write_piece(file, making, buffer, len);
     }
     free(buffer);
@@ -194,7 +194,7 @@ uint32_t hlc_file_copy(hlc_file *file, uint64_t word, hlc_output *output, size_t
 {
     copy_begin(file);
     hlc_store mine = file->store;
-    uint32_t answer = hlc_checkpoint(&mine, word, output, len);
+    uint32_t answer = hlc_checkpoint_make(&mine, word, output, len);
     copy_end(file);
     return answer;
 }

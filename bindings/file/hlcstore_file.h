@@ -191,7 +191,7 @@ uint32_t hlc_file_join(hlc_file *file, uint16_t *node, uint64_t *start);
  * that came before are passed over, and are not written again. A threshold becomes the horizon as soon as the floor
  * reached it; of several that wait for the floor, the greatest alone counts. many: how many records came before the
  * refused one, or how many there are; word: 0, or the refusal's word. Refusals: 204, 213, then of each record those of
- * hlc_records_apply, and those of the section. Writes. */
+ * hlc_store_apply_records, and those of the section. Writes. */
 uint32_t hlc_file_append_records(hlc_file *file, const uint8_t *bytes, size_t bytes_len, uint32_t promise, size_t *many,
                                  uint64_t *word);
 
@@ -208,15 +208,16 @@ uint32_t hlc_file_receive(hlc_file *file, uint16_t node, uint64_t seen, uint64_t
  * the section. Takes memory for the bytes. */
 uint32_t hlc_file_checkpoint(hlc_file *file, uint64_t *place);
 
-/* Copies the whole state into an output, as hlc_checkpoint does, with a word of the caller's: hlc_output_read returns
- * the bytes, from which hlc_restore and hlc_restore_feed open a store in memory. Writes wait while it is copied, reads
- * go on. It has all batches that were accepted. Refusals: 108, 15. Takes memory for the bytes. Any thread. */
+/* Copies the whole state into an output, as hlc_checkpoint_make does, with a word of the caller's: hlc_output_read
+ * returns the bytes, from which hlc_store_restore and hlc_restoring_feed open a store in memory. Writes wait while it
+ * is copied, reads go on. It has all batches that were accepted. Refusals: 108, 15. Takes memory for the bytes. Any
+ * thread. */
 uint32_t hlc_file_copy(hlc_file *file, uint64_t word, hlc_output *output, size_t *len);
 
-/* Vacuums to a stamp, as hlc_vacuum_to does, in parts between which reads and writes go on. The stamp is on disk first,
- * as a retention threshold: no snapshot opens below it any more. word: the stamp, or the refusal's word; kept, bytes,
- * dropped: sums over the parts. Refusals: 8, 9, and those of the section. After 15 and 212 the threshold stays on disk,
- * if it was put there, and the next call goes on. Writes. */
+/* Vacuums to a stamp, as hlc_store_vacuum_to does, in parts between which reads and writes go on. The stamp is on disk
+ * first, as a retention threshold: no snapshot opens below it any more. word: the stamp, or the refusal's word; kept,
+ * bytes, dropped: sums over the parts. Refusals: 8, 9, and those of the section. After 15 and 212 the threshold stays
+ * on disk, if it was put there, and the next call goes on. Writes. */
 uint32_t hlc_file_vacuum_to(hlc_file *file, uint64_t stamp, uint64_t *word, uint64_t *kept, uint64_t *bytes,
                             uint64_t *dropped);
 
@@ -234,8 +235,8 @@ uint32_t hlc_file_vacuum_older(hlc_file *file, uint64_t milliseconds, uint64_t *
 uint32_t hlc_file_read_begin(hlc_file *file, hlc_store *mine);
 void hlc_file_read_end(hlc_file *file);
 
-/* Opens a snapshot, which any thread may use until it is closed or the file is; and closes it. As hlc_open_snapshot,
- * hlc_open_snapshot_at_floor and hlc_close_snapshot. They are not kept in the file, and wait while a checkpoint copies
+/* Opens a snapshot, which any thread may use until it is closed or the file is; and closes it. As hlc_snapshot_open,
+ * hlc_snapshot_open_at_floor and hlc_snapshot_close. They are not kept in the file, and wait while a checkpoint copies
  * the store; other reads do not. While there is no memory for a batch after 212, opening one answers 15. */
 uint32_t hlc_file_open_snapshot(hlc_file *file, uint64_t stamp, uint64_t *id);
 uint32_t hlc_file_open_snapshot_at_floor(hlc_file *file, uint64_t *id, uint64_t *stamp);

@@ -160,7 +160,7 @@ static void file_free(hlc_file *file)
 {
     db_close(&file->db);
     drop_behind(file);
-    hlc_close(&file->store);
+    hlc_store_close(&file->store);
     give_lock(file);
     turns_destroy(&file->turns);
     turns_destroy(&file->changing);

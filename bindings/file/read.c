@@ -18,7 +18,7 @@ uint32_t hlc_file_open_snapshot(hlc_file *file, uint64_t stamp, uint64_t *id)
     *id = 0;
     change_begin(file);
     uint32_t answer = accept_behind(file);
-    if (answer == HLC_OK) answer = hlc_open_snapshot(&file->store, stamp, id);
+    if (answer == HLC_OK) answer = hlc_snapshot_open(&file->store, stamp, id);
     change_end(file);
     return answer;
 }
@@ -28,7 +28,7 @@ uint32_t hlc_file_open_snapshot_at_floor(hlc_file *file, uint64_t *id, uint64_t 
     *id = *stamp = 0;
     change_begin(file);
     uint32_t answer = accept_behind(file);
-    if (answer == HLC_OK) answer = hlc_open_snapshot_at_floor(&file->store, id, stamp);
+    if (answer == HLC_OK) answer = hlc_snapshot_open_at_floor(&file->store, id, stamp);
     change_end(file);
     return answer;
 }
@@ -36,7 +36,7 @@ uint32_t hlc_file_open_snapshot_at_floor(hlc_file *file, uint64_t *id, uint64_t 
 uint32_t hlc_file_close_snapshot(hlc_file *file, uint64_t id, uint64_t *stamp)
 {
     change_begin(file);
-    uint32_t answer = hlc_close_snapshot(&file->store, id, stamp);
+    uint32_t answer = hlc_snapshot_close(&file->store, id, stamp);
     change_end(file);
     return answer;
 }
@@ -54,33 +54,33 @@ uint32_t hlc_file_close_snapshot(hlc_file *file, uint64_t id, uint64_t *stamp)
 uint32_t hlc_file_read(hlc_file *file, uint64_t id, const uint8_t *key, size_t key_len, uint8_t *out, size_t out_len,
                        size_t *len)
 {
-    READ(hlc_read, id, key, key_len, out, out_len, len);
+    READ(hlc_snapshot_read, id, key, key_len, out, out_len, len);
 }
 
 uint32_t hlc_file_scan(hlc_file *file, uint64_t id, const uint8_t *from, size_t from_len, const uint8_t *to,
                        size_t to_len, uint8_t *out, size_t out_len, size_t *len, size_t *many)
 {
-    READ(hlc_scan, id, from, from_len, to, to_len, out, out_len, len, many);
+    READ(hlc_snapshot_scan, id, from, from_len, to, to_len, out, out_len, len, many);
 }
 
 uint32_t hlc_file_scan_back(hlc_file *file, uint64_t id, const uint8_t *from, size_t from_len, const uint8_t *to,
                             size_t to_len, uint8_t *out, size_t out_len, size_t *len, size_t *many)
 {
-    READ(hlc_scan_back, id, from, from_len, to, to_len, out, out_len, len, many);
+    READ(hlc_snapshot_scan_back, id, from, from_len, to, to_len, out, out_len, len, many);
 }
 
 uint32_t hlc_file_count(hlc_file *file, uint64_t id, const uint8_t *from, size_t from_len, const uint8_t *to,
                         size_t to_len, uint64_t *many)
 {
-    READ(hlc_count, id, from, from_len, to, to_len, many);
+    READ(hlc_snapshot_count, id, from, from_len, to, to_len, many);
 }
 
 uint32_t hlc_file_floor(hlc_file *file, uint64_t *stamp)
 {
-    READ(hlc_floor, stamp);
+    READ(hlc_store_floor, stamp);
 }
 
 uint32_t hlc_file_horizon(hlc_file *file, uint64_t *stamp)
 {
-    READ(hlc_horizon, stamp);
+    READ(hlc_store_horizon, stamp);
 }

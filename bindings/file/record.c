@@ -1,4 +1,4 @@
-/* Records as bytes (docs/formats.md), and the links that accept them: what hlc_records_apply would answer, before
+/* Records as bytes (docs/formats.md), and the links that accept them: what hlc_store_apply_records would answer, before
  * anything is on disk or accepted. */
 #include "file.h"
 #include <string.h>
@@ -126,7 +126,7 @@ static uint32_t take_join(struct links *links, const struct record *record, bool
     return HLC_OK;
 }
 
-/* Moves the links on by a record, or answers why hlc_records_apply refuses it. */
+/* Moves the links on by a record, or answers why hlc_store_apply_records refuses it. */
 uint32_t links_take(struct links *links, const struct record *record, bool *came_before, uint64_t *word)
 {
     *came_before = false;
@@ -153,10 +153,10 @@ void links_copy(struct links *to, const struct links *from)
 void links_of_store(struct links *links, hlc_store *mine)
 {
     uint64_t many;
-    hlc_ignore(hlc_nodes(mine, &many));
+    hlc_answer_ignore(hlc_store_nodes(mine, &many));
     links->many = (uint32_t)many;
     for (uint32_t i = 0; i < links->many; i++) {
         struct link *link = &links->at[i];
-        hlc_ignore(hlc_link(mine, (uint16_t)i, &link->next, &link->head, &link->retired));
+        hlc_answer_ignore(hlc_store_link(mine, (uint16_t)i, &link->next, &link->head, &link->retired));
     }
 }

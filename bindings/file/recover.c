@@ -40,7 +40,7 @@ static uint32_t feed_piece(hlc_restoring *restoring, sqlite3_stmt *row, uint64_t
     size_t len = (size_t)sqlite3_column_bytes(row, 2);
     *sum = sum_bytes(*sum, number, bytes, len);
     *whole = (uint64_t)sqlite3_column_int64(row, 0) == number && (uint64_t)sqlite3_column_int64(row, 1) == *sum;
-    return *whole ? hlc_restore_feed(restoring, bytes, len) : HLC_OK;
+    return *whole ? hlc_restoring_feed(restoring, bytes, len) : HLC_OK;
 }
 
 /* Feeds the pieces of a checkpoint. whole: whether all are there and have their sums. */
@@ -75,15 +75,15 @@ static uint32_t restore(hlc_file *file, const struct found *found, bool *whole)
     uint64_t word;
     *whole = found->row_sum == sum_found(found);
     if (!*whole) return HLC_OK;
-    uint32_t answer = hlc_restore_start(&restoring);
+    uint32_t answer = hlc_restoring_start(&restoring);
     if (answer == HLC_OK) answer = feed_pieces(&file->db, &restoring, found, whole);
     if (answer == HLC_OK && *whole) {
-        answer = hlc_restore_finish(&restoring, &file->store, &word);
+        answer = hlc_restoring_finish(&restoring, &file->store, &word);
         *whole = answer == HLC_OK && word == found->place;
-        if (answer == HLC_OK && !*whole) hlc_close(&file->store);
+        if (answer == HLC_OK && !*whole) hlc_store_close(&file->store);
         if (answer == HLC_BAD_BYTES || answer == HLC_NO_CHECKPOINT) answer = HLC_OK;
     }
-    hlc_restore_drop(&restoring);
+    hlc_restoring_drop(&restoring);
     return answer;
 }
 
@@ -118,7 +118,7 @@ static uint32_t restore_newest(hlc_file *file, struct recovery *recovery)
     }
     int code = sqlite3_reset(rows);
     if (answer == HLC_OK && code != SQLITE_OK) answer = db_failure(&file->db, code);
-    return answer == HLC_OK && !whole ? hlc_open(&file->store, (uint16_t)file->db.state.nodes) : answer;
+    return answer == HLC_OK && !whole ? hlc_store_open(&file->store, (uint16_t)file->db.state.nodes) : answer;
 }
 
 /* ---- The log ---- */
@@ -224,7 +224,7 @@ static uint32_t apply_rows(hlc_file *file, const struct rows *rows)
 {
     size_t used, many;
     uint64_t threshold, word;
-    uint32_t answer = hlc_records_apply(&file->store, rows->records, rows->len, &used, &many, &threshold, &word);
+    uint32_t answer = hlc_store_apply_records(&file->store, rows->records, rows->len, &used, &many, &threshold, &word);
     if (answer == HLC_OK) file->report.applied += many;
     return answer;
 }
@@ -388,7 +388,7 @@ static uint32_t begin_at(hlc_file *file, const struct recovery *recovery)
     file->ceiling = file->clock = state->clock;
     file->report.place = state->place;
     finish_checkpoint(file, file->newest.place, 0, recovery->len);
-    hlc_ignore(hlc_close_all(&file->store));
+    hlc_answer_ignore(hlc_snapshot_close_all(&file->store));
     return raise_horizon(file, state->horizon);
 }
 

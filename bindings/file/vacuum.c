@@ -19,8 +19,8 @@ static uint32_t vacuum_part(hlc_file *file, uint64_t stamp, uint8_t *after, size
     uint8_t last[MOST_KEY];
     size_t len;
     change_begin(file);
-    uint32_t answer = hlc_vacuum_part(&file->store, stamp, after, *after_len, PART_KEYS, &sum->word, &kept, &bytes,
-                                      &dropped, last, sizeof last, &len, more);
+    uint32_t answer = hlc_store_vacuum_part(&file->store, stamp, after, *after_len, PART_KEYS, &sum->word, &kept,
+                                            &bytes, &dropped, last, sizeof last, &len, more);
     change_end(file);
     if (answer != HLC_OK) return answer;
     memcpy(after, last, len);
@@ -40,7 +40,7 @@ static uint32_t vacuum(hlc_file *file, uint64_t stamp, struct vacuumed *sum)
     size_t after_len = 0;
     bool more = true;
     hlc_file_read_begin(file, &mine);
-    uint32_t answer = hlc_check_vacuum(&mine, stamp, &sum->word);
+    uint32_t answer = hlc_store_check_vacuum(&mine, stamp, &sum->word);
     hlc_file_read_end(file);
     if (answer == HLC_OK) answer = append_threshold(file, stamp);
     while (answer == HLC_OK && more) answer = vacuum_part(file, stamp, after, &after_len, sum, &more);
@@ -77,8 +77,8 @@ uint32_t hlc_file_vacuum_older(hlc_file *file, uint64_t milliseconds, uint64_t *
     uint64_t stamp = PHYSICAL(now - milliseconds);
     pthread_mutex_lock(&file->vacuuming);
     hlc_file_read_begin(file, &mine);
-    hlc_ignore(hlc_floor(&mine, &floor));
-    hlc_ignore(hlc_horizon(&mine, &horizon));
+    hlc_answer_ignore(hlc_store_floor(&mine, &floor));
+    hlc_answer_ignore(hlc_store_horizon(&mine, &horizon));
     hlc_file_read_end(file);
     if (stamp > floor) stamp = floor;
     if (stamp < horizon) stamp = horizon;

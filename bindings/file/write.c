@@ -100,11 +100,11 @@ uint32_t hlc_file_write(hlc_file *file, uint16_t node, uint64_t reading, const u
 {
     size_t len;
     *word = 0;
-    uint32_t answer = hlc_item_write(node, 0, 0, key, key_len, value, value_len, NULL, 0, &len);
+    uint32_t answer = hlc_item_encode_write(node, 0, 0, key, key_len, value, value_len, NULL, 0, &len);
     if (answer != HLC_OK) return answer;
     struct entry *entry = entry_new(len);
     if (!entry) return HLC_NO_MEMORY;
-    hlc_ignore(hlc_item_write(node, 0, 0, key, key_len, value, value_len, entry->bytes, len, &len));
+    hlc_answer_ignore(hlc_item_encode_write(node, 0, 0, key, key_len, value, value_len, entry->bytes, len, &len));
     return append_item(file, entry, node, reading, word);
 }
 
@@ -113,11 +113,11 @@ uint32_t hlc_file_delete(hlc_file *file, uint16_t node, uint64_t reading, const 
 {
     size_t len;
     *word = 0;
-    uint32_t answer = hlc_item_delete(node, 0, 0, key, key_len, NULL, 0, &len);
+    uint32_t answer = hlc_item_encode_delete(node, 0, 0, key, key_len, NULL, 0, &len);
     if (answer != HLC_OK) return answer;
     struct entry *entry = entry_new(len);
     if (!entry) return HLC_NO_MEMORY;
-    hlc_ignore(hlc_item_delete(node, 0, 0, key, key_len, entry->bytes, len, &len));
+    hlc_answer_ignore(hlc_item_encode_delete(node, 0, 0, key, key_len, entry->bytes, len, &len));
     return append_item(file, entry, node, reading, word);
 }
 
@@ -127,7 +127,7 @@ uint32_t hlc_file_report(hlc_file *file, uint16_t node, uint64_t reading, uint64
     *word = 0;
     struct entry *entry = entry_new(ITEM_HEAD);
     if (!entry) return HLC_NO_MEMORY;
-    hlc_ignore(hlc_item_report(node, 0, 0, entry->bytes, entry->len, &len));
+    hlc_answer_ignore(hlc_item_encode_report(node, 0, 0, entry->bytes, entry->len, &len));
     return append_item(file, entry, node, reading, word);
 }
 
@@ -137,7 +137,7 @@ uint32_t hlc_file_retire(hlc_file *file, uint16_t node, uint64_t reading, uint64
     *word = 0;
     struct entry *entry = entry_new(ITEM_HEAD);
     if (!entry) return HLC_NO_MEMORY;
-    hlc_ignore(hlc_item_retire(node, 0, 0, entry->bytes, entry->len, &len));
+    hlc_answer_ignore(hlc_item_encode_retire(node, 0, 0, entry->bytes, entry->len, &len));
     return append_item(file, entry, node, reading, word);
 }
 
@@ -181,7 +181,7 @@ uint32_t hlc_file_join(hlc_file *file, uint16_t *node, uint64_t *start)
     pthread_mutex_lock(&file->mutex);
     uint16_t next = (uint16_t)file->links.many;
     uint64_t floor = links_floor(&file->links);
-    hlc_ignore(hlc_record_join(next, floor, entry->bytes, JOIN_LEN, &len));
+    hlc_answer_ignore(hlc_record_encode_join(next, floor, entry->bytes, JOIN_LEN, &len));
     uint32_t answer = append_checked(file, entry, entry->bytes, JOIN_LEN, file->options.promise, &many, &word);
     if (took_place(answer)) {
         *node = next;
@@ -198,7 +198,7 @@ uint32_t append_threshold(hlc_file *file, uint64_t stamp)
     uint64_t word;
     struct entry *entry = entry_new(THRESHOLD_LEN);
     if (!entry) return HLC_NO_MEMORY;
-    hlc_ignore(hlc_record_threshold(stamp, entry->bytes, THRESHOLD_LEN, &len));
+    hlc_answer_ignore(hlc_record_encode_threshold(stamp, entry->bytes, THRESHOLD_LEN, &len));
     pthread_mutex_lock(&file->mutex);
     uint32_t answer = append_checked(file, entry, entry->bytes, THRESHOLD_LEN, HLC_FILE_SYNCED, &many, &word);
     pthread_mutex_unlock(&file->mutex);

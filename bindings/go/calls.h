@@ -113,8 +113,8 @@ static inline hlcgo_part hlcgo_item_write(uint16_t node, uint64_t number, uint64
                                           _GoString_ value, uint8_t *out, size_t out_len)
 {
     hlcgo_part part = { 0 };
-    part.code = hlc_item_write(node, number, stamp, hlcgo_bytes(key), _GoStringLen(key), hlcgo_bytes(value),
-                               _GoStringLen(value), out, out_len, &part.len);
+    part.code = hlc_item_encode_write(node, number, stamp, hlcgo_bytes(key), _GoStringLen(key), hlcgo_bytes(value),
+                                      _GoStringLen(value), out, out_len, &part.len);
     return part;
 }
 
@@ -122,7 +122,8 @@ static inline hlcgo_part hlcgo_item_delete(uint16_t node, uint64_t number, uint6
                                            uint8_t *out, size_t out_len)
 {
     hlcgo_part part = { 0 };
-    part.code = hlc_item_delete(node, number, stamp, hlcgo_bytes(key), _GoStringLen(key), out, out_len, &part.len);
+    part.code = hlc_item_encode_delete(node, number, stamp, hlcgo_bytes(key), _GoStringLen(key), out, out_len,
+                                       &part.len);
     return part;
 }
 
@@ -130,7 +131,7 @@ static inline hlcgo_part hlcgo_item_report(uint16_t node, uint64_t number, uint6
                                            size_t out_len)
 {
     hlcgo_part part = { 0 };
-    part.code = hlc_item_report(node, number, stamp, out, out_len, &part.len);
+    part.code = hlc_item_encode_report(node, number, stamp, out, out_len, &part.len);
     return part;
 }
 
@@ -138,7 +139,7 @@ static inline hlcgo_part hlcgo_item_retire(uint16_t node, uint64_t number, uint6
                                            size_t out_len)
 {
     hlcgo_part part = { 0 };
-    part.code = hlc_item_retire(node, number, stamp, out, out_len, &part.len);
+    part.code = hlc_item_encode_retire(node, number, stamp, out, out_len, &part.len);
     return part;
 }
 
@@ -150,7 +151,7 @@ typedef struct {
 static inline hlcgo_record hlcgo_record_join(uint16_t node, uint64_t start)
 {
     hlcgo_record record;
-    const uint32_t code = hlc_record_join(node, start, record.bytes, sizeof record.bytes, &record.len);
+    const uint32_t code = hlc_record_encode_join(node, start, record.bytes, sizeof record.bytes, &record.len);
     (void)code;
     return record;
 }
@@ -158,7 +159,7 @@ static inline hlcgo_record hlcgo_record_join(uint16_t node, uint64_t start)
 static inline hlcgo_record hlcgo_record_threshold(uint64_t stamp)
 {
     hlcgo_record record;
-    const uint32_t code = hlc_record_threshold(stamp, record.bytes, sizeof record.bytes, &record.len);
+    const uint32_t code = hlc_record_encode_threshold(stamp, record.bytes, sizeof record.bytes, &record.len);
     (void)code;
     return record;
 }
@@ -169,8 +170,8 @@ static inline hlcgo_answer hlcgo_accept_write(hlc_store *store, uint16_t node, u
                                               _GoString_ key, _GoString_ value)
 {
     hlcgo_answer answer;
-    answer.code = hlc_accept_write(store, node, number, stamp, hlcgo_bytes(key), _GoStringLen(key),
-                                   hlcgo_bytes(value), _GoStringLen(value), &answer.word);
+    answer.code = hlc_store_accept_write(store, node, number, stamp, hlcgo_bytes(key), _GoStringLen(key),
+                                         hlcgo_bytes(value), _GoStringLen(value), &answer.word);
     return answer;
 }
 
@@ -178,21 +179,22 @@ static inline hlcgo_answer hlcgo_accept_delete(hlc_store *store, uint16_t node, 
                                                _GoString_ key)
 {
     hlcgo_answer answer;
-    answer.code = hlc_accept_delete(store, node, number, stamp, hlcgo_bytes(key), _GoStringLen(key), &answer.word);
+    answer.code = hlc_store_accept_delete(store, node, number, stamp, hlcgo_bytes(key), _GoStringLen(key),
+                                          &answer.word);
     return answer;
 }
 
 static inline hlcgo_answer hlcgo_accept_report(hlc_store *store, uint16_t node, uint64_t number, uint64_t stamp)
 {
     hlcgo_answer answer;
-    answer.code = hlc_accept_report(store, node, number, stamp, &answer.word);
+    answer.code = hlc_store_accept_report(store, node, number, stamp, &answer.word);
     return answer;
 }
 
 static inline hlcgo_answer hlcgo_accept_retire(hlc_store *store, uint16_t node, uint64_t number, uint64_t stamp)
 {
     hlcgo_answer answer;
-    answer.code = hlc_accept_retire(store, node, number, stamp, &answer.word);
+    answer.code = hlc_store_accept_retire(store, node, number, stamp, &answer.word);
     return answer;
 }
 
@@ -201,8 +203,8 @@ static inline hlcgo_answer hlcgo_check_write(const hlc_store *store, uint16_t no
 {
     hlc_store mine = *store;
     hlcgo_answer answer;
-    answer.code = hlc_check_write(&mine, node, number, stamp, hlcgo_bytes(key), _GoStringLen(key),
-                                  hlcgo_bytes(value), _GoStringLen(value), &answer.word);
+    answer.code = hlc_store_check_write(&mine, node, number, stamp, hlcgo_bytes(key), _GoStringLen(key),
+                                        hlcgo_bytes(value), _GoStringLen(value), &answer.word);
     return answer;
 }
 
@@ -211,7 +213,7 @@ static inline hlcgo_answer hlcgo_check_delete(const hlc_store *store, uint16_t n
 {
     hlc_store mine = *store;
     hlcgo_answer answer;
-    answer.code = hlc_check_delete(&mine, node, number, stamp, hlcgo_bytes(key), _GoStringLen(key), &answer.word);
+    answer.code = hlc_store_check_delete(&mine, node, number, stamp, hlcgo_bytes(key), _GoStringLen(key), &answer.word);
     return answer;
 }
 
@@ -219,7 +221,7 @@ static inline hlcgo_answer hlcgo_check_report(const hlc_store *store, uint16_t n
 {
     hlc_store mine = *store;
     hlcgo_answer answer;
-    answer.code = hlc_check_report(&mine, node, number, stamp, &answer.word);
+    answer.code = hlc_store_check_report(&mine, node, number, stamp, &answer.word);
     return answer;
 }
 
@@ -235,22 +237,22 @@ static inline hlcgo_applied hlcgo_accept_all(hlc_store *store, const hlc_entry *
                                              const uint8_t *bytes, size_t bytes_len)
 {
     hlcgo_applied applied = { 0 };
-    applied.code = hlc_accept_all(store, entries, entries_len, bytes, bytes_len, &applied.many, &applied.word);
+    applied.code = hlc_store_accept_all(store, entries, entries_len, bytes, bytes_len, &applied.many, &applied.word);
     return applied;
 }
 
 static inline hlcgo_applied hlcgo_items_accept(hlc_store *store, const uint8_t *bytes, size_t bytes_len)
 {
     hlcgo_applied applied = { 0 };
-    applied.code = hlc_items_accept(store, bytes, bytes_len, &applied.used, &applied.many, &applied.word);
+    applied.code = hlc_store_accept_items(store, bytes, bytes_len, &applied.used, &applied.many, &applied.word);
     return applied;
 }
 
 static inline hlcgo_applied hlcgo_records_apply(hlc_store *store, const uint8_t *bytes, size_t bytes_len)
 {
     hlcgo_applied applied = { 0 };
-    applied.code = hlc_records_apply(store, bytes, bytes_len, &applied.used, &applied.many, &applied.threshold,
-                                     &applied.word);
+    applied.code = hlc_store_apply_records(store, bytes, bytes_len, &applied.used, &applied.many, &applied.threshold,
+                                           &applied.word);
     return applied;
 }
 
@@ -263,14 +265,14 @@ typedef struct {
 static inline hlcgo_joined hlcgo_join(hlc_store *store)
 {
     hlcgo_joined joined;
-    joined.code = hlc_join(store, &joined.node, &joined.word);
+    joined.code = hlc_store_join(store, &joined.node, &joined.word);
     return joined;
 }
 
 static inline hlcgo_joined hlcgo_join_at(hlc_store *store, uint64_t start)
 {
     hlcgo_joined joined;
-    joined.code = hlc_join_at(store, start, &joined.node, &joined.word);
+    joined.code = hlc_store_join_at(store, start, &joined.node, &joined.word);
     return joined;
 }
 
@@ -285,21 +287,21 @@ typedef struct {
 static inline hlcgo_snapshot hlcgo_open_snapshot(hlc_store *store, uint64_t stamp)
 {
     hlcgo_snapshot snapshot = { .stamp = stamp };
-    snapshot.code = hlc_open_snapshot(store, stamp, &snapshot.id);
+    snapshot.code = hlc_snapshot_open(store, stamp, &snapshot.id);
     return snapshot;
 }
 
 static inline hlcgo_snapshot hlcgo_open_snapshot_at_floor(hlc_store *store)
 {
     hlcgo_snapshot snapshot;
-    snapshot.code = hlc_open_snapshot_at_floor(store, &snapshot.id, &snapshot.stamp);
+    snapshot.code = hlc_snapshot_open_at_floor(store, &snapshot.id, &snapshot.stamp);
     return snapshot;
 }
 
 static inline hlcgo_answer hlcgo_close_snapshot(hlc_store *store, uint64_t id)
 {
     hlcgo_answer answer;
-    answer.code = hlc_close_snapshot(store, id, &answer.word);
+    answer.code = hlc_snapshot_close(store, id, &answer.word);
     return answer;
 }
 
@@ -307,7 +309,7 @@ static inline hlcgo_snapshot hlcgo_snapshot_at(const hlc_store *store, uint64_t 
 {
     hlc_store mine = *store;
     hlcgo_snapshot snapshot;
-    snapshot.code = hlc_snapshot(&mine, place, &snapshot.id, &snapshot.stamp);
+    snapshot.code = hlc_snapshot_at_place(&mine, place, &snapshot.id, &snapshot.stamp);
     return snapshot;
 }
 
@@ -322,7 +324,7 @@ static inline hlcgo_value hlcgo_read_short(const hlc_store *store, uint64_t id, 
 {
     hlc_store mine = *store;
     hlcgo_value value;
-    value.code = hlc_read(&mine, id, key, key_len, value.bytes, sizeof value.bytes, &value.len);
+    value.code = hlc_snapshot_read(&mine, id, key, key_len, value.bytes, sizeof value.bytes, &value.len);
     return value;
 }
 
@@ -331,7 +333,7 @@ static inline hlcgo_part hlcgo_read(const hlc_store *store, uint64_t id, const u
 {
     hlc_store mine = *store;
     hlcgo_part part = { 0 };
-    part.code = hlc_read(&mine, id, key, key_len, out, out_len, &part.len);
+    part.code = hlc_snapshot_read(&mine, id, key, key_len, out, out_len, &part.len);
     return part;
 }
 
@@ -340,7 +342,8 @@ static inline hlcgo_part hlcgo_read_all(const hlc_store *store, uint64_t id, con
 {
     hlc_store mine = *store;
     hlcgo_part part;
-    part.code = hlc_read_all(&mine, id, places, places_len, bytes, bytes_len, out, out_len, &part.len, &part.many);
+    part.code = hlc_snapshot_read_all(&mine, id, places, places_len, bytes, bytes_len, out, out_len, &part.len,
+                                      &part.many);
     return part;
 }
 
@@ -348,7 +351,7 @@ static inline hlcgo_part hlcgo_list(const hlc_store *store, uint64_t id, uint8_t
 {
     hlc_store mine = *store;
     hlcgo_part part = { 0 };
-    part.code = hlc_list(&mine, id, out, out_len, &part.len);
+    part.code = hlc_snapshot_list(&mine, id, out, out_len, &part.len);
     return part;
 }
 
@@ -357,7 +360,7 @@ static inline hlcgo_part hlcgo_scan(const hlc_store *store, uint64_t id, const u
 {
     hlc_store mine = *store;
     hlcgo_part part;
-    part.code = hlc_scan(&mine, id, from, from_len, to, to_len, out, out_len, &part.len, &part.many);
+    part.code = hlc_snapshot_scan(&mine, id, from, from_len, to, to_len, out, out_len, &part.len, &part.many);
     return part;
 }
 
@@ -366,7 +369,7 @@ static inline hlcgo_part hlcgo_scan_back(const hlc_store *store, uint64_t id, co
 {
     hlc_store mine = *store;
     hlcgo_part part;
-    part.code = hlc_scan_back(&mine, id, from, from_len, to, to_len, out, out_len, &part.len, &part.many);
+    part.code = hlc_snapshot_scan_back(&mine, id, from, from_len, to, to_len, out, out_len, &part.len, &part.many);
     return part;
 }
 
@@ -375,7 +378,7 @@ static inline hlcgo_part hlcgo_scan_keys(const hlc_store *store, uint64_t id, co
 {
     hlc_store mine = *store;
     hlcgo_part part;
-    part.code = hlc_scan_keys(&mine, id, from, from_len, to, to_len, out, out_len, &part.len, &part.many);
+    part.code = hlc_snapshot_scan_keys(&mine, id, from, from_len, to, to_len, out, out_len, &part.len, &part.many);
     return part;
 }
 
@@ -385,7 +388,8 @@ static inline hlcgo_part hlcgo_changes(const hlc_store *store, uint64_t before, 
 {
     hlc_store mine = *store;
     hlcgo_part part;
-    part.code = hlc_changes(&mine, before, after, from, from_len, to, to_len, out, out_len, &part.len, &part.many);
+    part.code = hlc_snapshot_changes(&mine, before, after, from, from_len, to, to_len, out, out_len, &part.len,
+                                     &part.many);
     return part;
 }
 
@@ -394,7 +398,7 @@ static inline hlcgo_answer hlcgo_count(const hlc_store *store, uint64_t id, cons
 {
     hlc_store mine = *store;
     hlcgo_answer answer;
-    answer.code = hlc_count(&mine, id, from, from_len, to, to_len, &answer.word);
+    answer.code = hlc_snapshot_count(&mine, id, from, from_len, to, to_len, &answer.word);
     return answer;
 }
 
@@ -409,7 +413,7 @@ static inline hlcgo_digest_of hlcgo_digest(const hlc_store *store, uint64_t id, 
     hlc_store mine = *store;
     hlcgo_digest_of digest = { 0 };
     size_t len;
-    digest.code = hlc_digest(&mine, id, from, from_len, to, to_len, digest.bytes, sizeof digest.bytes, &len);
+    digest.code = hlc_snapshot_digest(&mine, id, from, from_len, to, to_len, digest.bytes, sizeof digest.bytes, &len);
     return digest;
 }
 
@@ -418,7 +422,7 @@ static inline hlcgo_part hlcgo_versions(const hlc_store *store, const uint8_t *k
 {
     hlc_store mine = *store;
     hlcgo_part part;
-    part.code = hlc_versions(&mine, key, key_len, above, to, out, out_len, &part.len, &part.many);
+    part.code = hlc_store_versions(&mine, key, key_len, above, to, out, out_len, &part.len, &part.many);
     return part;
 }
 
@@ -428,7 +432,7 @@ static inline hlcgo_answer hlcgo_floor(const hlc_store *store)
 {
     hlc_store mine = *store;
     hlcgo_answer answer;
-    answer.code = hlc_floor(&mine, &answer.word);
+    answer.code = hlc_store_floor(&mine, &answer.word);
     return answer;
 }
 
@@ -436,7 +440,7 @@ static inline hlcgo_answer hlcgo_floor_node(const hlc_store *store)
 {
     hlc_store mine = *store;
     hlcgo_answer answer;
-    answer.code = hlc_floor_node(&mine, &answer.word);
+    answer.code = hlc_store_floor_node(&mine, &answer.word);
     return answer;
 }
 
@@ -444,7 +448,7 @@ static inline hlcgo_answer hlcgo_horizon(const hlc_store *store)
 {
     hlc_store mine = *store;
     hlcgo_answer answer;
-    answer.code = hlc_horizon(&mine, &answer.word);
+    answer.code = hlc_store_horizon(&mine, &answer.word);
     return answer;
 }
 
@@ -452,7 +456,7 @@ static inline hlcgo_answer hlcgo_nodes(const hlc_store *store)
 {
     hlc_store mine = *store;
     hlcgo_answer answer;
-    answer.code = hlc_nodes(&mine, &answer.word);
+    answer.code = hlc_store_nodes(&mine, &answer.word);
     return answer;
 }
 
@@ -460,7 +464,7 @@ static inline hlcgo_answer hlcgo_rows(const hlc_store *store)
 {
     hlc_store mine = *store;
     hlcgo_answer answer;
-    answer.code = hlc_rows(&mine, &answer.word);
+    answer.code = hlc_store_rows(&mine, &answer.word);
     return answer;
 }
 
@@ -473,7 +477,7 @@ static inline hlcgo_sizes_of hlcgo_sizes(const hlc_store *store)
 {
     hlc_store mine = *store;
     hlcgo_sizes_of sizes;
-    sizes.code = hlc_sizes(&mine, &sizes.rows, &sizes.keys, &sizes.key_bytes, &sizes.value_bytes);
+    sizes.code = hlc_store_size(&mine, &sizes.rows, &sizes.keys, &sizes.key_bytes, &sizes.value_bytes);
     return sizes;
 }
 
@@ -487,7 +491,7 @@ static inline hlcgo_link_of hlcgo_link(const hlc_store *store, uint16_t node)
 {
     hlc_store mine = *store;
     hlcgo_link_of link = { 0 };
-    link.code = hlc_link(&mine, node, &link.next, &link.head, &link.retired);
+    link.code = hlc_store_link(&mine, node, &link.next, &link.head, &link.retired);
     return link;
 }
 
@@ -501,14 +505,15 @@ typedef struct {
 static inline hlcgo_vacuumed hlcgo_vacuum(hlc_store *store)
 {
     hlcgo_vacuumed vacuumed;
-    vacuumed.code = hlc_vacuum(store, &vacuumed.word, &vacuumed.kept, &vacuumed.bytes, &vacuumed.dropped);
+    vacuumed.code = hlc_store_vacuum(store, &vacuumed.word, &vacuumed.kept, &vacuumed.bytes, &vacuumed.dropped);
     return vacuumed;
 }
 
 static inline hlcgo_vacuumed hlcgo_vacuum_to(hlc_store *store, uint64_t stamp)
 {
     hlcgo_vacuumed vacuumed;
-    vacuumed.code = hlc_vacuum_to(store, stamp, &vacuumed.word, &vacuumed.kept, &vacuumed.bytes, &vacuumed.dropped);
+    vacuumed.code = hlc_store_vacuum_to(store, stamp, &vacuumed.word, &vacuumed.kept, &vacuumed.bytes,
+                                        &vacuumed.dropped);
     return vacuumed;
 }
 
@@ -523,9 +528,9 @@ static inline hlcgo_vacuum_part_of hlcgo_vacuum_part(hlc_store *store, uint64_t 
                                                      size_t after_len, size_t most)
 {
     hlcgo_vacuum_part_of part = { 0 };
-    part.done.code = hlc_vacuum_part(store, stamp, after, after_len, most, &part.done.word, &part.done.kept,
-                                     &part.done.bytes, &part.done.dropped, part.last, sizeof part.last, &part.len,
-                                     &part.more);
+    part.done.code = hlc_store_vacuum_part(store, stamp, after, after_len, most, &part.done.word, &part.done.kept,
+                                           &part.done.bytes, &part.done.dropped, part.last, sizeof part.last, &part.len,
+                                           &part.more);
     return part;
 }
 
@@ -533,14 +538,14 @@ static inline hlcgo_answer hlcgo_check_vacuum(const hlc_store *store, uint64_t s
 {
     hlc_store mine = *store;
     hlcgo_answer answer;
-    answer.code = hlc_check_vacuum(&mine, stamp, &answer.word);
+    answer.code = hlc_store_check_vacuum(&mine, stamp, &answer.word);
     return answer;
 }
 
 static inline hlcgo_vacuumed hlcgo_check(const uint8_t *text, size_t text_len)
 {
     hlcgo_vacuumed checked = { 0 };
-    checked.code = hlc_check(text, text_len, &checked.kept, &checked.bytes, &checked.word);
+    checked.code = hlc_certificate_check(text, text_len, &checked.kept, &checked.bytes, &checked.word);
     return checked;
 }
 
@@ -557,7 +562,7 @@ static inline hlcgo_made hlcgo_certificate(const hlc_store *store, uint64_t stam
 {
     hlc_store mine = *store;
     hlcgo_made made = { 0 };
-    made.code = hlc_certificate(&mine, stamp, &made.word, &made.kept, &made.bytes, &made.output, &made.len);
+    made.code = hlc_certificate_make(&mine, stamp, &made.word, &made.kept, &made.bytes, &made.output, &made.len);
     return made;
 }
 
@@ -565,7 +570,7 @@ static inline hlcgo_made hlcgo_checkpoint(const hlc_store *store, uint64_t word)
 {
     hlc_store mine = *store;
     hlcgo_made made = { 0 };
-    made.code = hlc_checkpoint(&mine, word, &made.output, &made.len);
+    made.code = hlc_checkpoint_make(&mine, word, &made.output, &made.len);
     return made;
 }
 
@@ -573,7 +578,7 @@ static inline hlcgo_made hlcgo_increment(const hlc_store *store, uint64_t since,
 {
     hlc_store mine = *store;
     hlcgo_made made = { 0 };
-    made.code = hlc_increment(&mine, since, word, &made.output, &made.len, &made.word);
+    made.code = hlc_increment_make(&mine, since, word, &made.output, &made.len, &made.word);
     return made;
 }
 
@@ -592,8 +597,8 @@ typedef struct {
 static inline hlcgo_parts hlcgo_split(const uint8_t *bytes, size_t bytes_len, const uint8_t *key, size_t key_len)
 {
     hlcgo_parts made = { { 0 }, { 0 } };
-    made.left.code = hlc_split(bytes, bytes_len, key, key_len, &made.left.output, &made.right.output, &made.left.len,
-                               &made.right.len, &made.left.word);
+    made.left.code = hlc_checkpoint_split(bytes, bytes_len, key, key_len, &made.left.output, &made.right.output,
+                                          &made.left.len, &made.right.len, &made.left.word);
     made.right.code = made.left.code;
     made.right.word = made.left.word;
     return made;
@@ -602,7 +607,7 @@ static inline hlcgo_parts hlcgo_split(const uint8_t *bytes, size_t bytes_len, co
 static inline hlcgo_made hlcgo_merge(const uint8_t *left, size_t left_len, const uint8_t *right, size_t right_len)
 {
     hlcgo_made made = { 0 };
-    made.code = hlc_merge(left, left_len, right, right_len, &made.output, &made.len, &made.word);
+    made.code = hlc_checkpoint_merge(left, left_len, right, right_len, &made.output, &made.len, &made.word);
     return made;
 }
 
@@ -634,14 +639,14 @@ static inline hlcgo_part hlcgo_saving_read(hlc_saving *saving, const hlc_store *
 static inline hlcgo_answer hlcgo_restore(hlc_store *store, const uint8_t *bytes, size_t bytes_len)
 {
     hlcgo_answer answer;
-    answer.code = hlc_restore(store, bytes, bytes_len, &answer.word);
+    answer.code = hlc_store_restore(store, bytes, bytes_len, &answer.word);
     return answer;
 }
 
 static inline hlcgo_answer hlcgo_restore_finish(hlc_restoring *restoring, hlc_store *store)
 {
     hlcgo_answer answer;
-    answer.code = hlc_restore_finish(restoring, store, &answer.word);
+    answer.code = hlc_restoring_finish(restoring, store, &answer.word);
     return answer;
 }
 

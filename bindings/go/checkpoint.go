@@ -143,10 +143,10 @@ func writePieces(w io.Writer, read func(out *C.uint8_t, outLen C.size_t) C.hlcgo
 // bytes is found before their end.
 func Restore(r io.Reader) (*Store, uint64, error) {
 	var pieces restoring
-	if err := refusal(C.hlc_restore_start(&pieces.raw), 0); err != nil {
+	if err := refusal(C.hlc_restoring_start(&pieces.raw), 0); err != nil {
 		return nil, 0, err
 	}
-	defer C.hlc_restore_drop(&pieces.raw)
+	defer C.hlc_restoring_drop(&pieces.raw)
 	if _, err := io.Copy(&pieces, r); err != nil {
 		return nil, 0, err
 	}
@@ -173,7 +173,7 @@ type restoring struct{ raw C.hlc_restoring }
 
 func (p *restoring) Write(piece []byte) (int, error) {
 	bytes, bytesLen := pointer(piece)
-	if code := C.hlc_restore_feed(&p.raw, bytes, bytesLen); code != C.HLC_OK {
+	if code := C.hlc_restoring_feed(&p.raw, bytes, bytesLen); code != C.HLC_OK {
 		return 0, refusal(code, 0)
 	}
 	return len(piece), nil

@@ -110,7 +110,7 @@ func (s *Store) CloseSnapshot(id uint64) (Stamp, error) {
 func (s *Store) CloseAll() error {
 	s.mu.Lock()
 	defer s.mu.Unlock()
-	return refusal(C.hlc_close_all(&s.raw), 0)
+	return refusal(C.hlc_snapshot_close_all(&s.raw), 0)
 }
 
 // Close closes the snapshot; then its calls are refused with ErrNoSnapshot. A snapshot that was closed before, by
@@ -225,8 +225,8 @@ func (v *Snapshot) Count(from, to []byte) (uint64, error) {
 	return uint64(answer.word), refusal(answer.code, 0)
 }
 
-// Digest returns the SHA-256 of such a range, so that replicas compare without listing: of the bytes that hlc_list
-// writes for these keys.
+// Digest returns the SHA-256 of such a range, so that replicas compare without listing: of the bytes that
+// hlc_snapshot_list writes for these keys.
 //
 // Refusal: ErrNoSnapshot.
 func (v *Snapshot) Digest(from, to []byte) ([32]byte, error) {

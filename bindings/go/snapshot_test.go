@@ -331,7 +331,7 @@ func TestChangesLeadFromOneSnapshotToAnother(t *testing.T) {
 	refused(t, foreign.Close(), hlcstore.ErrNoSnapshot, 0)
 }
 
-// listed returns pairs in the form of hlc_list, whose SHA-256 is their digest.
+// listed returns pairs in the form of hlc_snapshot_list, whose SHA-256 is their digest.
 func listed(keys, values []string) []byte {
 	var out bytes.Buffer
 	for i := range keys {

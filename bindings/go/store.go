@@ -27,7 +27,7 @@ var closedStore Store
 // Refusal: ErrNoNode, where it is another number.
 func Open(nodes uint16) (*Store, error) {
 	store := new(Store)
-	if code := C.hlc_open(&store.raw, C.uint16_t(nodes)); code != C.HLC_OK {
+	if code := C.hlc_store_open(&store.raw, C.uint16_t(nodes)); code != C.HLC_OK {
 		return nil, refusal(code, 0)
 	}
 	return watched(store), nil
@@ -45,7 +45,7 @@ func watched(store *Store) *Store {
 func (s *Store) Close() error {
 	s.mu.Lock()
 	defer s.mu.Unlock()
-	C.hlc_close(&s.raw)
+	C.hlc_store_close(&s.raw)
 	s.scratch = batch{}
 	if s.watched {
 		runtime.SetFinalizer(s, nil)

@@ -86,7 +86,7 @@ static size_t apply_batch(uint64_t *threshold)
 {
     size_t used, many;
     uint64_t word;
-    check(hlc_records_apply(&store, batch.records, batch.len, &used, &many, threshold, &word), "log");
+    check(hlc_store_apply_records(&store, batch.records, batch.len, &used, &many, threshold, &word), "log");
     return many;
 }
 
@@ -105,8 +105,8 @@ static void vacuum(uint64_t stamp)
     uint64_t word, kept, bytes, dropped, parts = 0, all_dropped = 0;
     size_t len = 0;
     for (bool more = true; more; parts++, all_dropped += dropped) {
-        check(hlc_vacuum_part(&store, stamp, after, len, KEYS_PER_PART, &word, &kept, &bytes, &dropped, last,
-                              sizeof last, &len, &more), "vacuum");
+        check(hlc_store_vacuum_part(&store, stamp, after, len, KEYS_PER_PART, &word, &kept, &bytes, &dropped, last,
+                                    sizeof last, &len, &more), "vacuum");
         memcpy(after, last, len);
     }
     printf("vacuum to " STAMP ": parts %" PRIu64 ", rows dropped %" PRIu64 "\n", PARTS(stamp), parts, all_dropped);
@@ -116,7 +116,7 @@ static void vacuum(uint64_t stamp)
 static void retain(uint64_t stamp)
 {
     size_t len;
-    check(hlc_record_threshold(stamp, batch.records, ROOM, &len), "threshold");
+    check(hlc_record_encode_threshold(stamp, batch.records, ROOM, &len), "threshold");
     batch.len = (uint32_t)len;
     batch.crc = batch_crc();
     append_batch();
@@ -132,9 +132,9 @@ static bool restore(hlc_store *opened, const char *name)
     FILE *file = fopen(name, "rb");
     if (file == NULL && errno == ENOENT) return false;
     need(file != NULL, name);
-    check(hlc_restore_start(&restoring), name);
-    while ((len = fread(piece, 1, sizeof piece, file)) > 0) check(hlc_restore_feed(&restoring, piece, len), name);
-    check(hlc_restore_finish(&restoring, opened, &word), name);
+    check(hlc_restoring_start(&restoring), name);
+    while ((len = fread(piece, 1, sizeof piece, file)) > 0) check(hlc_restoring_feed(&restoring, piece, len), name);
+    check(hlc_restoring_finish(&restoring, opened, &word), name);
     fclose(file);
     return true;
 }
@@ -156,7 +156,7 @@ static void save(void)
         need(fwrite(piece, 1, len, file) == len, "new");
     }
     need(sync_file(file) && fclose(file) == 0 && restore(&copy, "new"), "new");
-    hlc_close(&copy);
+    hlc_store_close(&copy);
     need(rename("new", "checkpoint") == 0 && fsync(folder) == 0, "checkpoint");
 }
 
@@ -171,7 +171,7 @@ static void replay(void)
     size_t records = 0;
     uint64_t horizon, threshold;
     long end = 0;
-    check(hlc_horizon(&store, &horizon), "store");
+    check(hlc_store_horizon(&store, &horizon), "store");
     for (; read_batch(); end = ftell(log_file)) {
         records += apply_batch(&threshold);
         if (threshold > horizon) horizon = threshold;
@@ -189,7 +189,7 @@ static uint64_t restore_nodes(void)
     uint64_t next, head;
     bool retired = false;
     for (uint16_t id = 0; id < NODES; id++) {
-        check(hlc_link(&store, id, &next, &head, &retired), "node");
+        check(hlc_store_link(&store, id, &next, &head, &retired), "node");
         check(hlc_node_restore(id, head, next, &nodes[id]), "node");
     }
     return nodes[0].next;
@@ -199,8 +199,8 @@ static uint64_t restore_nodes(void)
 static uint64_t open_folder(const char *path)
 {
     need(chdir(path) == 0 && (folder = open(".", O_RDONLY)) >= 0, path);
-    if (!restore(&store, "checkpoint")) check(hlc_open(&store, NODES), "store");
-    check(hlc_close_all(&store), "store"); /* Those who read before the stop are gone. */
+    if (!restore(&store, "checkpoint")) check(hlc_store_open(&store, NODES), "store");
+    check(hlc_snapshot_close_all(&store), "store"); /* Those who read before the stop are gone. */
     printf("checkpoint: writes %" PRIu64 "\n", restore_nodes());
     log_file = fopen("log", "a+b");
     need(log_file != NULL && fsync(folder) == 0, "log"); /* The log's name is on disk. */
@@ -217,9 +217,10 @@ static uint64_t issue(uint64_t number, uint64_t reading)
     uint64_t place, stamp, reported;
     size_t value_len = (size_t)snprintf((char *)value, sizeof value, "%" PRIu64, number), len, more;
     check(hlc_node_write(writer, reading, key, KEY_LEN, value, value_len, &place, &stamp), "write");
-    check(hlc_item_write(writer->id, place, stamp, key, KEY_LEN, value, value_len, batch.records, ROOM, &len), "write");
+    check(hlc_item_encode_write(writer->id, place, stamp, key, KEY_LEN, value, value_len, batch.records, ROOM, &len),
+          "write");
     check(hlc_node_report(other, reading, &place, &reported), "report");
-    check(hlc_item_report(other->id, place, reported, batch.records + len, ROOM - len, &more), "report");
+    check(hlc_item_encode_report(other->id, place, reported, batch.records + len, ROOM - len, &more), "report");
     batch.len = (uint32_t)(len + more);
     batch.crc = batch_crc();
     return stamp;
@@ -241,11 +242,11 @@ static void show(const char *when, uint64_t id)
     const uint8_t *at = piece;
     uint64_t stamp;
     size_t value_len, len, many;
-    uint32_t code = hlc_read(&store, id, (const uint8_t *)"oak", KEY_LEN, value, sizeof value, &value_len);
+    uint32_t code = hlc_snapshot_read(&store, id, (const uint8_t *)"oak", KEY_LEN, value, sizeof value, &value_len);
     if (code == HLC_NO_VALUE) value_len = strlen("none");
     else check(code, "read");
-    check(hlc_scan(&store, id, NULL, 0, NULL, 0, piece, sizeof piece, &len, &many), "list");
-    check(hlc_close_snapshot(&store, id, &stamp), "snapshot");
+    check(hlc_snapshot_scan(&store, id, NULL, 0, NULL, 0, piece, sizeof piece, &len, &many), "list");
+    check(hlc_snapshot_close(&store, id, &stamp), "snapshot");
     printf("%s " STAMP ": oak %.*s, list", when, PARTS(stamp), (int)value_len, (char *)value);
     for (; many > 0; many--) at = print_part('=', print_part(' ', at));
     putchar('\n');
@@ -257,7 +258,7 @@ int main(int many, char **words)
     if (many < 3) return 2;
     first = open_folder(words[1]);
     last = first + strtoull(words[2], NULL, 10);
-    check(hlc_open_snapshot_at_floor(&store, &past, &floor), "snapshot");
+    check(hlc_snapshot_open_at_floor(&store, &past, &floor), "snapshot");
     printf("open: writes %" PRIu64 ", floor " STAMP "\n", first, PARTS(floor));
     for (uint64_t number = first; number < last; number++) {
         stamp = issue(number, TICK * (number - first + 1));
@@ -269,7 +270,7 @@ int main(int many, char **words)
         cut_log(0); /* The checkpoint has all of it. */
     }
     show("past", past);
-    check(hlc_open_snapshot_at_floor(&store, &now, &floor), "snapshot");
+    check(hlc_snapshot_open_at_floor(&store, &now, &floor), "snapshot");
     show("now", now);
     retain(floor >> 16 > RETENTION ? ((floor >> 16) - RETENTION) << 16 : 0);
     if (many > 3) {

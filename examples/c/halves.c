@@ -52,7 +52,7 @@ static struct bytes checkpoint_of(hlc_store *store)
 {
     hlc_output output = HLC_NO_OUTPUT;
     size_t len;
-    uint32_t code = hlc_checkpoint(store, 7, &output, &len);
+    uint32_t code = hlc_checkpoint_make(store, 7, &output, &len);
     expect("checkpoint", code, 0, HLC_OK, 0);
     return taken(&output, len);
 }
@@ -64,9 +64,10 @@ static void give(hlc_store *stores, int many, uint16_t node, uint64_t number, ui
     uint64_t word;
     for (int i = 0; i < many; i++) {
         int is_here = i == 0 || (i == 1) == (key < BOUND);
-        uint32_t code = !is_here          ? hlc_accept_report(&stores[i], node, number, stamp, &word)
-                        : number % 5 == 4 ? hlc_accept_delete(&stores[i], node, number, stamp, &key, 1, &word)
-                                          : hlc_accept_write(&stores[i], node, number, stamp, &key, 1, value, 2, &word);
+        uint32_t code = !is_here          ? hlc_store_accept_report(&stores[i], node, number, stamp, &word)
+                        : number % 5 == 4 ? hlc_store_accept_delete(&stores[i], node, number, stamp, &key, 1, &word)
+                                          : hlc_store_accept_write(&stores[i], node, number, stamp, &key, 1, value, 2,
+                                                                   &word);
         expect("accept", code, word, HLC_OK, stamp);
     }
 }
@@ -85,7 +86,7 @@ static void compare(hlc_store *stores)
 {
     uint64_t ids[3], stamps[3], word, kept[3], bytes, dropped;
     for (int i = 0; i < 3; i++) {
-        uint32_t code = hlc_open_snapshot_at_floor(&stores[i], &ids[i], &stamps[i]);
+        uint32_t code = hlc_snapshot_open_at_floor(&stores[i], &ids[i], &stamps[i]);
         expect("snapshot", code, stamps[i], HLC_OK, stamps[0]);
         expect("id", code, ids[i], HLC_OK, ids[0]);
     }
@@ -93,17 +94,17 @@ static void compare(hlc_store *stores)
         uint8_t value[3][8];
         size_t len[3];
         int half = key < BOUND ? 1 : 2;
-        uint32_t whole = hlc_read(&stores[0], ids[0], &key, 1, value[0], 8, &len[0]);
-        uint32_t code = hlc_read(&stores[half], ids[half], &key, 1, value[half], 8, &len[half]);
+        uint32_t whole = hlc_snapshot_read(&stores[0], ids[0], &key, 1, value[0], 8, &len[0]);
+        uint32_t code = hlc_snapshot_read(&stores[half], ids[half], &key, 1, value[half], 8, &len[half]);
         expect("read", code, len[half], whole, len[0]);
         if (memcmp(value[half], value[0], len[0]) != 0) expect("value", code, key, HLC_OK, 0);
-        code = hlc_read(&stores[3 - half], ids[3 - half], &key, 1, value[1], 8, &len[1]);
+        code = hlc_snapshot_read(&stores[3 - half], ids[3 - half], &key, 1, value[1], 8, &len[1]);
         expect("read in the other half", code, len[1], HLC_NO_VALUE, 0);
     }
     for (int i = 0; i < 3; i++) {
-        uint32_t code = hlc_close_snapshot(&stores[i], ids[i], &word);
+        uint32_t code = hlc_snapshot_close(&stores[i], ids[i], &word);
         expect("close", code, word, HLC_OK, stamps[0]);
-        code = hlc_vacuum_to(&stores[i], stamps[0], &word, &kept[i], &bytes, &dropped);
+        code = hlc_store_vacuum_to(&stores[i], stamps[0], &word, &kept[i], &bytes, &dropped);
         expect("vacuum", code, word, HLC_OK, stamps[0]);
     }
     expect("kept", HLC_OK, kept[1] + kept[2], HLC_OK, kept[0]);
@@ -116,9 +117,9 @@ static void refuse(hlc_store *left, hlc_store *right, uint64_t reason)
     struct bytes lower = checkpoint_of(left), upper = checkpoint_of(right);
     uint64_t word;
     size_t len;
-    uint32_t code = hlc_merge(lower.at, lower.len, upper.at, upper.len, &output, &len, &word);
+    uint32_t code = hlc_checkpoint_merge(lower.at, lower.len, upper.at, upper.len, &output, &len, &word);
     expect("merge", code, word, HLC_NOT_PARTS, reason);
-    code = hlc_merge(lower.at, lower.len, upper.at, upper.len - 1, &output, &len, &word);
+    code = hlc_checkpoint_merge(lower.at, lower.len, upper.at, upper.len - 1, &output, &len, &word);
     expect("merge of cut bytes", code, len + word, HLC_BAD_BYTES, 1);
     free(lower.at);
     free(upper.at);
@@ -132,21 +133,21 @@ static void join(hlc_store *stores, const uint64_t *numbers, uint64_t time)
     uint64_t word, kept, cost, dropped, id;
     size_t len;
     struct bytes whole = checkpoint_of(&stores[0]), left = checkpoint_of(&stores[1]), right = checkpoint_of(&stores[2]);
-    uint32_t code = hlc_merge(left.at, left.len, right.at, right.len, &output, &len, &word);
+    uint32_t code = hlc_checkpoint_merge(left.at, left.len, right.at, right.len, &output, &len, &word);
     expect("merge", code, word, HLC_OK, 0);
     struct bytes both = taken(&output, len);
     if (both.len != whole.len || memcmp(both.at, whole.at, whole.len) != 0) expect("joined", code, 0, HLC_OK, 1);
     refuse(&stores[2], &stores[1], 4);
     for (uint16_t node = 0; node < NODES; node++) give(stores, 3, node, numbers[node], AT(++time), BOUND);
-    code = hlc_vacuum(&stores[2], &word, &kept, &cost, &dropped);
+    code = hlc_store_vacuum(&stores[2], &word, &kept, &cost, &dropped);
     expect("vacuum of a half", code, 0, HLC_OK, 0);
     refuse(&stores[1], &stores[2], 3);
-    code = hlc_open_snapshot(&stores[2], AT(time), &id);
+    code = hlc_snapshot_open(&stores[2], AT(time), &id);
     expect("snapshot above the floor", code, id, HLC_ABOVE_FLOOR, AT(time - NODES + 1));
-    code = hlc_open_snapshot_at_floor(&stores[2], &id, &word);
+    code = hlc_snapshot_open_at_floor(&stores[2], &id, &word);
     expect("snapshot of a half", code, 0, HLC_OK, 0);
     refuse(&stores[1], &stores[2], 2);
-    code = hlc_accept_report(&stores[1], 0, numbers[0] + 1, AT(++time), &word);
+    code = hlc_store_accept_report(&stores[1], 0, numbers[0] + 1, AT(++time), &word);
     expect("report", code, word, HLC_OK, AT(time));
     refuse(&stores[1], &stores[2], 1);
     free(whole.at);
@@ -163,16 +164,17 @@ static void divide(void)
     uint64_t numbers[NODES] = { 0 }, time = 0, word;
     size_t len[2], none[2];
     const uint8_t bound = BOUND;
-    expect("open", hlc_open(&stores[0], NODES), 0, HLC_OK, 0);
+    expect("open", hlc_store_open(&stores[0], NODES), 0, HLC_OK, 0);
     write_on(stores, 1, numbers, &time, 40 + (int)pick(200));
     struct bytes whole = checkpoint_of(&stores[0]);
-    uint32_t code = hlc_split(whole.at, whole.len, &bound, 1, &outputs[0], &outputs[1], &len[0], &len[1], &word);
+    uint32_t code = hlc_checkpoint_split(whole.at, whole.len, &bound, 1, &outputs[0], &outputs[1], &len[0], &len[1],
+                                         &word);
     expect("split", code, word, HLC_OK, 0);
-    code = hlc_split(whole.at, whole.len, &bound, 1, &outputs[0], &outputs[1], &none[0], &none[1], &word);
+    code = hlc_checkpoint_split(whole.at, whole.len, &bound, 1, &outputs[0], &outputs[1], &none[0], &none[1], &word);
     expect("split into full outputs", code, none[0] + none[1] + word, HLC_HAS_BYTES, 0);
     for (int i = 0; i < 2; i++) {
         struct bytes half = taken(&outputs[i], len[i]);
-        code = hlc_restore(&stores[i + 1], half.at, half.len, &word);
+        code = hlc_store_restore(&stores[i + 1], half.at, half.len, &word);
         expect("restore", code, word, HLC_OK, 7);
         free(half.at);
     }
@@ -180,7 +182,7 @@ static void divide(void)
     write_on(stores, 3, numbers, &time, 40 + (int)pick(200));
     compare(stores);
     join(stores, numbers, time);
-    for (int i = 0; i < 3; i++) hlc_close(&stores[i]);
+    for (int i = 0; i < 3; i++) hlc_store_close(&stores[i]);
 }
 
 int main(void)

@@ -104,41 +104,41 @@ static void read_whole(void)
     hlc_value value;
     hlc_change change;
     hlc_key_version version;
-    EXPECT(hlc_next_pair(&none, &pair), false);
-    EXPECT(hlc_next_pair(&rest, &pair) && is(pair.key, "a") && is(pair.value, "xy"), true);
-    EXPECT(hlc_next_pair(&rest, &pair) && is(pair.key, "bc") && is(pair.value, ""), true);
-    EXPECT(hlc_next_pair(&rest, &pair) || rest.len > 0 || !is_none(pair.key) || !is_none(pair.value), false);
+    EXPECT(hlc_pair_next(&none, &pair), false);
+    EXPECT(hlc_pair_next(&rest, &pair) && is(pair.key, "a") && is(pair.value, "xy"), true);
+    EXPECT(hlc_pair_next(&rest, &pair) && is(pair.key, "bc") && is(pair.value, ""), true);
+    EXPECT(hlc_pair_next(&rest, &pair) || rest.len > 0 || !is_none(pair.key) || !is_none(pair.value), false);
     rest.at = (const uint8_t *)two_keys, rest.len = sizeof two_keys - 1;
-    EXPECT(hlc_next_key(&rest, &key) && is(key, "a"), true);
-    EXPECT(hlc_next_key(&rest, &key) && is(key, "bcd"), true);
-    EXPECT(hlc_next_key(&rest, &key) || rest.len > 0 || !is_none(key), false);
+    EXPECT(hlc_key_next(&rest, &key) && is(key, "a"), true);
+    EXPECT(hlc_key_next(&rest, &key) && is(key, "bcd"), true);
+    EXPECT(hlc_key_next(&rest, &key) || rest.len > 0 || !is_none(key), false);
     rest.at = (const uint8_t *)two_values, rest.len = sizeof two_values - 1;
-    EXPECT(hlc_next_value(&rest, &value) && !value.exists && is_none(value.bytes), true);
-    EXPECT(hlc_next_value(&rest, &value) && value.exists && is(value.bytes, "xy"), true);
-    EXPECT(hlc_next_value(&rest, &value) || rest.len > 0 || value.exists || !is_none(value.bytes), false);
+    EXPECT(hlc_value_next(&rest, &value) && !value.exists && is_none(value.bytes), true);
+    EXPECT(hlc_value_next(&rest, &value) && value.exists && is(value.bytes, "xy"), true);
+    EXPECT(hlc_value_next(&rest, &value) || rest.len > 0 || value.exists || !is_none(value.bytes), false);
     rest.at = (const uint8_t *)two_changes, rest.len = sizeof two_changes - 1;
-    EXPECT(hlc_next_change(&rest, &change) && is(change.key, "a") && is(change.value.bytes, "xy"), true);
-    EXPECT(hlc_next_change(&rest, &change) && is(change.key, "b") && !change.value.exists, true);
-    EXPECT(hlc_next_change(&rest, &change) || rest.len > 0 || !is_none(change.key), false);
+    EXPECT(hlc_change_next(&rest, &change) && is(change.key, "a") && is(change.value.bytes, "xy"), true);
+    EXPECT(hlc_change_next(&rest, &change) && is(change.key, "b") && !change.value.exists, true);
+    EXPECT(hlc_change_next(&rest, &change) || rest.len > 0 || !is_none(change.key), false);
     rest.at = (const uint8_t *)two_versions, rest.len = sizeof two_versions - 1;
-    EXPECT(hlc_next_version(&rest, &version) && version.value.exists && is(version.value.bytes, "x"), true);
+    EXPECT(hlc_key_version_next(&rest, &version) && version.value.exists && is(version.value.bytes, "x"), true);
     EXPECT(version.stamp, UINT64_C(0x0807060504030201));
     EXPECT(version.node, 0x0A09);
-    EXPECT(hlc_next_version(&rest, &version) && !version.value.exists && is_none(version.value.bytes), true);
+    EXPECT(hlc_key_version_next(&rest, &version) && !version.value.exists && is_none(version.value.bytes), true);
     EXPECT(version.stamp, 1);
     EXPECT(version.node, 0);
-    EXPECT(hlc_next_version(&rest, &version) || rest.len > 0 || version.stamp > 0, false);
+    EXPECT(hlc_key_version_next(&rest, &version) || rest.len > 0 || version.stamp > 0, false);
 }
 
 /* Reads with each reader, of which the number is one. What is written is looked at by its bytes alone. */
 static bool next(int reader, hlc_bytes *rest, void *into)
 {
     switch (reader) {
-    case 0: return hlc_next_pair(rest, (hlc_pair *)into);
-    case 1: return hlc_next_key(rest, (hlc_bytes *)into);
-    case 2: return hlc_next_value(rest, (hlc_value *)into);
-    case 3: return hlc_next_change(rest, (hlc_change *)into);
-    default: return hlc_next_version(rest, (hlc_key_version *)into);
+    case 0: return hlc_pair_next(rest, (hlc_pair *)into);
+    case 1: return hlc_key_next(rest, (hlc_bytes *)into);
+    case 2: return hlc_value_next(rest, (hlc_value *)into);
+    case 3: return hlc_change_next(rest, (hlc_change *)into);
+    default: return hlc_key_version_next(rest, (hlc_key_version *)into);
     }
 }
 
@@ -220,14 +220,17 @@ static size_t write_item(const hlc_item *item, uint8_t *out, size_t room)
     hlc_answer answer = HLC_OK;
     switch (item->kind) {
     case HLC_ITEM_WRITE:
-        answer = hlc_item_write(item->node, item->number, item->stamp, item->key.at, item->key.len, item->value.at,
-                                item->value.len, out, room, &len);
+        answer = hlc_item_encode_write(item->node, item->number, item->stamp, item->key.at, item->key.len,
+                                       item->value.at, item->value.len, out, room, &len);
         break;
     case HLC_ITEM_DELETE:
-        answer = hlc_item_delete(item->node, item->number, item->stamp, item->key.at, item->key.len, out, room, &len);
+        answer = hlc_item_encode_delete(item->node, item->number, item->stamp, item->key.at, item->key.len, out, room,
+                                        &len);
         break;
-    case HLC_ITEM_REPORT: answer = hlc_item_report(item->node, item->number, item->stamp, out, room, &len); break;
-    case HLC_ITEM_RETIRE: answer = hlc_item_retire(item->node, item->number, item->stamp, out, room, &len); break;
+    case HLC_ITEM_REPORT: answer = hlc_item_encode_report(item->node, item->number, item->stamp, out, room,
+                                                          &len); break;
+    case HLC_ITEM_RETIRE: answer = hlc_item_encode_retire(item->node, item->number, item->stamp, out, room,
+                                                          &len); break;
     }
     EXPECT(answer, HLC_OK);
     return len;
@@ -242,8 +245,8 @@ static bool reads_as_library(hlc_store *store, const uint8_t *bytes, size_t len)
     size_t used, many;
     uint64_t word;
     hlc_item item;
-    const bool is_bad = hlc_items_accept(store, bytes, len, &used, &many, &word) == HLC_BAD_BYTES && many == 0;
-    if (!hlc_next_item(&rest, &item)) return (is_bad || len == 0) && rest.at == bytes && rest.len == len;
+    const bool is_bad = hlc_store_accept_items(store, bytes, len, &used, &many, &word) == HLC_BAD_BYTES && many == 0;
+    if (!hlc_item_next(&rest, &item)) return (is_bad || len == 0) && rest.at == bytes && rest.len == len;
     used = (size_t)(rest.at - bytes);
     return !is_bad && write_item(&item, again, sizeof again) == used && memcmp(bytes, again, used) == 0;
 }
@@ -259,13 +262,13 @@ static void read_items(void)
         { HLC_ITEM_RETIRE, 0, 1, 2, { NONE }, { NONE } },
     };
     hlc_store store = HLC_CLOSED_STORE;
-    EXPECT(hlc_open(&store, 1), HLC_OK);
+    EXPECT(hlc_store_open(&store, 1), HLC_OK);
     for (size_t i = 0; i < sizeof items / sizeof items[0]; i++) {
         uint8_t bytes[64] = { 0 };
         const size_t len = write_item(&items[i], bytes, sizeof bytes);
         hlc_bytes rest = { bytes, len };
         hlc_item item;
-        EXPECT(hlc_next_item(&rest, &item) && rest.len == 0, true);
+        EXPECT(hlc_item_next(&rest, &item) && rest.len == 0, true);
         EXPECT(item.kind, items[i].kind);
         EXPECT(item.node, items[i].node);
         EXPECT(item.number, items[i].number);
@@ -282,7 +285,7 @@ static void read_items(void)
             bytes[at] = was;
         }
     }
-    hlc_close(&store);
+    hlc_store_close(&store);
 }
 
 /* ---- With a store ---- */
@@ -291,11 +294,11 @@ static void read_items(void)
 static void fill(hlc_store *store)
 {
     uint64_t word;
-    EXPECT(hlc_open(store, 1), HLC_OK);
-    EXPECT(hlc_accept_write(store, 0, 0, HLC_STAMP(1, 0), BYTES("a"), BYTES("x"), &word), HLC_OK);
-    EXPECT(hlc_accept_write(store, 0, 1, HLC_STAMP(2, 0), BYTES("b"), BYTES("yy"), &word), HLC_OK);
-    EXPECT(hlc_accept_write(store, 0, 2, HLC_STAMP(3, 0), BYTES("cc"), BYTES(""), &word), HLC_OK);
-    EXPECT(hlc_accept_delete(store, 0, 3, HLC_STAMP(4, 0), BYTES("b"), &word), HLC_OK);
+    EXPECT(hlc_store_open(store, 1), HLC_OK);
+    EXPECT(hlc_store_accept_write(store, 0, 0, HLC_STAMP(1, 0), BYTES("a"), BYTES("x"), &word), HLC_OK);
+    EXPECT(hlc_store_accept_write(store, 0, 1, HLC_STAMP(2, 0), BYTES("b"), BYTES("yy"), &word), HLC_OK);
+    EXPECT(hlc_store_accept_write(store, 0, 2, HLC_STAMP(3, 0), BYTES("cc"), BYTES(""), &word), HLC_OK);
+    EXPECT(hlc_store_accept_delete(store, 0, 3, HLC_STAMP(4, 0), BYTES("b"), &word), HLC_OK);
 }
 
 /* What the calls of a store write is read as it was accepted. The store is const: HLC_COPY makes each copy. */
@@ -309,29 +312,29 @@ static void read_store(const hlc_store *store, uint64_t before, uint64_t after)
     hlc_value value;
     hlc_change change;
     hlc_key_version version;
-    EXPECT(hlc_list(HLC_COPY(store), before, out, sizeof out, &rest.len), HLC_OK);
-    EXPECT(hlc_next_pair(&rest, &pair) && is(pair.key, "a") && is(pair.value, "x"), true);
-    EXPECT(hlc_next_pair(&rest, &pair) && is(pair.key, "b") && is(pair.value, "yy"), true);
-    EXPECT(hlc_next_pair(&rest, &pair) && is(pair.key, "cc") && is(pair.value, ""), true);
-    EXPECT(hlc_next_pair(&rest, &pair) || rest.len > 0, false);
-    EXPECT(hlc_scan_keys(HLC_COPY(store), after, NONE, NONE, out, sizeof out, &len, &many), HLC_OK);
+    EXPECT(hlc_snapshot_list(HLC_COPY(store), before, out, sizeof out, &rest.len), HLC_OK);
+    EXPECT(hlc_pair_next(&rest, &pair) && is(pair.key, "a") && is(pair.value, "x"), true);
+    EXPECT(hlc_pair_next(&rest, &pair) && is(pair.key, "b") && is(pair.value, "yy"), true);
+    EXPECT(hlc_pair_next(&rest, &pair) && is(pair.key, "cc") && is(pair.value, ""), true);
+    EXPECT(hlc_pair_next(&rest, &pair) || rest.len > 0, false);
+    EXPECT(hlc_snapshot_scan_keys(HLC_COPY(store), after, NONE, NONE, out, sizeof out, &len, &many), HLC_OK);
     rest.at = out, rest.len = len;
-    EXPECT(hlc_next_key(&rest, &key) && is(key, "a") && hlc_next_key(&rest, &key) && is(key, "cc"), true);
-    EXPECT(hlc_next_key(&rest, &key) || rest.len > 0, false);
-    EXPECT(hlc_read_all(HLC_COPY(store), after, places, 2, BYTES("ab"), out, sizeof out, &len, &many), HLC_OK);
+    EXPECT(hlc_key_next(&rest, &key) && is(key, "a") && hlc_key_next(&rest, &key) && is(key, "cc"), true);
+    EXPECT(hlc_key_next(&rest, &key) || rest.len > 0, false);
+    EXPECT(hlc_snapshot_read_all(HLC_COPY(store), after, places, 2, BYTES("ab"), out, sizeof out, &len, &many), HLC_OK);
     rest.at = out, rest.len = len;
-    EXPECT(hlc_next_value(&rest, &value) && is(value.bytes, "x"), true);
-    EXPECT(hlc_next_value(&rest, &value) && !value.exists && rest.len == 0, true);
-    EXPECT(hlc_changes(HLC_COPY(store), before, after, NONE, NONE, out, sizeof out, &len, &many), HLC_OK);
+    EXPECT(hlc_value_next(&rest, &value) && is(value.bytes, "x"), true);
+    EXPECT(hlc_value_next(&rest, &value) && !value.exists && rest.len == 0, true);
+    EXPECT(hlc_snapshot_changes(HLC_COPY(store), before, after, NONE, NONE, out, sizeof out, &len, &many), HLC_OK);
     rest.at = out, rest.len = len;
-    EXPECT(hlc_next_change(&rest, &change) && is(change.key, "b") && !change.value.exists && rest.len == 0, true);
-    EXPECT(hlc_changes(HLC_COPY(store), after, before, NONE, NONE, out, sizeof out, &len, &many), HLC_OK);
+    EXPECT(hlc_change_next(&rest, &change) && is(change.key, "b") && !change.value.exists && rest.len == 0, true);
+    EXPECT(hlc_snapshot_changes(HLC_COPY(store), after, before, NONE, NONE, out, sizeof out, &len, &many), HLC_OK);
     rest.at = out, rest.len = len;
-    EXPECT(hlc_next_change(&rest, &change) && is(change.value.bytes, "yy") && rest.len == 0, true);
-    EXPECT(hlc_versions(HLC_COPY(store), BYTES("b"), 0, HLC_MAX_STAMP, out, sizeof out, &len, &many), HLC_OK);
+    EXPECT(hlc_change_next(&rest, &change) && is(change.value.bytes, "yy") && rest.len == 0, true);
+    EXPECT(hlc_store_versions(HLC_COPY(store), BYTES("b"), 0, HLC_MAX_STAMP, out, sizeof out, &len, &many), HLC_OK);
     rest.at = out, rest.len = len;
-    EXPECT(hlc_next_version(&rest, &version) && version.stamp == HLC_STAMP(4, 0) && !version.value.exists, true);
-    EXPECT(hlc_next_version(&rest, &version) && version.stamp == HLC_STAMP(2, 0) && version.node == 0, true);
+    EXPECT(hlc_key_version_next(&rest, &version) && version.stamp == HLC_STAMP(4, 0) && !version.value.exists, true);
+    EXPECT(hlc_key_version_next(&rest, &version) && version.stamp == HLC_STAMP(2, 0) && version.node == 0, true);
     EXPECT(is(version.value.bytes, "yy") && rest.len == 0, true);
 }
 
@@ -340,21 +343,21 @@ static void ask_store(const hlc_store *store)
     hlc_store_sizes sizes;
     hlc_link_state link;
     hlc_snapshot_info snapshot;
-    EXPECT(hlc_get_sizes(store, &sizes), HLC_OK);
+    EXPECT(hlc_store_get_sizes(store, &sizes), HLC_OK);
     EXPECT(sizes.rows, 4);
     EXPECT(sizes.keys, 3);
     EXPECT(sizes.key_bytes, 4);
     EXPECT(sizes.value_bytes, 3);
-    EXPECT(hlc_get_link(store, 0, &link), HLC_OK);
+    EXPECT(hlc_store_get_link(store, 0, &link), HLC_OK);
     EXPECT(link.next, 4);
     EXPECT(link.head, HLC_STAMP(4, 0));
     EXPECT(link.retired, false);
-    EXPECT(hlc_get_link(store, 1, &link), HLC_NO_NODE);
+    EXPECT(hlc_store_get_link(store, 1, &link), HLC_NO_NODE);
     EXPECT(link.next + link.head, 0);
-    EXPECT(hlc_get_snapshot(store, 1, &snapshot), HLC_OK);
+    EXPECT(hlc_snapshot_get(store, 1, &snapshot), HLC_OK);
     EXPECT(snapshot.id, 2);
     EXPECT(snapshot.stamp, HLC_STAMP(4, 0));
-    EXPECT(hlc_get_snapshot(store, 2, &snapshot), HLC_NO_SNAPSHOT);
+    EXPECT(hlc_snapshot_get(store, 2, &snapshot), HLC_NO_SNAPSHOT);
     EXPECT(snapshot.id + snapshot.stamp, 0);
 }
 
@@ -367,35 +370,35 @@ static void vacuum_and_certify(hlc_store *store)
     uint8_t text[512];
     uint64_t stamp;
     size_t len;
-    EXPECT(hlc_run_vacuum_to(store, HLC_STAMP(5, 0), &report), HLC_ABOVE_FLOOR);
+    EXPECT(hlc_store_run_vacuum_to(store, HLC_STAMP(5, 0), &report), HLC_ABOVE_FLOOR);
     EXPECT(report.word, HLC_STAMP(4, 0));
     EXPECT(report.stamp + report.kept + report.bytes + report.dropped, 0);
-    EXPECT(hlc_run_vacuum_to(store, HLC_STAMP(4, 0), &report), HLC_OK);
+    EXPECT(hlc_store_run_vacuum_to(store, HLC_STAMP(4, 0), &report), HLC_OK);
     EXPECT(report.stamp, HLC_STAMP(4, 0));
     EXPECT(report.word, 0);
     EXPECT(report.kept, 4);
     EXPECT(report.dropped, 0);
-    EXPECT(hlc_close_snapshot(store, 1, &stamp), HLC_OK);
-    EXPECT(hlc_get_certificate(store, HLC_STAMP(4, 0), &output, &certified), HLC_NOT_FEWEST);
+    EXPECT(hlc_snapshot_close(store, 1, &stamp), HLC_OK);
+    EXPECT(hlc_certificate_get(store, HLC_STAMP(4, 0), &output, &certified), HLC_NOT_FEWEST);
     report.word = 1;
-    EXPECT(hlc_run_vacuum(store, &report), HLC_OK);
+    EXPECT(hlc_store_run_vacuum(store, &report), HLC_OK);
     EXPECT(report.stamp, HLC_STAMP(4, 0));
     EXPECT(report.word, 0);
     EXPECT(report.kept, 2);
     EXPECT(report.bytes, 1 + 1 + 10 + 2 + 10);
     EXPECT(report.dropped, 2);
-    EXPECT(hlc_get_certificate(store, HLC_STAMP(3, 0), &output, &certified), HLC_BELOW_HORIZON);
+    EXPECT(hlc_certificate_get(store, HLC_STAMP(3, 0), &output, &certified), HLC_BELOW_HORIZON);
     EXPECT(certified.word, HLC_STAMP(4, 0));
-    EXPECT(hlc_get_certificate(store, HLC_STAMP(4, 0), &output, &certified), HLC_OK);
+    EXPECT(hlc_certificate_get(store, HLC_STAMP(4, 0), &output, &certified), HLC_OK);
     EXPECT(certified.kept, 2);
     EXPECT(certified.bytes, 24);
     EXPECT(certified.word, 0);
     EXPECT(hlc_output_read(&output, 0, text, sizeof text, &len), HLC_OK);
     EXPECT(len, certified.len);
-    EXPECT(hlc_check_certificate(text, len, &shown), HLC_OK);
+    EXPECT(hlc_certificate_get_shown(text, len, &shown), HLC_OK);
     EXPECT(shown.rows, 2);
     EXPECT(shown.bytes, 24);
-    EXPECT(hlc_check_certificate(BYTES("point 1.0\npoint"), &shown), HLC_BAD_LINE);
+    EXPECT(hlc_certificate_get_shown(BYTES("point 1.0\npoint"), &shown), HLC_BAD_LINE);
     EXPECT(shown.word, 2);
     EXPECT(shown.rows + shown.bytes, 0);
     hlc_output_drop(&output);
@@ -406,15 +409,15 @@ static void use_store(void)
     hlc_store store = HLC_CLOSED_STORE;
     hlc_store_sizes sizes;
     uint64_t id;
-    EXPECT(hlc_get_sizes(&store, &sizes), HLC_CLOSED);
+    EXPECT(hlc_store_get_sizes(&store, &sizes), HLC_CLOSED);
     EXPECT(sizes.rows + sizes.keys + sizes.key_bytes + sizes.value_bytes, 0);
     fill(&store);
-    EXPECT(hlc_open_snapshot(&store, HLC_STAMP(3, 0), &id), HLC_OK);
-    EXPECT(hlc_open_snapshot(&store, HLC_STAMP(4, 0), &id), HLC_OK);
+    EXPECT(hlc_snapshot_open(&store, HLC_STAMP(3, 0), &id), HLC_OK);
+    EXPECT(hlc_snapshot_open(&store, HLC_STAMP(4, 0), &id), HLC_OK);
     read_store(&store, 1, 2);
     ask_store(&store);
     vacuum_and_certify(&store);
-    hlc_close(&store);
+    hlc_store_close(&store);
 }
 
 /* A refused part has its word, and the next call makes it. Parts of one key and of none are parts too. */
@@ -425,25 +428,25 @@ static void vacuum_in_parts(void)
     hlc_store store = HLC_CLOSED_STORE;
     hlc_partial_vacuum part = HLC_FIRST_PART;
     fill(&store);
-    EXPECT(hlc_run_vacuum_part(&store, HLC_STAMP(5, 0), 1, &part), HLC_ABOVE_FLOOR);
+    EXPECT(hlc_store_run_vacuum_part(&store, HLC_STAMP(5, 0), 1, &part), HLC_ABOVE_FLOOR);
     EXPECT(part.report.word, HLC_STAMP(4, 0));
     EXPECT(part.more && part.after_len == 0, true);
     for (int i = 0; i < 3; i++) {
         EXPECT(part.more, true);
-        EXPECT(hlc_run_vacuum_part(&store, HLC_STAMP(4, 0), most[i], &part), HLC_OK);
+        EXPECT(hlc_store_run_vacuum_part(&store, HLC_STAMP(4, 0), most[i], &part), HLC_OK);
         EXPECT(part.report.stamp, HLC_STAMP(4, 0));
         EXPECT(part.report.word, 0);
         EXPECT(part.report.kept, kept[i]);
         if (i == 2) break;
         EXPECT(part.after_len == 1 && part.after[0] == 'a', true);
-        EXPECT(hlc_run_vacuum_part(&store, HLC_STAMP(5, 0), 1, &part), HLC_ABOVE_FLOOR);
+        EXPECT(hlc_store_run_vacuum_part(&store, HLC_STAMP(5, 0), 1, &part), HLC_ABOVE_FLOOR);
         EXPECT(part.report.word, HLC_STAMP(4, 0));
         EXPECT(part.report.kept, kept[i]);
         EXPECT(part.more && part.after_len == 1 && part.after[0] == 'a', true);
     }
     EXPECT(part.report.dropped, 2);
     EXPECT(part.more || part.after_len > 0, false);
-    hlc_close(&store);
+    hlc_store_close(&store);
 }
 
 /* Of so many snapshots, each at a stamp of its own, one of so many is closed, if any: the others are found, and nothing
@@ -452,23 +455,23 @@ static void find_snapshots(int many, int closed)
 {
     hlc_store store = HLC_CLOSED_STORE;
     uint64_t id, stamp = 0, word;
-    EXPECT(hlc_get_snapshot_stamp(&store, 1, &stamp), HLC_CLOSED);
-    EXPECT(hlc_open(&store, 1), HLC_OK);
+    EXPECT(hlc_snapshot_get_stamp(&store, 1, &stamp), HLC_CLOSED);
+    EXPECT(hlc_store_open(&store, 1), HLC_OK);
     for (int i = 1; i <= many; i++) {
-        EXPECT(hlc_accept_report(&store, 0, (uint64_t)i - 1, HLC_STAMP(i, 0), &word), HLC_OK);
-        EXPECT(hlc_open_snapshot_at_floor(&store, &id, &word), HLC_OK);
+        EXPECT(hlc_store_accept_report(&store, 0, (uint64_t)i - 1, HLC_STAMP(i, 0), &word), HLC_OK);
+        EXPECT(hlc_snapshot_open_at_floor(&store, &id, &word), HLC_OK);
     }
-    for (int i = closed; i <= many; i += closed) EXPECT(hlc_close_snapshot(&store, (uint64_t)i, &word), HLC_OK);
+    for (int i = closed; i <= many; i += closed) EXPECT(hlc_snapshot_close(&store, (uint64_t)i, &word), HLC_OK);
     for (int i = 1; i <= many; i++) {
         const bool is_open = i % closed != 0;
-        EXPECT(hlc_get_snapshot_stamp(&store, (uint64_t)i, &stamp), is_open ? HLC_OK : HLC_NO_SNAPSHOT);
+        EXPECT(hlc_snapshot_get_stamp(&store, (uint64_t)i, &stamp), is_open ? HLC_OK : HLC_NO_SNAPSHOT);
         EXPECT(stamp, is_open ? HLC_STAMP(i, 0) : 0);
     }
-    EXPECT(hlc_get_snapshot_stamp(&store, 0, &stamp), HLC_NO_SNAPSHOT);
-    EXPECT(hlc_get_snapshot_stamp(&store, (uint64_t)many + 1, &stamp), HLC_NO_SNAPSHOT);
-    EXPECT(hlc_get_snapshot_stamp(&store, UINT64_MAX, &stamp), HLC_NO_SNAPSHOT);
+    EXPECT(hlc_snapshot_get_stamp(&store, 0, &stamp), HLC_NO_SNAPSHOT);
+    EXPECT(hlc_snapshot_get_stamp(&store, (uint64_t)many + 1, &stamp), HLC_NO_SNAPSHOT);
+    EXPECT(hlc_snapshot_get_stamp(&store, UINT64_MAX, &stamp), HLC_NO_SNAPSHOT);
     EXPECT(stamp, 0);
-    hlc_close(&store);
+    hlc_store_close(&store);
 }
 
 /* Two items, a threshold, and bytes that are none. */
@@ -478,25 +481,25 @@ static void apply_a_log(void)
     hlc_applied applied = { 1, 1, 1, 1 };
     uint8_t log[256];
     size_t at = 0, len;
-    EXPECT(hlc_open(&store, 1), HLC_OK);
-    EXPECT(hlc_item_write(0, 0, HLC_STAMP(1, 0), BYTES("a"), BYTES("x"), log, sizeof log, &at), HLC_OK);
-    EXPECT(hlc_item_report(0, 1, HLC_STAMP(2, 0), log + at, sizeof log - at, &len), HLC_OK);
+    EXPECT(hlc_store_open(&store, 1), HLC_OK);
+    EXPECT(hlc_item_encode_write(0, 0, HLC_STAMP(1, 0), BYTES("a"), BYTES("x"), log, sizeof log, &at), HLC_OK);
+    EXPECT(hlc_item_encode_report(0, 1, HLC_STAMP(2, 0), log + at, sizeof log - at, &len), HLC_OK);
     at += len;
-    EXPECT(hlc_accept_log(&store, log, at, &applied), HLC_OK);
-    EXPECT(applied.many, 2);
+    EXPECT(hlc_store_accept_log(&store, log, at, &applied), HLC_OK);
+    EXPECT(applied.count, 2);
     EXPECT(applied.used, at);
     EXPECT(applied.threshold + applied.word, 0);
-    EXPECT(hlc_record_threshold(HLC_STAMP(1, 5), log + at, sizeof log - at, &len), HLC_OK);
-    EXPECT(hlc_apply_records(&store, log, at + len - 1, &applied), HLC_BAD_BYTES);
-    EXPECT(applied.many, 2);
+    EXPECT(hlc_record_encode_threshold(HLC_STAMP(1, 5), log + at, sizeof log - at, &len), HLC_OK);
+    EXPECT(hlc_store_apply_log(&store, log, at + len - 1, &applied), HLC_BAD_BYTES);
+    EXPECT(applied.count, 2);
     EXPECT(applied.used, at);
     EXPECT(applied.word, 1);
-    EXPECT(hlc_apply_records(&store, log, at + len, &applied), HLC_OK);
-    EXPECT(applied.many, 3);
+    EXPECT(hlc_store_apply_log(&store, log, at + len, &applied), HLC_OK);
+    EXPECT(applied.count, 3);
     EXPECT(applied.threshold, HLC_STAMP(1, 5));
     EXPECT(applied.word, 0);
-    hlc_ignore(hlc_close_all(&store));
-    hlc_close(&store);
+    hlc_answer_ignore(hlc_snapshot_close_all(&store));
+    hlc_store_close(&store);
 }
 
 int main(void)

@@ -28,7 +28,7 @@ static void expect(const char *call, uint32_t code, uint64_t returned, uint32_t 
 static void accept(uint64_t number, uint64_t stamp, const uint8_t *value, size_t value_len)
 {
     uint64_t word;
-    uint32_t code = hlc_accept_write(&store, 0, number, stamp, BYTES("city"), value, value_len, &word);
+    uint32_t code = hlc_store_accept_write(&store, 0, number, stamp, BYTES("city"), value, value_len, &word);
     expect("accept", code, word, HLC_OK, stamp);
 }
 
@@ -63,13 +63,13 @@ static void make_none(void)
     size_t len;
     expect_piece(&output, 0, ROOM, NULL, 0);
     expect_piece(&output, 1, 0, NULL, 0);
-    uint32_t code = hlc_certificate(&store, AT(9), &word, &kept, &cost, &output, &len);
+    uint32_t code = hlc_certificate_make(&store, AT(9), &word, &kept, &cost, &output, &len);
     expect("above the floor", code, len + kept + cost + word, HLC_ABOVE_FLOOR, AT(2));
-    code = hlc_certificate(&store, AT(2), &word, &kept, &cost, &output, &len);
+    code = hlc_certificate_make(&store, AT(2), &word, &kept, &cost, &output, &len);
     expect("a row too many", code, len + kept + cost + word, HLC_NOT_FEWEST, 0);
-    code = hlc_checkpoint(&closed, 7, &output, &len);
+    code = hlc_checkpoint_make(&closed, 7, &output, &len);
     expect("closed", code, len, HLC_CLOSED, 0);
-    code = hlc_increment(&closed, AT(2), 7, &output, &len, &word);
+    code = hlc_increment_make(&closed, AT(2), 7, &output, &len, &word);
     expect("closed, increment", code, len + word, HLC_CLOSED, 0);
     code = hlc_increment_apply(BYTES("older"), BYTES("increment"), &output, &len, &word);
     expect("no encoding", code, len + word, HLC_BAD_BYTES, 2);
@@ -85,9 +85,9 @@ static void certify(hlc_output *output)
     uint64_t floor, word, kept, cost, dropped;
     uint8_t text[ROOM];
     size_t len;
-    uint32_t code = hlc_vacuum(&store, &floor, &kept, &cost, &dropped);
+    uint32_t code = hlc_store_vacuum(&store, &floor, &kept, &cost, &dropped);
     expect("vacuum", code, floor + dropped, HLC_OK, AT(2) + 1);
-    code = hlc_certificate(&store, floor, &word, &kept, &cost, output, &len);
+    code = hlc_certificate_make(&store, floor, &word, &kept, &cost, output, &len);
     expect("certificate", code, len, HLC_OK, TEXT_LEN);
     expect("its word", code, word, HLC_OK, 0);
     expect("kept", code, kept, HLC_OK, 1);
@@ -111,24 +111,24 @@ static void refuse_full(hlc_output *output)
     uint32_t code;
     accept(2, AT(3), BYTES("Nice"));
     for (size_t i = 0; i < sizeof stamps / sizeof *stamps; i++) {
-        code = hlc_certificate(&store, stamps[i], &word, &kept, &cost, output, &len);
+        code = hlc_certificate_make(&store, stamps[i], &word, &kept, &cost, output, &len);
         expect("full", code, len + word + kept + cost, HLC_HAS_BYTES, 0);
     }
-    code = hlc_checkpoint(&store, 7, output, &len);
+    code = hlc_checkpoint_make(&store, 7, output, &len);
     expect("full, checkpoint", code, len, HLC_HAS_BYTES, 0);
-    code = hlc_increment(&store, AT(1), 7, output, &len, &word);
+    code = hlc_increment_make(&store, AT(1), 7, output, &len, &word);
     expect("full, increment", code, len + word, HLC_HAS_BYTES, 0);
     code = hlc_increment_apply(BYTES("older"), BYTES("increment"), output, &len, &word);
     expect("full, apply", code, len + word, HLC_HAS_BYTES, 0);
-    code = hlc_certificate(&closed, AT(3), &word, &kept, &cost, output, &len);
+    code = hlc_certificate_make(&closed, AT(3), &word, &kept, &cost, output, &len);
     expect("full, closed", code, len + word + kept + cost, HLC_CLOSED, 0);
-    code = hlc_checkpoint(&closed, 7, output, &len);
+    code = hlc_checkpoint_make(&closed, 7, output, &len);
     expect("full, closed, checkpoint", code, len, HLC_CLOSED, 0);
-    code = hlc_increment(&closed, AT(1), 7, output, &len, &word);
+    code = hlc_increment_make(&closed, AT(1), 7, output, &len, &word);
     expect("full, closed, increment", code, len + word, HLC_CLOSED, 0);
-    code = hlc_rows(&store, &word);
+    code = hlc_store_rows(&store, &word);
     expect("rows", code, word, HLC_OK, 2);
-    code = hlc_horizon(&store, &word);
+    code = hlc_store_horizon(&store, &word);
     expect("horizon", code, word, HLC_OK, AT(2));
     expect_bytes(output, (const uint8_t *)TEXT, TEXT_LEN);
 }
@@ -142,24 +142,24 @@ static void advance(hlc_output *output)
     uint64_t word;
     size_t older_len, since_len, len;
     hlc_output_drop(output);
-    uint32_t code = hlc_checkpoint(&store, 7, output, &len);
+    uint32_t code = hlc_checkpoint_make(&store, 7, output, &len);
     if (code == HLC_OK) code = hlc_output_read(output, 0, older, sizeof older, &older_len);
     expect("older", code, len, HLC_OK, older_len);
     hlc_output_drop(output);
     accept(3, AT(4), BYTES("Pau"));
-    code = hlc_increment(&store, AT(1), 8, &increment, &len, &word);
+    code = hlc_increment_make(&store, AT(1), 8, &increment, &len, &word);
     expect("below the horizon", code, len + word, HLC_BELOW_HORIZON, AT(2));
-    code = hlc_increment(&store, AT(3), 8, &increment, &len, &word);
+    code = hlc_increment_make(&store, AT(3), 8, &increment, &len, &word);
     if (code == HLC_OK) code = hlc_output_read(&increment, 0, since, sizeof since, &since_len);
     expect("increment", code, len + word, HLC_OK, since_len);
     code = hlc_increment_apply(older, older_len, since, since_len, &newer, &len, &word);
     expect("newer", code, word, HLC_OK, 0);
-    code = hlc_checkpoint(&store, 8, output, &len);
+    code = hlc_checkpoint_make(&store, 8, output, &len);
     if (code == HLC_OK) code = hlc_output_read(output, 0, saved, sizeof saved, &len);
     expect("whole", code, len > older_len, HLC_OK, 1);
     expect_bytes(&newer, saved, len);
     hlc_output_drop(&increment);
-    code = hlc_increment(&store, AT(4), 8, &increment, &len, &word);
+    code = hlc_increment_make(&store, AT(4), 8, &increment, &len, &word);
     if (code == HLC_OK) code = hlc_output_read(&increment, 0, since, sizeof since, &since_len);
     expect("later increment", code, len + word, HLC_OK, since_len);
     hlc_output_drop(&newer);
@@ -180,28 +180,28 @@ static void save(hlc_output *output)
     uint64_t word;
     size_t saved_len, len, at = 0;
     hlc_output_drop(output);
-    uint32_t code = hlc_checkpoint(&store, 7, output, &saved_len);
-    hlc_close(&store);
+    uint32_t code = hlc_checkpoint_make(&store, 7, output, &saved_len);
+    hlc_store_close(&store);
     if (code == HLC_OK) code = hlc_output_read(output, 0, saved, sizeof saved, &len);
     expect("checkpoint", code, len, HLC_OK, saved_len);
     expect_bytes(output, saved, saved_len);
-    expect("start", hlc_restore_start(&restoring), 0, HLC_OK, 0);
+    expect("start", hlc_restoring_start(&restoring), 0, HLC_OK, 0);
     do {
         code = hlc_output_read(output, at, piece, sizeof piece, &len);
-        expect("feed", hlc_restore_feed(&restoring, piece, len), 0, HLC_OK, 0);
+        expect("feed", hlc_restoring_feed(&restoring, piece, len), 0, HLC_OK, 0);
         at += len;
     } while (code == HLC_MORE);
-    code = hlc_restore_finish(&restoring, &copy, &word);
+    code = hlc_restoring_finish(&restoring, &copy, &word);
     expect("finish", code, word, HLC_OK, 7);
-    code = hlc_rows(&copy, &word);
+    code = hlc_store_rows(&copy, &word);
     expect("rows", code, word, HLC_OK, 3);
-    hlc_close(&copy);
+    hlc_store_close(&copy);
 }
 
 int main(void)
 {
     hlc_output output = HLC_NO_OUTPUT;
-    expect("open", hlc_open(&store, 1), 0, HLC_OK, 0);
+    expect("open", hlc_store_open(&store, 1), 0, HLC_OK, 0);
     accept(0, AT(1), BYTES("Rome"));
     accept(1, AT(2), BYTES("Lyon"));
     make_none();

@@ -46,7 +46,8 @@ static void write_key(int place)
     uint64_t word, stamp = AT(number + 1);
     fill(key, place);
     memset(value, 'v', sizeof value);
-    uint32_t code = hlc_accept_write(&store, 0, number++, stamp, key, KEYS[place].len, value, sizeof value, &word);
+    uint32_t code = hlc_store_accept_write(&store, 0, number++, stamp, key, KEYS[place].len, value, sizeof value,
+                                           &word);
     expect("write", code, word, HLC_OK, stamp);
 }
 
@@ -55,14 +56,14 @@ static void delete_key(int place)
     uint8_t key[LONGEST];
     uint64_t word, stamp = AT(number + 1);
     fill(key, place);
-    uint32_t code = hlc_accept_delete(&store, 0, number++, stamp, key, KEYS[place].len, &word);
+    uint32_t code = hlc_store_accept_delete(&store, 0, number++, stamp, key, KEYS[place].len, &word);
     expect("delete", code, word, HLC_OK, stamp);
 }
 
 static void expect_sizes(uint64_t rows, uint64_t keys, uint64_t key_bytes, uint64_t value_bytes)
 {
     uint64_t found[4];
-    uint32_t code = hlc_sizes(&store, &found[0], &found[1], &found[2], &found[3]);
+    uint32_t code = hlc_store_size(&store, &found[0], &found[1], &found[2], &found[3]);
     expect("rows", code, found[0], HLC_OK, rows);
     expect("keys", code, found[1], HLC_OK, keys);
     expect("bytes of keys", code, found[2], HLC_OK, key_bytes);
@@ -77,8 +78,8 @@ static size_t vacuum_part(uint64_t stamp, uint8_t *after, size_t after_len, size
     uint64_t found[4];
     size_t len, expected_len = expected.more ? KEYS[expected.last].len : 0;
     bool more;
-    uint32_t code = hlc_vacuum_part(&store, stamp, after, after_len, most, &found[0], &found[1], &found[2], &found[3],
-                                    out, sizeof out, &len, &more);
+    uint32_t code = hlc_store_vacuum_part(&store, stamp, after, after_len, most, &found[0], &found[1], &found[2],
+                                          &found[3], out, sizeof out, &len, &more);
     expect("part", code, found[0], HLC_OK, stamp);
     expect("kept", code, found[1], HLC_OK, expected.kept);
     expect("their cost", code, found[2], HLC_OK, expected.bytes);
@@ -167,10 +168,10 @@ static void save_in_vain(void)
 
 static void feed(hlc_restoring *restoring, const uint8_t *bytes, size_t len)
 {
-    expect("start", hlc_restore_start(restoring), 0, HLC_OK, 0);
+    expect("start", hlc_restoring_start(restoring), 0, HLC_OK, 0);
     for (size_t at = 0; at < len; at += 100) {
         size_t piece = len - at < 100 ? len - at : 100;
-        expect("feed", hlc_restore_feed(restoring, bytes + at, piece), 0, HLC_OK, 0);
+        expect("feed", hlc_restoring_feed(restoring, bytes + at, piece), 0, HLC_OK, 0);
     }
 }
 
@@ -184,31 +185,31 @@ static void restore_in_vain(void)
     uint8_t saved[ROOM];
     uint64_t word;
     size_t saved_len, len;
-    uint32_t code = hlc_checkpoint(&store, 7, &output, &saved_len);
+    uint32_t code = hlc_checkpoint_make(&store, 7, &output, &saved_len);
     if (code == HLC_OK) code = hlc_output_read(&output, 0, saved, sizeof saved, &len);
     hlc_output_drop(&output);
     expect("checkpoint", code, len, HLC_OK, saved_len);
     for (size_t piece = 1; piece < 2 * saved_len; piece *= 5) save_in_pieces(saved, saved_len, piece);
     for (int part = 0; part < 3; part++) {
         feed(&restoring, saved, saved_len * part / 2);
-        hlc_restore_drop(&restoring);
-        expect("dropped", hlc_restore_feed(&restoring, saved, 1), 0, HLC_CLOSED, 0);
+        hlc_restoring_drop(&restoring);
+        expect("dropped", hlc_restoring_feed(&restoring, saved, 1), 0, HLC_CLOSED, 0);
     }
     feed(&restoring, saved, saved_len - 1);
-    code = hlc_restore_finish(&restoring, &copy, &word);
+    code = hlc_restoring_finish(&restoring, &copy, &word);
     expect("refused", code, word, HLC_BAD_BYTES, 1);
-    expect("ended", hlc_restore_feed(&restoring, saved, 1), 0, HLC_CLOSED, 0);
+    expect("ended", hlc_restoring_feed(&restoring, saved, 1), 0, HLC_CLOSED, 0);
     feed(&restoring, saved, saved_len);
-    code = hlc_restore_finish(&restoring, &store, &word);
+    code = hlc_restoring_finish(&restoring, &store, &word);
     expect("open", code, word, HLC_IS_OPEN, 0);
-    hlc_restore_drop(&restoring);
-    code = hlc_rows(&copy, &word);
+    hlc_restoring_drop(&restoring);
+    code = hlc_store_rows(&copy, &word);
     expect("the copy", code, word, HLC_CLOSED, 0);
 }
 
 int main(void)
 {
-    expect("open", hlc_open(&store, 1), 0, HLC_OK, 0);
+    expect("open", hlc_store_open(&store, 1), 0, HLC_OK, 0);
     for (int place = A; place <= D; place++) write_key(place);
     delete_key(A);
     write_key(B);
@@ -218,7 +219,7 @@ int main(void)
     write_again();
     restore_in_vain();
     save_in_vain();
-    hlc_close(&store);
+    hlc_store_close(&store);
     printf("%s\n", wrong ? "wrong" : "all right");
     return wrong != 0;
 }

@@ -72,9 +72,10 @@ static uint64_t write_key(struct machine *machine, uint64_t reading, const char 
                         : hlc_node_delete(node, reading, bytes, len, &number, &stamp));
     machine->clock = stamp;
     pthread_mutex_lock(&places[store].lock);
-    must("accept", value ? hlc_accept_write(&places[store].store, node->id, number, stamp, bytes, len, rest, rest_len,
-                                            &word)
-                         : hlc_accept_delete(&places[store].store, node->id, number, stamp, bytes, len, &word));
+    must("accept", value ? hlc_store_accept_write(&places[store].store, node->id, number, stamp, bytes, len, rest,
+                                                  rest_len, &word) : hlc_store_accept_delete(&places[store].store,
+                                                                                             node->id, number, stamp,
+                                                                                             bytes, len, &word));
     pthread_mutex_unlock(&places[store].lock);
     return stamp;
 }
@@ -88,7 +89,7 @@ static void report_all(struct machine *machine, uint64_t reading)
         must("report", hlc_node_report(node, reading, &number, &stamp));
         machine->clock = stamp;
         pthread_mutex_lock(&places[store].lock);
-        must("accept", hlc_accept_report(&places[store].store, node->id, number, stamp, &word));
+        must("accept", hlc_store_accept_report(&places[store].store, node->id, number, stamp, &word));
         pthread_mutex_unlock(&places[store].lock);
     }
 }
@@ -113,7 +114,7 @@ static uint64_t cut(void)
     uint64_t least = UINT64_MAX, floor;
     for (unsigned store = 0; store < STORES; store++) {
         pthread_mutex_lock(&places[store].lock);
-        must("floor", hlc_floor(&places[store].store, &floor));
+        must("floor", hlc_store_floor(&places[store].store, &floor));
         pthread_mutex_unlock(&places[store].lock);
         if (floor < least) least = floor;
     }
@@ -129,14 +130,14 @@ static bool open_all(uint64_t stamp, uint64_t *ids)
     uint64_t closed;
     for (; store < STORES && answer == HLC_OK; store++) {
         pthread_mutex_lock(&places[store].lock);
-        answer = hlc_open_snapshot(&places[store].store, stamp, &ids[store]);
+        answer = hlc_snapshot_open(&places[store].store, stamp, &ids[store]);
         pthread_mutex_unlock(&places[store].lock);
     }
     if (answer == HLC_OK) return true;
     if (answer != HLC_BELOW_HORIZON) must("open", answer);
     for (store--; store-- > 0;) {
         pthread_mutex_lock(&places[store].lock);
-        must("close", hlc_close_snapshot(&places[store].store, ids[store], &closed));
+        must("close", hlc_snapshot_close(&places[store].store, ids[store], &closed));
         pthread_mutex_unlock(&places[store].lock);
     }
     return false;
@@ -147,7 +148,7 @@ static void close_all(const uint64_t *ids)
     uint64_t stamp;
     for (unsigned store = 0; store < STORES; store++) {
         pthread_mutex_lock(&places[store].lock);
-        must("close", hlc_close_snapshot(&places[store].store, ids[store], &stamp));
+        must("close", hlc_snapshot_close(&places[store].store, ids[store], &stamp));
         pthread_mutex_unlock(&places[store].lock);
     }
 }
@@ -159,8 +160,8 @@ static bool has(const uint64_t *ids, const char *key)
     uint8_t value[VALUE_ROOM];
     size_t len;
     pthread_mutex_lock(&place->lock);
-    uint32_t answer = hlc_read(&place->store, ids[store_of(key)], (const uint8_t *)key, strlen(key), value,
-                               sizeof value, &len);
+    uint32_t answer = hlc_snapshot_read(&place->store, ids[store_of(key)], (const uint8_t *)key, strlen(key), value,
+                                        sizeof value, &len);
     pthread_mutex_unlock(&place->lock);
     if (answer != HLC_NO_VALUE) must("read", answer);
     return answer == HLC_OK;
@@ -184,7 +185,8 @@ static void show(uint64_t stamp)
     if (!open_all(stamp, ids)) must("open", HLC_BELOW_HORIZON);
     for (unsigned store = 0; store < STORES; store++) {
         pthread_mutex_lock(&places[store].lock);
-        must("scan", hlc_scan(&places[store].store, ids[store], NULL, 0, NULL, 0, out, sizeof out, &len, &many));
+        must("scan", hlc_snapshot_scan(&places[store].store, ids[store], NULL, 0, NULL, 0, out, sizeof out, &len,
+                                       &many));
         pthread_mutex_unlock(&places[store].lock);
         for (const uint8_t *at = out; many > 0; many--) {
             int key_len, value_len;
@@ -267,7 +269,7 @@ static void open_stores(void)
     for (unsigned store = 0; store < STORES; store++) {
         pthread_mutex_init(&places[store].lock, NULL);
         places[store].store = (hlc_store)HLC_CLOSED_STORE;
-        must("open", hlc_open(&places[store].store, MACHINES));
+        must("open", hlc_store_open(&places[store].store, MACHINES));
         for (uint16_t id = 0; id < MACHINES; id++) machines[id].nodes[store] = hlc_node_open(id, 0);
     }
 }
@@ -282,9 +284,9 @@ static uint64_t vacuum_all(uint64_t stamp)
         size_t after_len = 0, next_len;
         for (bool more = true; more; after_len = next_len) {
             pthread_mutex_lock(&places[store].lock);
-            must("vacuum", hlc_vacuum_part(&places[store].store, stamp, after, after_len, 2, &word, &kept, &bytes,
-                                           &dropped, next, sizeof next, &next_len, &more));
-            must("rows", hlc_rows(&places[store].store, &rows));
+            must("vacuum", hlc_store_vacuum_part(&places[store].store, stamp, after, after_len, 2, &word, &kept, &bytes,
+                                                 &dropped, next, sizeof next, &next_len, &more));
+            must("rows", hlc_store_rows(&places[store].store, &rows));
             pthread_mutex_unlock(&places[store].lock);
             memcpy(after, next, next_len);
         }
@@ -305,7 +307,7 @@ int main(void)
     /* No store knows which keys are its own. So an item for store 1 that came from elsewhere is checked before. */
     printf("%s\n", store_of("fig") == 1 ? "accepted" : "refused");
     for (unsigned store = 0; store < STORES; store++) {
-        hlc_close(&places[store].store);
+        hlc_store_close(&places[store].store);
         pthread_mutex_destroy(&places[store].lock);
     }
     return 0;

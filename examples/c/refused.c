@@ -49,9 +49,9 @@ static uint32_t restore(const uint8_t *bytes, size_t len)
 {
     hlc_store copy = HLC_CLOSED_STORE;
     uint64_t word;
-    uint32_t code = hlc_restore(&copy, bytes, len, &word);
+    uint32_t code = hlc_store_restore(&copy, bytes, len, &word);
     if (code == HLC_OK && word != 7) wrong++;
-    hlc_close(&copy);
+    hlc_store_close(&copy);
     return code;
 }
 
@@ -61,14 +61,14 @@ static uint32_t restore_in_pieces(const uint8_t *bytes, size_t len)
     hlc_restoring restoring = HLC_NO_RESTORING;
     hlc_store copy = HLC_CLOSED_STORE;
     uint64_t word;
-    uint32_t code = hlc_restore_start(&restoring);
+    uint32_t code = hlc_restoring_start(&restoring);
     for (size_t at = 0; code == HLC_OK && at < len; at += PIECE) {
-        code = hlc_restore_feed(&restoring, bytes + at, len - at < PIECE ? len - at : PIECE);
+        code = hlc_restoring_feed(&restoring, bytes + at, len - at < PIECE ? len - at : PIECE);
     }
-    if (code == HLC_OK) code = hlc_restore_finish(&restoring, &copy, &word);
+    if (code == HLC_OK) code = hlc_restoring_finish(&restoring, &copy, &word);
     if (code == HLC_OK && word != 7) wrong++;
-    hlc_restore_drop(&restoring);
-    hlc_close(&copy);
+    hlc_restoring_drop(&restoring);
+    hlc_store_close(&copy);
     return code;
 }
 
@@ -89,7 +89,7 @@ static uint32_t certify(hlc_store *store, uint64_t stamp)
     uint64_t v, w, x;
     uint8_t out[1024];
     size_t len;
-    uint32_t code = hlc_certificate(store, stamp, &v, &w, &x, &output, &len);
+    uint32_t code = hlc_certificate_make(store, stamp, &v, &w, &x, &output, &len);
     take(&output, code, len, out, sizeof out);
     return code;
 }
@@ -98,7 +98,7 @@ static uint32_t save(hlc_store *store)
 {
     hlc_output output = HLC_NO_OUTPUT;
     size_t len;
-    uint32_t code = hlc_checkpoint(store, 7, &output, &len);
+    uint32_t code = hlc_checkpoint_make(store, 7, &output, &len);
     saved_len = take(&output, code, len, saved, sizeof saved);
     return code;
 }
@@ -108,7 +108,7 @@ static uint32_t save_increment(hlc_store *store)
     hlc_output output = HLC_NO_OUTPUT;
     uint64_t horizon;
     size_t len;
-    uint32_t code = hlc_increment(store, AT(20), 7, &output, &len, &horizon);
+    uint32_t code = hlc_increment_make(store, AT(20), 7, &output, &len, &horizon);
     increment_len = take(&output, code, len, increment, sizeof increment);
     if (horizon != 0) wrong++;
     return code;
@@ -133,7 +133,8 @@ static uint32_t divide(void)
     hlc_output outputs[2] = { HLC_NO_OUTPUT, HLC_NO_OUTPUT };
     uint64_t word;
     size_t len[2];
-    uint32_t code = hlc_split(saved, saved_len, BYTES("b"), &outputs[0], &outputs[1], &len[0], &len[1], &word);
+    uint32_t code = hlc_checkpoint_split(saved, saved_len, BYTES("b"), &outputs[0], &outputs[1], &len[0], &len[1],
+                                         &word);
     if (word != 0) wrong++;
     for (int i = 0; i < 2; i++) parts_len[i] = take(&outputs[i], code, len[i], parts[i], sizeof parts[i]);
     return code;
@@ -146,7 +147,7 @@ static uint32_t join_parts(void)
     uint8_t made[1024];
     uint64_t word;
     size_t len;
-    uint32_t code = hlc_merge(parts[0], parts_len[0], parts[1], parts_len[1], &output, &len, &word);
+    uint32_t code = hlc_checkpoint_merge(parts[0], parts_len[0], parts[1], parts_len[1], &output, &len, &word);
     len = take(&output, code, len, made, sizeof made);
     if (word != 0 || (code == HLC_OK && (len != saved_len || memcmp(made, saved, len) != 0))) wrong++;
     return code;
@@ -160,22 +161,24 @@ static uint32_t call(int step, hlc_store *store)
     bool more;
     size_t len;
     switch (step) {
-    case 0: return hlc_open(store, 2);
-    case 1: return hlc_accept_write(store, 0, 0, AT(10), BYTES("apple"), BYTES("a red that is too long in place"), &w);
-    case 2: return hlc_accept_report(store, 1, 0, AT(12), &w);
-    case 3: return hlc_open_snapshot_at_floor(store, &v, &w);
-    case 4: return hlc_accept_write(store, 0, 1, AT(20), BYTES("apple"), BYTES("green"), &w);
-    case 5: return hlc_accept_delete(store, 1, 1, AT(21), BYTES("a pear whose key is long, and so takes memory"), &w);
-    case 6: return hlc_open_snapshot(store, AT(20), &v);
-    case 7: return hlc_list(store, 1, out, sizeof out, &len);
-    case 8: return hlc_close_snapshot(store, 1, &w);
-    case 9: return hlc_join(store, &node, &w);
-    case 10: return hlc_join_at(store, AT(30), &node, &w);
+    case 0: return hlc_store_open(store, 2);
+    case 1: return hlc_store_accept_write(store, 0, 0, AT(10), BYTES("apple"), BYTES("a red that is too long in place"),
+                                          &w);
+    case 2: return hlc_store_accept_report(store, 1, 0, AT(12), &w);
+    case 3: return hlc_snapshot_open_at_floor(store, &v, &w);
+    case 4: return hlc_store_accept_write(store, 0, 1, AT(20), BYTES("apple"), BYTES("green"), &w);
+    case 5: return hlc_store_accept_delete(store, 1, 1, AT(21), BYTES("a pear whose key is long, and so takes memory"),
+                                           &w);
+    case 6: return hlc_snapshot_open(store, AT(20), &v);
+    case 7: return hlc_snapshot_list(store, 1, out, sizeof out, &len);
+    case 8: return hlc_snapshot_close(store, 1, &w);
+    case 9: return hlc_store_join(store, &node, &w);
+    case 10: return hlc_store_join_at(store, AT(30), &node, &w);
     case 11:
-        return hlc_vacuum_part(store, AT(12), BYTES(""), 1, &v, &w, &x, &y, out, sizeof out, &len, &more);
-    case 12: return hlc_vacuum_to(store, AT(12), &v, &w, &x, &y);
+        return hlc_store_vacuum_part(store, AT(12), BYTES(""), 1, &v, &w, &x, &y, out, sizeof out, &len, &more);
+    case 12: return hlc_store_vacuum_to(store, AT(12), &v, &w, &x, &y);
     case 13: return certify(store, AT(12));
-    case 14: return hlc_vacuum(store, &v, &w, &x, &y);
+    case 14: return hlc_store_vacuum(store, &v, &w, &x, &y);
     case 15: return certify(store, AT(20));
     case 16: return save(store);
     case 17: return save_increment(store);
@@ -190,7 +193,7 @@ static uint32_t call(int step, hlc_store *store)
 static uint64_t rows(hlc_store *store)
 {
     uint64_t rows;
-    if (hlc_rows(store, &rows) == HLC_CLOSED && rows != 0) wrong++;
+    if (hlc_store_rows(store, &rows) == HLC_CLOSED && rows != 0) wrong++;
     return rows;
 }
 
@@ -213,9 +216,9 @@ static bool story(long request)
     }
     met = left < 0;
     left = -1;
-    if (hlc_read(&store, 2, BYTES("apple"), out, sizeof out, &len) != HLC_OK) wrong++;
+    if (hlc_snapshot_read(&store, 2, BYTES("apple"), out, sizeof out, &len) != HLC_OK) wrong++;
     if (len != 5 || memcmp(out, "green", 5) != 0 || refusals > 1) wrong++;
-    hlc_close(&store);
+    hlc_store_close(&store);
     return met;
 }
 

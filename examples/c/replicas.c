@@ -41,8 +41,9 @@ static void accept(hlc_store *store, const int *indices, int many)
     uint64_t word;
     for (int i = 0; i < many && indices[i] >= 0; i++) {
         const struct item *item = &items[indices[i]];
-        uint32_t code = hlc_accept_write(store, item->node, item->number, item->stamp, (const uint8_t *)item->key,
-                                         strlen(item->key), (const uint8_t *)item->value, strlen(item->value), &word);
+        uint32_t code = hlc_store_accept_write(store, item->node, item->number, item->stamp, (const uint8_t *)item->key,
+                                               strlen(item->key), (const uint8_t *)item->value, strlen(item->value),
+                                               &word);
         expect("accept", code, word, HLC_OK, item->stamp);
     }
 }
@@ -52,23 +53,23 @@ static void join_and_vacuum(hlc_store *store, uint64_t floor)
 {
     uint64_t word, kept, bytes, dropped;
     uint16_t node;
-    uint32_t code = hlc_floor(store, &word);
+    uint32_t code = hlc_store_floor(store, &word);
     expect("floor", code, word, HLC_OK, floor);
-    code = hlc_join_at(store, floor - 1, &node, &word);
+    code = hlc_store_join_at(store, floor - 1, &node, &word);
     expect("join below the floor", code, word, HLC_BELOW_HORIZON, floor);
-    code = hlc_join_at(store, START, &node, &word);
+    code = hlc_store_join_at(store, START, &node, &word);
     expect("join", code, word, HLC_OK, START);
     expect("node", code, node, HLC_OK, 2);
-    code = hlc_check_vacuum(store, floor + 1, &word);
+    code = hlc_store_check_vacuum(store, floor + 1, &word);
     expect("check above the floor", code, word, HLC_ABOVE_FLOOR, floor);
-    code = hlc_vacuum_to(store, floor + 1, &word, &kept, &bytes, &dropped);
+    code = hlc_store_vacuum_to(store, floor + 1, &word, &kept, &bytes, &dropped);
     expect("vacuum above the floor", code, word, HLC_ABOVE_FLOOR, floor);
-    code = hlc_vacuum_to(store, THRESHOLD, &word, &kept, &bytes, &dropped);
+    code = hlc_store_vacuum_to(store, THRESHOLD, &word, &kept, &bytes, &dropped);
     expect("vacuum", code, word, HLC_OK, THRESHOLD);
     expect("kept", code, kept, HLC_OK, 2);
     expect("bytes", code, bytes, HLC_OK, 39);
     expect("dropped", code, dropped, HLC_OK, 1);
-    code = hlc_check_vacuum(store, THRESHOLD - 1, &word);
+    code = hlc_store_check_vacuum(store, THRESHOLD - 1, &word);
     expect("check below the horizon", code, word, HLC_BELOW_HORIZON, THRESHOLD);
 }
 
@@ -79,19 +80,19 @@ static size_t answers(hlc_store *store, uint8_t *out, size_t room)
     hlc_output output = HLC_NO_OUTPUT;
     uint64_t id, word, kept, cost;
     size_t len, all;
-    uint32_t code = hlc_certificate(store, THRESHOLD, &word, &kept, &cost, &output, &len);
+    uint32_t code = hlc_certificate_make(store, THRESHOLD, &word, &kept, &cost, &output, &len);
     expect("certificate", code, kept, HLC_OK, 2);
     code = hlc_output_read(&output, 0, out, room, &all);
     expect("its bytes", code, all, HLC_OK, len);
     hlc_output_drop(&output);
     for (uint64_t at = 20; at < 22; at++) {
-        code = hlc_open_snapshot(store, AT(at), &id);
+        code = hlc_snapshot_open(store, AT(at), &id);
         expect("snapshot", code, id, HLC_OK, at - 19);
-        code = hlc_list(store, id, out + all, room - all, &len);
+        code = hlc_snapshot_list(store, id, out + all, room - all, &len);
         expect("list", code, len, HLC_OK, 51);
         all += len;
     }
-    code = hlc_open_snapshot(store, THRESHOLD - 1, &word);
+    code = hlc_snapshot_open(store, THRESHOLD - 1, &word);
     expect("snapshot below the horizon", code, word, HLC_BELOW_HORIZON, THRESHOLD);
     return all;
 }
@@ -102,12 +103,12 @@ int main(void)
     size_t len[2];
     for (int i = 0; i < 2; i++) {
         hlc_store store = HLC_CLOSED_STORE;
-        expect("open", hlc_open(&store, 2), 0, HLC_OK, 0);
+        expect("open", hlc_store_open(&store, 2), 0, HLC_OK, 0);
         accept(&store, before[i], 5);
         join_and_vacuum(&store, floors[i]);
         accept(&store, behind[i], 2);
         len[i] = answers(&store, out[i], sizeof out[i]);
-        hlc_close(&store);
+        hlc_store_close(&store);
     }
     if (len[0] != len[1] || memcmp(out[0], out[1], len[0]) != 0) wrong++;
     printf("%s\n", wrong ? "wrong" : "all right");

@@ -40,7 +40,7 @@ static void write_item(hlc_node *node, uint64_t reading, const uint8_t *key, siz
     uint32_t code = hlc_node_write(node, reading, key, key_len, value, value_len, &number, &word);
     print_two("write", code, number, word);
     if (code != HLC_OK) return;
-    code = hlc_accept_write(&store, node->id, number, word, key, key_len, value, value_len, &word);
+    code = hlc_store_accept_write(&store, node->id, number, word, key, key_len, value, value_len, &word);
     print_answer("accept", code, word);
 }
 
@@ -48,7 +48,7 @@ static void report(hlc_node *node, uint64_t reading)
 {
     uint32_t code = hlc_node_report(node, reading, &number, &word);
     print_two("report", code, number, word);
-    code = hlc_accept_report(&store, node->id, number, word, &word);
+    code = hlc_store_accept_report(&store, node->id, number, word, &word);
     print_answer("accept", code, word);
 }
 
@@ -56,7 +56,7 @@ static void read_key(uint64_t id, const uint8_t *key, size_t key_len)
 {
     uint8_t out[16];
     size_t len;
-    uint32_t code = hlc_read(&store, id, key, key_len, out, sizeof out, &len);
+    uint32_t code = hlc_snapshot_read(&store, id, key, key_len, out, sizeof out, &len);
     bytes("read", code, out, len);
 }
 
@@ -64,7 +64,7 @@ static void list(uint64_t id)
 {
     uint8_t out[64];
     size_t len;
-    uint32_t code = hlc_list(&store, id, out, sizeof out, &len);
+    uint32_t code = hlc_snapshot_list(&store, id, out, sizeof out, &len);
     bytes("list", code, out, len);
 }
 
@@ -80,7 +80,7 @@ static void scan(uint64_t id, const uint8_t *from, size_t from_len, const uint8_
 {
     uint8_t out[64];
     size_t len, many;
-    uint32_t code = hlc_scan(&store, id, from, from_len, to, to_len, out, room, &len, &many);
+    uint32_t code = hlc_snapshot_scan(&store, id, from, from_len, to, to_len, out, room, &len, &many);
     print_part("scan", code, out, len, many);
 }
 
@@ -89,7 +89,7 @@ static void scan_back(uint64_t id, const uint8_t *from, size_t from_len, const u
 {
     uint8_t out[64];
     size_t len, many;
-    uint32_t code = hlc_scan_back(&store, id, from, from_len, to, to_len, out, room, &len, &many);
+    uint32_t code = hlc_snapshot_scan_back(&store, id, from, from_len, to, to_len, out, room, &len, &many);
     print_part("back", code, out, len, many);
 }
 
@@ -98,7 +98,7 @@ static void changes(uint64_t before, uint64_t after, const uint8_t *from, size_t
 {
     uint8_t out[64];
     size_t len, many;
-    uint32_t code = hlc_changes(&store, before, after, from, from_len, BYTES(""), out, room, &len, &many);
+    uint32_t code = hlc_snapshot_changes(&store, before, after, from, from_len, BYTES(""), out, room, &len, &many);
     print_part("changes", code, out, len, many);
 }
 
@@ -107,7 +107,7 @@ static void versions(const uint8_t *key, size_t key_len, uint64_t above, uint64_
 {
     uint8_t out[64];
     size_t len, many;
-    uint32_t code = hlc_versions(&store, key, key_len, above, to, out, sizeof out, &len, &many);
+    uint32_t code = hlc_store_versions(&store, key, key_len, above, to, out, sizeof out, &len, &many);
     print_part("versions", code, out, len, many);
 }
 
@@ -116,7 +116,7 @@ static void scan_keys(uint64_t id, size_t room)
 {
     uint8_t out[64];
     size_t len, many;
-    uint32_t code = hlc_scan_keys(&store, id, BYTES(""), BYTES(""), out, room, &len, &many);
+    uint32_t code = hlc_snapshot_scan_keys(&store, id, BYTES(""), BYTES(""), out, room, &len, &many);
     print_part("scan", code, out, len, many);
 }
 
@@ -124,14 +124,14 @@ static void digest(uint64_t id, const uint8_t *from, size_t from_len)
 {
     uint8_t out[32];
     size_t len;
-    uint32_t code = hlc_digest(&store, id, from, from_len, BYTES(""), out, sizeof out, &len);
+    uint32_t code = hlc_snapshot_digest(&store, id, from, from_len, BYTES(""), out, sizeof out, &len);
     bytes("digest", code, out, len);
 }
 
 static void check(const uint8_t *text, size_t text_len)
 {
     uint64_t rows, cost;
-    uint32_t code = hlc_check(text, text_len, &rows, &cost, &word);
+    uint32_t code = hlc_certificate_check(text, text_len, &rows, &cost, &word);
     printf("checked %" PRIu32 " %" PRIu64 " %" PRIu64 " %" PRIu64 "\n", code, rows, cost, word);
 }
 
@@ -139,14 +139,14 @@ static void link_of(uint16_t node)
 {
     uint64_t next, head;
     bool retired;
-    uint32_t code = hlc_link(&store, node, &next, &head, &retired);
+    uint32_t code = hlc_store_link(&store, node, &next, &head, &retired);
     printf("link %" PRIu32 " %" PRIu64 " %" PRIu64 " %d\n", code, next, head, retired);
 }
 
 static void sizes(void)
 {
     uint64_t rows, keys, key_bytes, value_bytes;
-    uint32_t code = hlc_sizes(&store, &rows, &keys, &key_bytes, &value_bytes);
+    uint32_t code = hlc_store_size(&store, &rows, &keys, &key_bytes, &value_bytes);
     printf("sizes %" PRIu32 " %" PRIu64 " %" PRIu64 " %" PRIu64 " %" PRIu64 "\n", code, rows, keys, key_bytes,
            value_bytes);
 }
@@ -154,7 +154,7 @@ static void sizes(void)
 static void snapshot_at(uint64_t place)
 {
     uint64_t id, stamp;
-    uint32_t code = hlc_snapshot(&store, place, &id, &stamp);
+    uint32_t code = hlc_snapshot_at_place(&store, place, &id, &stamp);
     print_two("opened", code, id, stamp);
 }
 
@@ -164,7 +164,7 @@ static void read_all(uint64_t id, size_t many_keys, size_t room)
     static const hlc_place places[3] = { { 0, 4 }, { 4, 4 }, { 8, 1 } };
     uint8_t out[64];
     size_t len, many;
-    uint32_t code = hlc_read_all(&store, id, places, many_keys, BYTES("citytown"), out, room, &len, &many);
+    uint32_t code = hlc_snapshot_read_all(&store, id, places, many_keys, BYTES("citytown"), out, room, &len, &many);
     print_part("read all", code, out, len, many);
 }
 
@@ -212,16 +212,16 @@ static void look_round(void)
     read_all(1, 2, 14);
     read_all(1, 3, 64);
     read_all(3, 3, 64);
-    code = hlc_count(&store, 1, BYTES("a"), BYTES("d"), &many);
+    code = hlc_snapshot_count(&store, 1, BYTES("a"), BYTES("d"), &many);
     print_answer("count", code, many);
-    code = hlc_count(&store, 3, BYTES("a"), BYTES("d"), &many);
+    code = hlc_snapshot_count(&store, 3, BYTES("a"), BYTES("d"), &many);
     print_answer("count", code, many);
-    code = hlc_horizon(&store, &word);
+    code = hlc_store_horizon(&store, &word);
     print_answer("horizon", code, word);
-    code = hlc_nodes(&store, &many);
+    code = hlc_store_nodes(&store, &many);
     print_answer("nodes", code, many);
     for (uint16_t node = 0; node < 3; node++) link_of(node);
-    code = hlc_floor_node(&store, &many);
+    code = hlc_store_floor_node(&store, &many);
     print_answer("floor node", code, many);
     for (uint64_t place = 0; place < 3; place++) snapshot_at(place);
 }
@@ -237,32 +237,32 @@ static void save(void)
     uint32_t code;
     for (int i = 0; i < 2; i++) {
         hlc_output_drop(&output);
-        code = hlc_checkpoint(&store, 77, &output, &len);
+        code = hlc_checkpoint_make(&store, 77, &output, &len);
         print_answer("checkpoint", code, len);
     }
-    hlc_ignore(hlc_output_read(&output, 0, saved, sizeof saved, &len));
+    hlc_answer_ignore(hlc_output_read(&output, 0, saved, sizeof saved, &len));
     hlc_output_drop(&output);
-    code = hlc_restore(&copy, saved, len - 1, &word);
+    code = hlc_store_restore(&copy, saved, len - 1, &word);
     print_answer("restore", code, word);
     saved[0] ^= 1;
-    code = hlc_restore(&copy, saved, len, &word);
+    code = hlc_store_restore(&copy, saved, len, &word);
     print_answer("restore", code, word);
     saved[0] ^= 1;
     for (int i = 0; i < 2; i++) {
-        code = hlc_restore(&copy, saved, len, &word);
+        code = hlc_store_restore(&copy, saved, len, &word);
         print_answer("restore", code, word);
     }
-    code = hlc_rows(&copy, &rows);
+    code = hlc_store_rows(&copy, &rows);
     print_answer("rows", code, rows);
-    code = hlc_read(&copy, 1, BYTES("city"), out, sizeof out, &value_len);
+    code = hlc_snapshot_read(&copy, 1, BYTES("city"), out, sizeof out, &value_len);
     bytes("read", code, out, value_len);
-    hlc_close(&copy);
+    hlc_store_close(&copy);
 }
 
 static void items(hlc_store *replica, const uint8_t *log, size_t log_len)
 {
     size_t used, many;
-    uint32_t code = hlc_items_accept(replica, log, log_len, &used, &many, &word);
+    uint32_t code = hlc_store_accept_items(replica, log, log_len, &used, &many, &word);
     printf("items %" PRIu32 " %zu %zu %" PRIu64 "\n", code, used, many, word);
 }
 
@@ -273,25 +273,25 @@ static void replicate(void)
     uint8_t log[128];
     uint64_t rows;
     size_t len, end = 0;
-    uint32_t code = hlc_item_write(0, 0, AT(10), BYTES("city"), BYTES("Lyon"), log, sizeof log, &len);
+    uint32_t code = hlc_item_encode_write(0, 0, AT(10), BYTES("city"), BYTES("Lyon"), log, sizeof log, &len);
     print_answer("item", code, len);
     end += len;
-    code = hlc_item_report(0, 1, AT(11), log + end, sizeof log - end, &len);
+    code = hlc_item_encode_report(0, 1, AT(11), log + end, sizeof log - end, &len);
     print_answer("item", code, len);
     end += len;
-    code = hlc_item_retire(0, 2, AT(12), log + end, sizeof log - end, &len);
+    code = hlc_item_encode_retire(0, 2, AT(12), log + end, sizeof log - end, &len);
     print_answer("item", code, len);
     end += len;
-    code = hlc_item_delete(0, 3, AT(13), BYTES(""), log + end, sizeof log - end, &len);
+    code = hlc_item_encode_delete(0, 3, AT(13), BYTES(""), log + end, sizeof log - end, &len);
     print_answer("item", code, len);
-    line("open", hlc_open(&replica, 1));
+    line("open", hlc_store_open(&replica, 1));
     items(&replica, log, 32);
     items(&replica, log + 52, 20);
     items(&replica, log, 40);
     items(&replica, log, end);
-    code = hlc_rows(&replica, &rows);
+    code = hlc_store_rows(&replica, &rows);
     print_answer("rows", code, rows);
-    hlc_close(&replica);
+    hlc_store_close(&replica);
     items(&replica, log, end);
 }
 
@@ -324,9 +324,9 @@ static void accept_three(hlc_node *node)
     entries[1] = (hlc_entry){ .node = node->id, .deletes = true, .number = number, .stamp = word, .key_at = 8,
                               .key_len = 4 };
     entries[2] = (hlc_entry){ .node = node->id, .key_at = 12, .key_len = 1 };
-    code = hlc_accept_all(&store, entries, 3, BYTES("lakeComotown"), &many, &word);
+    code = hlc_store_accept_all(&store, entries, 3, BYTES("lakeComotown"), &many, &word);
     print_two("all", code, many, word);
-    code = hlc_accept_all(&store, entries + 1, 1, BYTES("lakeComotown"), &many, &word);
+    code = hlc_store_accept_all(&store, entries + 1, 1, BYTES("lakeComotown"), &many, &word);
     print_two("all", code, many, word);
 }
 
@@ -335,7 +335,7 @@ static size_t certificate(uint64_t stamp, hlc_output *output)
 {
     uint64_t kept, cost;
     size_t len;
-    uint32_t code = hlc_certificate(&store, stamp, &word, &kept, &cost, output, &len);
+    uint32_t code = hlc_certificate_make(&store, stamp, &word, &kept, &cost, output, &len);
     print_two("certificate", code, len, word);
     if (code == HLC_OK) print_two("kept", code, kept, cost);
     return len;
@@ -351,23 +351,23 @@ static void keep_above(hlc_node *node)
     uint32_t code;
     write_item(node, 39, BYTES("city"), BYTES("Bern"));
     report(node, 45);
-    code = hlc_join_at(&store, AT(40), &joined, &word);
+    code = hlc_store_join_at(&store, AT(40), &joined, &word);
     print_two("join at", code, joined, word);
-    code = hlc_join_at(&store, AT(50), &joined, &word);
+    code = hlc_store_join_at(&store, AT(50), &joined, &word);
     print_two("join at", code, joined, word);
-    code = hlc_check_vacuum(&store, AT(42), &word);
+    code = hlc_store_check_vacuum(&store, AT(42), &word);
     print_answer("check", code, word);
-    code = hlc_check_vacuum(&store, AT(40), &word);
+    code = hlc_store_check_vacuum(&store, AT(40), &word);
     print_answer("check", code, word);
-    code = hlc_vacuum_to(&store, AT(40), &word, &kept, &cost, &dropped);
+    code = hlc_store_vacuum_to(&store, AT(40), &word, &kept, &cost, &dropped);
     print_answer("vacuum to", code, word);
     print_two("kept", code, kept, cost);
     print_answer("dropped", code, dropped);
-    code = hlc_vacuum_to(&store, AT(39), &word, &kept, &cost, &dropped);
+    code = hlc_store_vacuum_to(&store, AT(39), &word, &kept, &cost, &dropped);
     print_answer("vacuum to", code, word);
     certificate(AT(40), &output);
     hlc_output_drop(&output);
-    code = hlc_rows(&store, &word);
+    code = hlc_store_rows(&store, &word);
     print_answer("rows", code, word);
     sizes();
 }
@@ -379,8 +379,8 @@ static bool vacuum_part(uint64_t stamp, size_t most, uint8_t key[255], size_t *k
     bool more;
     uint8_t out[255];
     size_t len;
-    uint32_t code = hlc_vacuum_part(&store, stamp, key, *key_len, most, &word, &kept, &cost, &dropped, out, sizeof out,
-                                    &len, &more);
+    uint32_t code = hlc_store_vacuum_part(&store, stamp, key, *key_len, most, &word, &kept, &cost, &dropped, out,
+                                          sizeof out, &len, &more);
     printf("part %" PRIu32 " %" PRIu64 " %" PRIu64 " %" PRIu64 " %" PRIu64 " %d ", code, word, kept, cost, dropped,
            more);
     for (size_t i = 0; i < len; i++) printf("%02x", out[i]);
@@ -409,11 +409,11 @@ static void keep_in_parts(hlc_node *b, hlc_node *c)
     report(b, 48);
     vacuum_parts(AT(49), 1);
     vacuum_parts(AT(47), 1);
-    code = hlc_horizon(&store, &word);
+    code = hlc_store_horizon(&store, &word);
     print_answer("horizon", code, word);
     vacuum_parts(AT(46), 1);
     vacuum_parts(AT(48), 2);
-    code = hlc_vacuum_to(&store, AT(48), &word, &kept, &cost, &dropped);
+    code = hlc_store_vacuum_to(&store, AT(48), &word, &kept, &cost, &dropped);
     print_answer("vacuum to", code, word);
     print_two("kept", code, kept, cost);
     print_answer("dropped", code, dropped);
@@ -440,10 +440,10 @@ static void certify(void)
     uint64_t at, kept, cost, dropped;
     uint8_t text[256];
     size_t len;
-    uint32_t code = hlc_floor(&store, &at);
+    uint32_t code = hlc_store_floor(&store, &at);
     print_answer("floor", code, at);
     certificate(at, &output);
-    code = hlc_vacuum(&store, &at, &kept, &cost, &dropped);
+    code = hlc_store_vacuum(&store, &at, &kept, &cost, &dropped);
     print_answer("vacuum", code, at);
     print_two("kept", code, kept, cost);
     print_answer("dropped", code, dropped);
@@ -451,7 +451,7 @@ static void certify(void)
     certificate(at + 1, &output);
     certificate(at, &output);
     print_output(&output);
-    hlc_ignore(hlc_output_read(&output, 0, text, sizeof text, &len));
+    hlc_answer_ignore(hlc_output_read(&output, 0, text, sizeof text, &len));
     hlc_output_drop(&output);
     check(text, len);
     check(text, 35);
@@ -474,16 +474,16 @@ int main(void)
     say(4);
     say(HLC_NO_CHECKPOINT);
     say(HLC_HAS_BYTES);
-    code = hlc_rows(&store, &word);
+    code = hlc_store_rows(&store, &word);
     print_answer("rows", code, word);
     sizes();
-    line("open", hlc_open(&store, 0));
-    line("open", hlc_open(&store, 2));
-    line("open", hlc_open(&store, 2));
+    line("open", hlc_store_open(&store, 0));
+    line("open", hlc_store_open(&store, 2));
+    line("open", hlc_store_open(&store, 2));
     write_item(&a, 10, BYTES("city"), BYTES("Lyon"));
-    code = hlc_accept_write(&store, 0, 0, word, BYTES("city"), BYTES("Lyon"), &word);
+    code = hlc_store_accept_write(&store, 0, 0, word, BYTES("city"), BYTES("Lyon"), &word);
     print_answer("again", code, word);
-    code = hlc_check_write(&store, 0, 1, (uint64_t)11 << 16, BYTES(""), BYTES("Lyon"), &word);
+    code = hlc_store_check_write(&store, 0, 1, (uint64_t)11 << 16, BYTES(""), BYTES("Lyon"), &word);
     print_answer("check", code, word);
     write_item(&a, 10, BYTES("city"), BYTES("Paris"));
     code = hlc_node_send(&a, 12, &at);
@@ -491,25 +491,25 @@ int main(void)
     code = hlc_node_receive(&b, at, 11, &word);
     print_answer("receive", code, word);
     report(&b, 11);
-    code = hlc_floor(&store, &at);
+    code = hlc_store_floor(&store, &at);
     print_answer("floor", code, at);
-    code = hlc_open_snapshot(&store, at + 1, &id);
+    code = hlc_snapshot_open(&store, at + 1, &id);
     print_answer("snapshot", code, id);
-    code = hlc_open_snapshot_at_floor(&store, &id, &at);
+    code = hlc_snapshot_open_at_floor(&store, &id, &at);
     print_two("snapshot", code, id, at);
     read_key(1, BYTES("city"));
     memset(out, 'x', sizeof out);
-    code = hlc_read(&store, 1, BYTES("city"), out, 4, &len);
+    code = hlc_snapshot_read(&store, 1, BYTES("city"), out, 4, &len);
     print_two("short", code, len, memcmp(out, "xxxxx", 5) == 0);
     read_key(1, BYTES("town"));
     read_key(2, BYTES("city"));
     write_item(&b, 20, BYTES("town"), BYTES(""));
     code = hlc_node_delete(&a, 21, BYTES("city"), &number, &word);
     print_two("delete", code, number, word);
-    code = hlc_accept_delete(&store, 0, number, word, BYTES("city"), &word);
+    code = hlc_store_accept_delete(&store, 0, number, word, BYTES("city"), &word);
     print_answer("accept", code, word);
     report(&b, 22);
-    code = hlc_open_snapshot_at_floor(&store, &id, &at);
+    code = hlc_snapshot_open_at_floor(&store, &id, &at);
     print_two("snapshot", code, id, at);
     list(1);
     list(2);
@@ -518,46 +518,46 @@ int main(void)
     save();
     replicate();
     restart();
-    code = hlc_rows(&store, &word);
+    code = hlc_store_rows(&store, &word);
     print_answer("rows", code, word);
     sizes();
-    code = hlc_vacuum(&store, &at, &kept, &cost, &dropped);
+    code = hlc_store_vacuum(&store, &at, &kept, &cost, &dropped);
     print_answer("vacuum", code, at);
     print_two("kept", code, kept, cost);
     print_answer("dropped", code, dropped);
     read_key(1, BYTES("city"));
-    code = hlc_close_snapshot(&store, 1, &at);
+    code = hlc_snapshot_close(&store, 1, &at);
     print_answer("close", code, at);
-    code = hlc_close_snapshot(&store, 1, &at);
+    code = hlc_snapshot_close(&store, 1, &at);
     print_answer("close", code, at);
     certify();
-    code = hlc_rows(&store, &word);
+    code = hlc_store_rows(&store, &word);
     print_answer("rows", code, word);
     sizes();
-    code = hlc_open_snapshot(&store, 1, &id);
+    code = hlc_snapshot_open(&store, 1, &id);
     print_answer("snapshot", code, id);
-    code = hlc_join(&store, &joined, &start);
+    code = hlc_store_join(&store, &joined, &start);
     print_two("join", code, joined, start);
     c = hlc_node_open(joined, start);
     write_item(&c, 1, BYTES("city"), BYTES("Rome"));
     accept_three(&b);
     code = hlc_node_retire(&a, 30, &number, &word);
     print_two("retire", code, number, word);
-    code = hlc_accept_retire(&store, 0, number, word, &word);
+    code = hlc_store_accept_retire(&store, 0, number, word, &word);
     print_answer("accept", code, word);
     write_item(&a, 31, BYTES("city"), BYTES("Nice"));
-    code = hlc_check_report(&store, 0, 4, (uint64_t)31 << 16, &word);
+    code = hlc_store_check_report(&store, 0, 4, (uint64_t)31 << 16, &word);
     print_answer("check", code, word);
     write_item(&b, (uint64_t)1 << 48, BYTES("city"), BYTES("Nice"));
     write_item(&b, 31, large, 256, BYTES("Nice"));
     write_item(&b, 31, BYTES("city"), large, sizeof large);
     keep_above(&c);
     keep_in_parts(&b, &c);
-    line("close all", hlc_close_all(&store));
+    line("close all", hlc_snapshot_close_all(&store));
     snapshot_at(0);
-    hlc_close(&store);
-    line("close all", hlc_close_all(&store));
-    code = hlc_floor(&store, &at);
+    hlc_store_close(&store);
+    line("close all", hlc_snapshot_close_all(&store));
+    code = hlc_store_floor(&store, &at);
     print_answer("floor", code, at);
     return 0;
 }

@@ -69,7 +69,7 @@ static bool reads_key(hlc_store *mine, const struct snapshot *at, unsigned k)
     uint8_t out[VALUE_ROOM];
     size_t key_len = key_of(k, key), len;
     int expected = value_of(k, at->round, value);
-    uint32_t code = hlc_read(mine, at->id, (uint8_t *)key, key_len, out, sizeof out, &len);
+    uint32_t code = hlc_snapshot_read(mine, at->id, (uint8_t *)key, key_len, out, sizeof out, &len);
     if (expected < 0) return code == HLC_NO_VALUE;
     return code == HLC_OK && len == (size_t)expected && memcmp(out, value, len) == 0;
 }
@@ -103,7 +103,7 @@ static bool scans(hlc_store *mine, const struct snapshot *at)
     unsigned k = 0;
     while (code == HLC_MORE) {
         const uint8_t *rest = out;
-        code = hlc_scan(mine, at->id, (uint8_t *)from, from_len, NULL, 0, out, sizeof out, &len, &many);
+        code = hlc_snapshot_scan(mine, at->id, (uint8_t *)from, from_len, NULL, 0, out, sizeof out, &len, &many);
         for (size_t i = 0; i < many; i++) {
             if (!takes_pair(&rest, &k, at->round)) return false;
         }
@@ -124,7 +124,7 @@ static bool scans_back(hlc_store *mine, const struct snapshot *at)
     unsigned k = KEYS;
     while (code == HLC_MORE) {
         const uint8_t *rest = out;
-        code = hlc_scan_back(mine, at->id, NULL, 0, (uint8_t *)key, key_len, out, sizeof out, &len, &many);
+        code = hlc_snapshot_scan_back(mine, at->id, NULL, 0, (uint8_t *)key, key_len, out, sizeof out, &len, &many);
         for (size_t i = 0; i < many; i++) {
             int value_len = -1;
             while (k > 0 && value_len < 0) value_len = value_of(--k, at->round, value);
@@ -144,7 +144,7 @@ static bool changes(hlc_store *mine, const struct snapshot *before, const struct
     uint8_t out[KEYS * (KEY_ROOM + VALUE_ROOM + 17)] = { 0 };
     const uint8_t *rest = out;
     size_t len, many;
-    uint32_t code = hlc_changes(mine, before->id, after->id, NULL, 0, NULL, 0, out, sizeof out, &len, &many);
+    uint32_t code = hlc_snapshot_changes(mine, before->id, after->id, NULL, 0, NULL, 0, out, sizeof out, &len, &many);
     for (unsigned k = 0; k < KEYS; k++) {
         int old_len = value_of(k, before->round, old), new_len = value_of(k, after->round, new);
         if (old_len == new_len && (new_len < 0 || memcmp(old, new, (size_t)new_len) == 0)) continue;
@@ -159,7 +159,8 @@ static bool counts(hlc_store *mine, const struct snapshot *at, unsigned k)
     char from[KEY_ROOM], to[KEY_ROOM];
     unsigned end = k + (KEYS - k) / 2 + 1;
     uint64_t many;
-    uint32_t code = hlc_count(mine, at->id, (uint8_t *)from, key_of(k, from), (uint8_t *)to, key_of(end, to), &many);
+    uint32_t code = hlc_snapshot_count(mine, at->id, (uint8_t *)from, key_of(k, from), (uint8_t *)to, key_of(end, to),
+                                       &many);
     return code == HLC_OK && many == count_of(k, end, at->round);
 }
 
@@ -169,7 +170,7 @@ static bool digests(hlc_store *mine, const struct snapshot *at)
     uint8_t out[2][32];
     size_t len;
     for (int i = 0; i < 2; i++) {
-        if (hlc_digest(mine, at->id, NULL, 0, NULL, 0, out[i], 32, &len) != HLC_OK) return false;
+        if (hlc_snapshot_digest(mine, at->id, NULL, 0, NULL, 0, out[i], 32, &len) != HLC_OK) return false;
     }
     return memcmp(out[0], out[1], 32) == 0;
 }
@@ -180,9 +181,9 @@ static bool saves(hlc_store *mine, uint64_t horizon)
     hlc_output output = HLC_NO_OUTPUT;
     size_t len, increment_len;
     uint64_t word;
-    uint32_t code = hlc_checkpoint(mine, 0, &output, &len);
+    uint32_t code = hlc_checkpoint_make(mine, 0, &output, &len);
     hlc_output_drop(&output);
-    if (code == HLC_OK) code = hlc_increment(mine, horizon, 0, &output, &increment_len, &word);
+    if (code == HLC_OK) code = hlc_increment_make(mine, horizon, 0, &output, &increment_len, &word);
     hlc_output_drop(&output);
     return code == HLC_OK && len > 0 && increment_len > 0;
 }
@@ -191,10 +192,10 @@ static bool saves(hlc_store *mine, uint64_t horizon)
 static bool asks(hlc_store *mine, const struct snapshot *at)
 {
     uint64_t floor, horizon, rows, id, stamp;
-    if (hlc_floor(mine, &floor) != HLC_OK || floor < at->stamp) return false;
-    if (hlc_horizon(mine, &horizon) != HLC_OK || horizon > floor) return false;
-    if (hlc_rows(mine, &rows) != HLC_OK || rows < count_of(0, KEYS, at->round)) return false;
-    if (hlc_snapshot(mine, 0, &id, &stamp) != HLC_OK || stamp > at->stamp) return false;
+    if (hlc_store_floor(mine, &floor) != HLC_OK || floor < at->stamp) return false;
+    if (hlc_store_horizon(mine, &horizon) != HLC_OK || horizon > floor) return false;
+    if (hlc_store_rows(mine, &rows) != HLC_OK || rows < count_of(0, KEYS, at->round)) return false;
+    if (hlc_snapshot_at_place(mine, 0, &id, &stamp) != HLC_OK || stamp > at->stamp) return false;
     return saves(mine, horizon);
 }
 
@@ -242,9 +243,9 @@ static void change(hlc_node *node, unsigned k, unsigned round)
     if (code != HLC_OK) stop("issue", code);
     pthread_rwlock_wrlock(&lock);
     code = len < 0
-        ? hlc_accept_delete(&store, node->id, number, stamp, (uint8_t *)key, key_len, &word)
-        : hlc_accept_write(&store, node->id, number, stamp, (uint8_t *)key, key_len, (uint8_t *)value, (size_t)len,
-                           &word);
+        ? hlc_store_accept_delete(&store, node->id, number, stamp, (uint8_t *)key, key_len, &word)
+        : hlc_store_accept_write(&store, node->id, number, stamp, (uint8_t *)key, key_len, (uint8_t *)value,
+                                 (size_t)len, &word);
     pthread_rwlock_unlock(&lock);
     if (code != HLC_OK) stop("accept", code);
 }
@@ -255,10 +256,10 @@ static void end_round(unsigned round)
     struct snapshot *at = &snapshots[round % OPEN];
     uint64_t stamp, floor, kept, bytes, dropped;
     pthread_rwlock_wrlock(&lock);
-    uint32_t code = hlc_close_snapshot(&store, at->id, &stamp);
-    if (code == HLC_OK) code = hlc_open_snapshot_at_floor(&store, &at->id, &at->stamp);
+    uint32_t code = hlc_snapshot_close(&store, at->id, &stamp);
+    if (code == HLC_OK) code = hlc_snapshot_open_at_floor(&store, &at->id, &at->stamp);
     at->round = round;
-    if (code == HLC_OK && round % 3 == 0) code = hlc_vacuum(&store, &floor, &kept, &bytes, &dropped);
+    if (code == HLC_OK && round % 3 == 0) code = hlc_store_vacuum(&store, &floor, &kept, &bytes, &dropped);
     ended = round == rounds;
     pthread_rwlock_unlock(&lock);
     if (code != HLC_OK) stop("end of a round", code);
@@ -289,10 +290,10 @@ static void make_lock(void)
 
 static void open_store(void)
 {
-    uint32_t code = hlc_open(&store, 1);
+    uint32_t code = hlc_store_open(&store, 1);
     if (code != HLC_OK) stop("open", code);
     for (unsigned i = 0; i < OPEN; i++) {
-        code = hlc_open_snapshot_at_floor(&store, &snapshots[i].id, &snapshots[i].stamp);
+        code = hlc_snapshot_open_at_floor(&store, &snapshots[i].id, &snapshots[i].stamp);
         if (code != HLC_OK) stop("snapshot", code);
     }
 }
@@ -316,7 +317,7 @@ int main(int count, char **words)
         wrong += readers[i].wrong;
     }
     fprintf(stderr, "%u of %u answers are wrong\n", wrong, looks);
-    hlc_close(&store);
+    hlc_store_close(&store);
     pthread_rwlock_destroy(&lock);
     printf("%s\n", wrong ? "wrong" : "all right");
     return wrong != 0;

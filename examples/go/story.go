@@ -110,12 +110,12 @@ func closedSnapshot() *hlcstore.Snapshot {
 	return snapshot
 }
 
-// sized returns some bytes with their length before them, as hlc_list writes them.
+// sized returns some bytes with their length before them, as hlc_snapshot_list writes them.
 func sized(part []byte) []byte {
 	return append(binary.LittleEndian.AppendUint64(nil, uint64(len(part))), part...)
 }
 
-// answer returns the bytes of an answer, as hlc_read_all writes them.
+// answer returns the bytes of an answer, as hlc_snapshot_read_all writes them.
 func answer(value []byte) []byte {
 	if value == nil {
 		return []byte{0}

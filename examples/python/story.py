@@ -82,12 +82,12 @@ def closed_snapshot():
 
 
 def sized(part):
-    """Some bytes with their length before them, as hlc_list writes them."""
+    """Some bytes with their length before them, as hlc_snapshot_list writes them."""
     return struct.pack("<Q", len(part)) + part
 
 
 def pairs(snapshot, *bounds):
-    """The pairs of a range, as hlc_list writes them."""
+    """The pairs of a range, as hlc_snapshot_list writes them."""
     return [sized(key) + sized(value) for key, value in snapshot.items(*bounds)]
 
 
@@ -121,7 +121,7 @@ def scan_back(room, snapshot, *bounds):
 
 
 def answer(value):
-    """The bytes of an answer, as hlc_read_all writes them."""
+    """The bytes of an answer, as hlc_snapshot_read_all writes them."""
     return b"\0" if value is None else b"\1" + sized(value)
 
 

@@ -126,17 +126,17 @@ class node {
 
 // Items as bytes, for a log. store::accept_log takes them, one after another.
 inline std::string encode_write(const item& item, std::string_view key, std::string_view value) {
-  return detail::fetch(hlc_item_write, item.node, item.number, item.stamp.word, detail::bytes(key), key.size(),
+  return detail::fetch(hlc_item_encode_write, item.node, item.number, item.stamp.word, detail::bytes(key), key.size(),
                        detail::bytes(value), value.size());
 }
 inline std::string encode_erase(const item& item, std::string_view key) {
-  return detail::fetch(hlc_item_delete, item.node, item.number, item.stamp.word, detail::bytes(key), key.size());
+  return detail::fetch(hlc_item_encode_delete, item.node, item.number, item.stamp.word, detail::bytes(key), key.size());
 }
 inline std::string encode_report(const item& item) {
-  return detail::fetch(hlc_item_report, item.node, item.number, item.stamp.word);
+  return detail::fetch(hlc_item_encode_report, item.node, item.number, item.stamp.word);
 }
 inline std::string encode_retire(const item& item) {
-  return detail::fetch(hlc_item_retire, item.node, item.number, item.stamp.word);
+  return detail::fetch(hlc_item_encode_retire, item.node, item.number, item.stamp.word);
 }
 inline std::string encode(const owned_item& item) {
   switch (item.kind) {
@@ -151,9 +151,9 @@ inline std::string encode(const owned_item& item) {
 // The records of a log that replicas share, other than items, as bytes: a node joins, with the number that it is
 // assigned and its start; and a retention threshold, below which no more snapshot is opened.
 inline std::string encode_join(std::uint16_t node, timestamp start) {
-  return detail::fetch(hlc_record_join, node, start.word);
+  return detail::fetch(hlc_record_encode_join, node, start.word);
 }
-inline std::string encode_threshold(timestamp stamp) { return detail::fetch(hlc_record_threshold, stamp.word); }
+inline std::string encode_threshold(timestamp stamp) { return detail::fetch(hlc_record_encode_threshold, stamp.word); }
 
 // Writes and deletions to pass to a store in one call.
 class batch {

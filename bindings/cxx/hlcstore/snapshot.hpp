@@ -67,7 +67,7 @@ struct rising {
 struct pairs : rising {
   using value_type = std::pair<std::string, std::string>;
   static part scan(const view& view, std::string_view from, std::string_view to, std::size_t room) {
-    return view.scan(hlc_scan, from, to, room);
+    return view.scan(hlc_snapshot_scan, from, to, room);
   }
   static void take(std::string_view& rest, value_type& entry) {
     entry.first = take_text(rest);
@@ -79,7 +79,7 @@ struct pairs : rising {
 // From the end of the range, the last key first.
 struct pairs_back : pairs {
   static part scan(const view& view, std::string_view from, std::string_view to, std::size_t room) {
-    return view.scan(hlc_scan_back, from, to, room);
+    return view.scan(hlc_snapshot_scan_back, from, to, room);
   }
   static void go_on(const std::string& key, std::string&, std::string& to) { to.assign(key); }
   static bool is_after(std::string_view next, std::string_view key) noexcept { return next < key; }
@@ -88,7 +88,7 @@ struct pairs_back : pairs {
 struct keys : rising {
   using value_type = std::string;
   static part scan(const view& view, std::string_view from, std::string_view to, std::size_t room) {
-    return view.scan(hlc_scan_keys, from, to, room);
+    return view.scan(hlc_snapshot_scan_keys, from, to, room);
   }
   static void take(std::string_view& rest, value_type& entry) { entry = take_text(rest); }
   static const std::string& key(const value_type& entry) noexcept { return entry; }
@@ -100,7 +100,7 @@ struct changes : rising {
 
   using value_type = std::pair<std::string, std::optional<std::string>>;
   part scan(const view& view, std::string_view from, std::string_view to, std::size_t room) const {
-    return view.scan(hlc_changes, from, to, room, after);
+    return view.scan(hlc_snapshot_changes, from, to, room, after);
   }
   static void take(std::string_view& rest, value_type& entry) {
     entry.first = take_text(rest);
@@ -261,7 +261,7 @@ class snapshot {
   std::optional<std::string> get(std::string_view key) const {
     hlc_store mine = view_.copy();
     std::string value;
-    const std::uint32_t code = detail::fetch_to(value, hlc_read, &mine, id(), detail::bytes(key), key.size());
+    const std::uint32_t code = detail::fetch_to(value, hlc_snapshot_read, &mine, id(), detail::bytes(key), key.size());
     if (code == HLC_NO_VALUE) return std::nullopt;
     detail::check(code);
     return value;
@@ -319,36 +319,38 @@ class snapshot {
 
   // As many pairs of a range, or from its end, or keys, as fit into so many bytes.
   part scan(std::string_view from, std::string_view to, std::size_t room) const {
-    return view_.scan(hlc_scan, from, to, room);
+    return view_.scan(hlc_snapshot_scan, from, to, room);
   }
   part scan_back(std::string_view from, std::string_view to, std::size_t room) const {
-    return view_.scan(hlc_scan_back, from, to, room);
+    return view_.scan(hlc_snapshot_scan_back, from, to, room);
   }
   part scan_keys(std::string_view from, std::string_view to, std::size_t room) const {
-    return view_.scan(hlc_scan_keys, from, to, room);
+    return view_.scan(hlc_snapshot_scan_keys, from, to, room);
   }
 
-  // All pairs, as bytes in the form of hlc_list.
+  // All pairs, as bytes in the form of hlc_snapshot_list.
   std::string list() const {
     hlc_store mine = view_.copy();
-    return detail::fetch(hlc_list, &mine, id());
+    return detail::fetch(hlc_snapshot_list, &mine, id());
   }
 
   std::uint64_t count(std::string_view from = {}, std::string_view to = {}) const {
     hlc_store mine = view_.copy();
-    return detail::word_of(hlc_count, &mine, id(), detail::bytes(from), from.size(), detail::bytes(to), to.size());
+    return detail::word_of(hlc_snapshot_count, &mine, id(), detail::bytes(from), from.size(), detail::bytes(to),
+                           to.size());
   }
 
   // The SHA-256 of a range, in 32 bytes, by which replicas compare.
   std::string digest(std::string_view from = {}, std::string_view to = {}) const {
     hlc_store mine = view_.copy();
-    return detail::fetch(hlc_digest, &mine, id(), detail::bytes(from), from.size(), detail::bytes(to), to.size());
+    return detail::fetch(hlc_snapshot_digest, &mine, id(), detail::bytes(from), from.size(), detail::bytes(to),
+                         to.size());
   }
 
   // Closes the snapshot. Its calls throw HLC_NO_SNAPSHOT from then on.
   void close() noexcept {
     std::uint64_t stamp;
-    if (view_.handle) static_cast<void>(hlc_close_snapshot(view_.handle.get(), view_.id, &stamp) == HLC_OK);
+    if (view_.handle) static_cast<void>(hlc_snapshot_close(view_.handle.get(), view_.id, &stamp) == HLC_OK);
     view_.handle = nullptr;
   }
 
@@ -371,9 +373,9 @@ class snapshot {
     hlc_store mine = view_.copy();
     std::string piece(1 + detail::length_size + detail::longest_value, '\0');
     std::size_t len, many;
-    const std::uint32_t code = hlc_read_all(&mine, id(), places.data() + values.size(), places.size() - values.size(),
-                                            detail::bytes(bytes), bytes.size(), detail::bytes(piece), piece.size(),
-                                            &len, &many);
+    const std::uint32_t code = hlc_snapshot_read_all(&mine, id(), places.data() + values.size(),
+                                                     places.size() - values.size(), detail::bytes(bytes), bytes.size(),
+                                                     detail::bytes(piece), piece.size(), &len, &many);
     if (code != HLC_MORE) detail::check(code);
     if (many == 0) throw error(HLC_MORE);
     std::string_view rest = piece;

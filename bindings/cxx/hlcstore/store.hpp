@@ -96,7 +96,7 @@ struct shown {
 // Checks the text of a certificate.
 inline shown check_certificate(std::string_view text) {
   shown found;
-  detail::word_of(hlc_check, detail::bytes(text), text.size(), &found.rows, &found.bytes);
+  detail::word_of(hlc_certificate_check, detail::bytes(text), text.size(), &found.rows, &found.bytes);
   return found;
 }
 
@@ -120,8 +120,8 @@ inline std::pair<std::string, std::string> split_checkpoint(std::string_view che
   detail::output left, right;
   std::uint64_t word;
   std::size_t left_len, right_len;
-  const std::uint32_t code = hlc_split(detail::bytes(checkpoint), checkpoint.size(), detail::bytes(key), key.size(),
-                                       left.raw(), right.raw(), &left_len, &right_len, &word);
+  const std::uint32_t code = hlc_checkpoint_split(detail::bytes(checkpoint), checkpoint.size(), detail::bytes(key),
+                                                  key.size(), left.raw(), right.raw(), &left_len, &right_len, &word);
   detail::check(code, word);
   return {left.text(left_len), right.text(right_len)};
 }
@@ -133,7 +133,8 @@ inline std::string merge_checkpoints(std::string_view left, std::string_view rig
   std::uint64_t word;
   std::size_t len;
   const std::uint32_t code =
-      hlc_merge(detail::bytes(left), left.size(), detail::bytes(right), right.size(), made.raw(), &len, &word);
+      hlc_checkpoint_merge(detail::bytes(left), left.size(), detail::bytes(right), right.size(), made.raw(), &len,
+                           &word);
   detail::check(code, word);
   return made.text(len);
 }
@@ -141,12 +142,12 @@ inline std::string merge_checkpoints(std::string_view left, std::string_view rig
 // A restore from the bytes of a checkpoint in pieces of any size. `store::restore` ends it.
 class restoring {
  public:
-  restoring() { detail::check(hlc_restore_start(&raw_)); }
+  restoring() { detail::check(hlc_restoring_start(&raw_)); }
   restoring(const restoring&) = delete;
   restoring& operator=(const restoring&) = delete;
-  ~restoring() { hlc_restore_drop(&raw_); }
+  ~restoring() { hlc_restoring_drop(&raw_); }
 
-  void feed(std::string_view piece) { detail::check(hlc_restore_feed(&raw_, detail::bytes(piece), piece.size())); }
+  void feed(std::string_view piece) { detail::check(hlc_restoring_feed(&raw_, detail::bytes(piece), piece.size())); }
 
  private:
   friend class store;
@@ -170,7 +171,7 @@ class store {
 
   void open(std::uint16_t nodes) {
     const auto opened = handle_or_new();
-    detail::check(hlc_open(opened.get(), nodes));
+    detail::check(hlc_store_open(opened.get(), nodes));
     handle_ = opened;
   }
 
@@ -178,7 +179,7 @@ class store {
   std::uint64_t restore(std::string_view checkpoint) {
     const auto opened = handle_or_new();
     const std::uint64_t word =
-        detail::word_of(hlc_restore, opened.get(), detail::bytes(checkpoint), checkpoint.size());
+        detail::word_of(hlc_store_restore, opened.get(), detail::bytes(checkpoint), checkpoint.size());
     handle_ = opened;
     return word;
   }
@@ -186,33 +187,34 @@ class store {
   // Opens a closed store from all pieces that were fed, in the same way.
   std::uint64_t restore(restoring& pieces) {
     const auto opened = handle_or_new();
-    const std::uint64_t word = detail::word_of(hlc_restore_finish, &pieces.raw_, opened.get());
+    const std::uint64_t word = detail::word_of(hlc_restoring_finish, &pieces.raw_, opened.get());
     handle_ = opened;
     return word;
   }
 
   void close() noexcept {
-    if (handle_) hlc_close(handle_.get());
+    if (handle_) hlc_store_close(handle_.get());
     handle_ = nullptr;
   }
 
-  // The handle, for calls of hlcstore.h other than hlc_close; null where the store is closed.
+  // The handle, for calls of hlcstore.h other than hlc_store_close; null where the store is closed.
   hlc_store* raw() & noexcept { return handle_.get(); }
 
   // ---- Items ----
 
   void accept_write(const item& item, std::string_view key, std::string_view value) {
-    detail::word_of(hlc_accept_write, own(), item.node, item.number, item.stamp.word, detail::bytes(key), key.size(),
-                    detail::bytes(value), value.size());
+    detail::word_of(hlc_store_accept_write, own(), item.node, item.number, item.stamp.word, detail::bytes(key),
+                    key.size(), detail::bytes(value), value.size());
   }
   void accept_erase(const item& item, std::string_view key) {
-    detail::word_of(hlc_accept_delete, own(), item.node, item.number, item.stamp.word, detail::bytes(key), key.size());
+    detail::word_of(hlc_store_accept_delete, own(), item.node, item.number, item.stamp.word, detail::bytes(key),
+                    key.size());
   }
   void accept_report(const item& item) {
-    detail::word_of(hlc_accept_report, own(), item.node, item.number, item.stamp.word);
+    detail::word_of(hlc_store_accept_report, own(), item.node, item.number, item.stamp.word);
   }
   void accept_retire(const item& item) {
-    detail::word_of(hlc_accept_retire, own(), item.node, item.number, item.stamp.word);
+    detail::word_of(hlc_store_accept_retire, own(), item.node, item.number, item.stamp.word);
   }
   void accept(const owned_item& item) {
     switch (item.kind) {
@@ -226,15 +228,15 @@ class store {
   // Accepts the items in turn until one is refused.
   [[nodiscard]] batch_answer accept(const batch& items) {
     batch_answer made;
-    made.code = hlc_accept_all(own(), items.entries_.data(), items.entries_.size(), detail::bytes(items.bytes_),
-                               items.bytes_.size(), &made.many, &made.word);
+    made.code = hlc_store_accept_all(own(), items.entries_.data(), items.entries_.size(), detail::bytes(items.bytes_),
+                                     items.bytes_.size(), &made.many, &made.word);
     return made;
   }
 
   // Accepts encoded items in turn until one is refused, and passes over those that were accepted before.
   [[nodiscard]] log_answer accept_log(std::string_view bytes) {
     log_answer made;
-    made.code = hlc_items_accept(own(), detail::bytes(bytes), bytes.size(), &made.used, &made.many, &made.word);
+    made.code = hlc_store_accept_items(own(), detail::bytes(bytes), bytes.size(), &made.used, &made.many, &made.word);
     return made;
   }
 
@@ -242,36 +244,36 @@ class store {
   // accepted, and nodes join at their starts. A threshold changes nothing: the caller may vacuum to it.
   [[nodiscard]] records_answer apply_records(std::string_view bytes) {
     records_answer made;
-    made.code = hlc_records_apply(own(), detail::bytes(bytes), bytes.size(), &made.used, &made.many,
-                                  &made.threshold.word, &made.word);
+    made.code = hlc_store_apply_records(own(), detail::bytes(bytes), bytes.size(), &made.used, &made.many,
+                                        &made.threshold.word, &made.word);
     return made;
   }
 
   // What accepting the item would answer, except HLC_NO_MEMORY. check_report answers for a retirement too.
   [[nodiscard]] answer check_write(const item& item, std::string_view key, std::string_view value) const {
     hlc_store mine = copy();
-    return detail::answered(hlc_check_write, &mine, item.node, item.number, item.stamp.word, detail::bytes(key),
+    return detail::answered(hlc_store_check_write, &mine, item.node, item.number, item.stamp.word, detail::bytes(key),
                             key.size(), detail::bytes(value), value.size());
   }
   [[nodiscard]] answer check_erase(const item& item, std::string_view key) const {
     hlc_store mine = copy();
-    return detail::answered(hlc_check_delete, &mine, item.node, item.number, item.stamp.word, detail::bytes(key),
+    return detail::answered(hlc_store_check_delete, &mine, item.node, item.number, item.stamp.word, detail::bytes(key),
                             key.size());
   }
   [[nodiscard]] answer check_report(const item& item) const {
     hlc_store mine = copy();
-    return detail::answered(hlc_check_report, &mine, item.node, item.number, item.stamp.word);
+    return detail::answered(hlc_store_check_report, &mine, item.node, item.number, item.stamp.word);
   }
 
   // Lets a node join: at the floor (closed timestamp), or at a start at or above it.
   node join() {
     std::uint16_t id;
-    const std::uint64_t start = detail::word_of(hlc_join, own(), &id);
+    const std::uint64_t start = detail::word_of(hlc_store_join, own(), &id);
     return node(id, {start});
   }
   node join_at(timestamp start) {
     std::uint16_t id;
-    detail::word_of(hlc_join_at, own(), start.word, &id);
+    detail::word_of(hlc_store_join_at, own(), start.word, &id);
     return node(id, start);
   }
 
@@ -280,11 +282,11 @@ class store {
   // Opens a snapshot: at the floor, or at a stamp. The store must outlive it, so a temporary one has no such call.
   snapshot open_snapshot() & {
     std::uint64_t id;
-    const std::uint64_t stamp = detail::word_of(hlc_open_snapshot_at_floor, own(), &id);
+    const std::uint64_t stamp = detail::word_of(hlc_snapshot_open_at_floor, own(), &id);
     return {handle_, id, {stamp}};
   }
   snapshot open_snapshot(timestamp stamp) & {
-    return {handle_, detail::word_of(hlc_open_snapshot, own(), stamp.word), stamp};
+    return {handle_, detail::word_of(hlc_snapshot_open, own(), stamp.word), stamp};
   }
   snapshot open_snapshot() && = delete;
   snapshot open_snapshot(timestamp stamp) && = delete;
@@ -304,41 +306,41 @@ class store {
     std::vector<snapshot_info> found;
     for (;;) {
       snapshot_info next;
-      const std::uint32_t code = hlc_snapshot(&mine, found.size(), &next.id, &next.stamp.word);
+      const std::uint32_t code = hlc_snapshot_at_place(&mine, found.size(), &next.id, &next.stamp.word);
       if (code == HLC_NO_SNAPSHOT) return found;
       detail::check(code);
       found.push_back(next);
     }
   }
 
-  void close_all() { detail::check(hlc_close_all(own())); }
+  void close_all() { detail::check(hlc_snapshot_close_all(own())); }
 
   // ---- What the store has ----
 
-  timestamp floor() const { return {asked(hlc_floor)}; }
-  timestamp horizon() const { return {asked(hlc_horizon)}; }
-  std::uint64_t rows() const { return asked(hlc_rows); }
-  std::uint64_t nodes() const { return asked(hlc_nodes); }
+  timestamp floor() const { return {asked(hlc_store_floor)}; }
+  timestamp horizon() const { return {asked(hlc_store_horizon)}; }
+  std::uint64_t rows() const { return asked(hlc_store_rows); }
+  std::uint64_t nodes() const { return asked(hlc_store_nodes); }
 
   // In constant time.
   store_sizes sizes() const {
     hlc_store mine = copy();
     store_sizes found;
-    detail::check(hlc_sizes(&mine, &found.rows, &found.keys, &found.key_bytes, &found.value_bytes));
+    detail::check(hlc_store_size(&mine, &found.rows, &found.keys, &found.key_bytes, &found.value_bytes));
     return found;
   }
 
   link_state link(std::uint16_t node) const {
     hlc_store mine = copy();
     link_state found;
-    detail::check(hlc_link(&mine, node, &found.next, &found.head.word, &found.retired));
+    detail::check(hlc_store_link(&mine, node, &found.next, &found.head.word, &found.retired));
     return found;
   }
 
   // The first node that holds the floor back; none where all nodes have retired.
   std::optional<std::uint16_t> floor_node() const {
     hlc_store mine = copy();
-    const answer found = detail::answered(hlc_floor_node, &mine);
+    const answer found = detail::answered(hlc_store_floor_node, &mine);
     if (found.code == HLC_NO_NODE) return std::nullopt;
     detail::check(found.code);
     return static_cast<std::uint16_t>(found.word);
@@ -350,7 +352,7 @@ class store {
     hlc_store mine = copy();
     std::size_t many = 0;
     const std::string bytes = detail::fetch([&](std::uint8_t* out, std::size_t room, std::size_t* len) {
-      return hlc_versions(&mine, detail::bytes(key), key.size(), above.word, to.word, out, room, len, &many);
+      return hlc_store_versions(&mine, detail::bytes(key), key.size(), above.word, to.word, out, room, len, &many);
     });
     std::vector<key_version> found;
     found.reserve(many);
@@ -370,13 +372,13 @@ class store {
   // Drops the rows that no reader needs: up to the floor, or up to a stamp, which is the horizon from then on.
   vacuum_report vacuum() {
     vacuum_report made;
-    detail::check(hlc_vacuum(own(), &made.stamp.word, &made.kept, &made.bytes, &made.dropped));
+    detail::check(hlc_store_vacuum(own(), &made.stamp.word, &made.kept, &made.bytes, &made.dropped));
     return made;
   }
   vacuum_report vacuum_to(timestamp stamp) {
     vacuum_report made;
     const std::uint32_t code =
-        hlc_vacuum_to(own(), stamp.word, &made.stamp.word, &made.kept, &made.bytes, &made.dropped);
+        hlc_store_vacuum_to(own(), stamp.word, &made.stamp.word, &made.kept, &made.bytes, &made.dropped);
     detail::check(code, made.stamp.word);
     return made;
   }
@@ -390,9 +392,9 @@ class store {
     std::string next(std::max(detail::longest_key, after.size()), '\0');
     std::size_t len = 0;
     bool more = false;
-    const std::uint32_t code = hlc_vacuum_part(
-        own(), stamp.word, detail::bytes(after), after.size(), most, &made.stamp.word, &made.kept, &made.bytes,
-        &made.dropped, detail::bytes(next), next.size(), &len, &more);
+    const std::uint32_t code = hlc_store_vacuum_part(own(), stamp.word, detail::bytes(after), after.size(), most,
+                                                     &made.stamp.word, &made.kept, &made.bytes, &made.dropped,
+                                                     detail::bytes(next), next.size(), &len, &more);
     detail::check(code, made.stamp.word);
     // A key that did not fit would let the caller's loop begin again.
     if (len > next.size()) throw error(HLC_MORE);
@@ -404,7 +406,7 @@ class store {
   // What vacuum_to would answer, except HLC_NO_MEMORY.
   [[nodiscard]] answer check_vacuum(timestamp stamp) const {
     hlc_store mine = copy();
-    return detail::answered(hlc_check_vacuum, &mine, stamp.word);
+    return detail::answered(hlc_store_check_vacuum, &mine, stamp.word);
   }
 
   // The certificate of the rows at or below a stamp, after a vacuum to it or the last part of one. Where a vacuum would
@@ -416,7 +418,7 @@ class store {
     std::uint64_t word;
     std::size_t len;
     const std::uint32_t code =
-        hlc_certificate(&mine, stamp.word, &word, &made.kept, &made.bytes, text.raw(), &len);
+        hlc_certificate_make(&mine, stamp.word, &word, &made.kept, &made.bytes, text.raw(), &len);
     detail::check(code, word);
     made.certificate = text.text(len);
     return made;
@@ -427,7 +429,7 @@ class store {
     hlc_store mine = copy();
     detail::output saved;
     std::size_t len;
-    detail::check(hlc_checkpoint(&mine, word, saved.raw(), &len));
+    detail::check(hlc_checkpoint_make(&mine, word, saved.raw(), &len));
     return saved.text(len);
   }
 
@@ -455,7 +457,7 @@ class store {
     detail::output saved;
     std::uint64_t horizon;
     std::size_t len;
-    const std::uint32_t code = hlc_increment(&mine, since.word, word, saved.raw(), &len, &horizon);
+    const std::uint32_t code = hlc_increment_make(&mine, since.word, word, saved.raw(), &len, &horizon);
     detail::check(code, horizon);
     return saved.text(len);
   }

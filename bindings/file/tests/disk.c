@@ -80,7 +80,7 @@ static void a_vacuum_outlives_a_loss_of_power(void)
     shim_set(NO_FAULT, false, 0, 0);
     hlc_file *file = opened(fresh(PATH));
     for (uint64_t l = 1; l <= 5; l++) put(file, l, "a", "x");
-    EXPECT(hlc_record_threshold(AT(4), bytes, sizeof bytes, &len), HLC_OK);
+    EXPECT(hlc_record_encode_threshold(AT(4), bytes, sizeof bytes, &len), HLC_OK);
     EXPECT(hlc_file_append_records(file, bytes, len, HLC_FILE_WRITTEN, &many, &word), HLC_OK);
     EXPECT(hlc_file_vacuum_to(file, AT(4), &word, &kept, &cost, &dropped), HLC_OK);
     lose_power(file);

@@ -55,8 +55,8 @@ static bool retire_others(void)
     uint64_t nodes, next, head, stamp;
     bool retired;
     hlc_file_read_begin(file, &mine);
-    EXPECT(hlc_nodes(&mine, &nodes), HLC_OK);
-    EXPECT(hlc_link(&mine, (uint16_t)(nodes - 1), &next, &head, &retired), HLC_OK);
+    EXPECT(hlc_store_nodes(&mine, &nodes), HLC_OK);
+    EXPECT(hlc_store_link(&mine, (uint16_t)(nodes - 1), &next, &head, &retired), HLC_OK);
     hlc_file_read_end(file);
     if (nodes == 1 || retired) return true;
     uint32_t answer = hlc_file_retire(file, (uint16_t)(nodes - 1), 10 + (uint64_t)many, &stamp);
@@ -145,7 +145,7 @@ static void find_out(int step)
     EXPECT(hlc_file_open_snapshot_at_floor(file, &id, &at), HLC_OK);
     hlc_store mine;
     hlc_file_read_begin(file, &mine);
-    EXPECT(hlc_versions(&mine, BYTES(key_of(step)), 0, UINT64_MAX, out, sizeof out, &len, &found), HLC_OK);
+    EXPECT(hlc_store_versions(&mine, BYTES(key_of(step)), 0, UINT64_MAX, out, sizeof out, &len, &found), HLC_OK);
     hlc_file_read_end(file);
     EXPECT(found, 1);
     hlc_file_close_snapshot(file, id, &word);

@@ -194,7 +194,7 @@ static uint64_t number_at_snapshot(hlc_store *mine, uint64_t id, const char *key
 {
     char value[32] = "";
     size_t len;
-    if (hlc_read(mine, id, BYTES(key), (uint8_t *)value, sizeof value - 1, &len) != HLC_OK) return 0;
+    if (hlc_snapshot_read(mine, id, BYTES(key), (uint8_t *)value, sizeof value - 1, &len) != HLC_OK) return 0;
     return strtoull(value, NULL, 10);
 }
 
@@ -248,7 +248,7 @@ static void find_under_way(uint32_t thread)
     HOLDS(number == promised[thread].many || number == promised[thread].many + 1);
     if (number == promised[thread].many + 1) {
         uint64_t above = promised[thread].many ? promised[thread].stamps[promised[thread].many - 1] : 0;
-        EXPECT(hlc_versions(&mine, BYTES(key), above, stamp, out, sizeof out, &len, &many), HLC_OK);
+        EXPECT(hlc_store_versions(&mine, BYTES(key), above, stamp, out, sizeof out, &len, &many), HLC_OK);
         EXPECT(many, 1);
         memcpy(&stamp, out, sizeof stamp);
         note_append(thread, number, stamp);
@@ -262,12 +262,12 @@ static void compare_nodes(void)
     hlc_store mine;
     uint64_t many, next, head, stamp;
     hlc_file_read_begin(file, &mine);
-    EXPECT(hlc_nodes(&mine, &many), HLC_OK);
+    EXPECT(hlc_store_nodes(&mine, &many), HLC_OK);
     HOLDS(many == nodes || many == nodes + 1);
     nodes = many;
     for (uint64_t i = 0; i < nodes; i++) {
         bool has;
-        EXPECT(hlc_link(&mine, (uint16_t)i, &next, &head, &has), HLC_OK);
+        EXPECT(hlc_store_link(&mine, (uint16_t)i, &next, &head, &has), HLC_OK);
         HOLDS(has || !retired[i]);
         retired[i] = has;
     }
@@ -287,7 +287,7 @@ static void digest(uint64_t stamp, uint8_t *out)
     hlc_store mine;
     EXPECT(hlc_file_open_snapshot(file, stamp, &id), HLC_OK);
     hlc_file_read_begin(file, &mine);
-    EXPECT(hlc_digest(&mine, id, NULL, 0, NULL, 0, out, 32, &len), HLC_OK);
+    EXPECT(hlc_snapshot_digest(&mine, id, NULL, 0, NULL, 0, out, 32, &len), HLC_OK);
     hlc_file_read_end(file);
     hlc_file_close_snapshot(file, id, &at);
 }

@@ -62,7 +62,7 @@ static uint32_t call_records(void)
     uint8_t bytes[100];
     size_t len, many;
     uint64_t word;
-    EXPECT(hlc_item_write(0, 5, AT(50), BYTES("new"), BYTES("x"), bytes, sizeof bytes, &len), HLC_OK);
+    EXPECT(hlc_item_encode_write(0, 5, AT(50), BYTES("new"), BYTES("x"), bytes, sizeof bytes, &len), HLC_OK);
     return hlc_file_append_records(file, bytes, len, 0, &many, &word);
 }
 
@@ -79,7 +79,7 @@ static void retire_joined(void)
     hlc_store mine;
     uint64_t nodes, word;
     hlc_file_read_begin(file, &mine);
-    EXPECT(hlc_nodes(&mine, &nodes), HLC_OK);
+    EXPECT(hlc_store_nodes(&mine, &nodes), HLC_OK);
     hlc_file_read_end(file);
     if (nodes > 1) EXPECT(hlc_file_retire(file, (uint16_t)(nodes - 1), 60, &word), HLC_OK);
 }
@@ -117,7 +117,7 @@ static uint32_t call_threshold(void)
     uint8_t bytes[9];
     size_t len, many;
     uint64_t word;
-    EXPECT(hlc_record_threshold(AT(3), bytes, sizeof bytes, &len), HLC_OK);
+    EXPECT(hlc_record_encode_threshold(AT(3), bytes, sizeof bytes, &len), HLC_OK);
     return hlc_file_append_records(file, bytes, len, 0, &many, &word);
 }
 

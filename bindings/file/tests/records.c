@@ -1,4 +1,4 @@
-/* What the links answer to records is what hlc_records_apply answers, for random records, good and bad: records
+/* What the links answer to records is what hlc_store_apply_records answers, for random records, good and bad: records
  * [TIMES]. The links are those of the library's own source. */
 #include "../record.c"
 #include "test.h"
@@ -24,13 +24,14 @@ static size_t put_record(const struct links *links, uint8_t *bytes)
     uint32_t answer = HLC_OK;
     if (chance(200) == 0) number = UINT64_MAX;
     switch (chance(12)) {
-    case 0: answer = hlc_item_report(node, number, stamp, bytes, 100, &len); break;
-    case 1: answer = hlc_record_threshold(stamp, bytes, 100, &len); break;
-    case 2: answer = hlc_record_join((uint16_t)(links->many - (chance(4) == 0) + (chance(9) == 0)),
-                                     links_floor(links) + 2 - chance(3), bytes, 100, &len); break;
-    case 3: if (chance(4) == 0) answer = hlc_item_retire(node, number, stamp, bytes, 100, &len); break;
-    case 4: answer = hlc_item_delete(node, number, stamp, BYTES("key"), bytes, 100, &len); break;
-    default: answer = hlc_item_write(node, number, stamp, BYTES("key"), value, chance(sizeof value), bytes, 100, &len);
+    case 0: answer = hlc_item_encode_report(node, number, stamp, bytes, 100, &len); break;
+    case 1: answer = hlc_record_encode_threshold(stamp, bytes, 100, &len); break;
+    case 2: answer = hlc_record_encode_join((uint16_t)(links->many - (chance(4) == 0) + (chance(9) == 0)),
+                                            links_floor(links) + 2 - chance(3), bytes, 100, &len); break;
+    case 3: if (chance(4) == 0) answer = hlc_item_encode_retire(node, number, stamp, bytes, 100, &len); break;
+    case 4: answer = hlc_item_encode_delete(node, number, stamp, BYTES("key"), bytes, 100, &len); break;
+    default: answer = hlc_item_encode_write(node, number, stamp, BYTES("key"), value, chance(sizeof value), bytes, 100,
+                                            &len);
     }
     EXPECT(answer, HLC_OK);
     return len;
@@ -49,7 +50,7 @@ static void compare(hlc_store *store, struct links *links)
     for (int i = 0; i < 3; i++) len += put_record(links, bytes + len);
     if (len > 0 && chance(5) == 0) bytes[chance((unsigned)len)] ^= (uint8_t)(1 << chance(8));
     if (len > 0 && chance(5) == 0) len -= chance((unsigned)len);
-    uint32_t answer = hlc_records_apply(store, bytes, len, &used, &many, &threshold, &word), ours = HLC_OK;
+    uint32_t answer = hlc_store_apply_records(store, bytes, len, &used, &many, &threshold, &word), ours = HLC_OK;
     for (; ours == HLC_OK && at < len; at += ours == HLC_OK ? record.len : 0) {
         ours = record_read(bytes + at, len - at, &record, &our_word);
         if (ours == HLC_OK) ours = links_take(links, &record, &came_before, &our_word);
@@ -66,7 +67,7 @@ static void compare(hlc_store *store, struct links *links)
         EXPECT(links->at[i].head, made.at[i].head);
         EXPECT(links->at[i].retired, made.at[i].retired);
     }
-    EXPECT(hlc_floor(store, &word), HLC_OK);
+    EXPECT(hlc_store_floor(store, &word), HLC_OK);
     EXPECT(links_floor(links), word);
 }
 
@@ -77,10 +78,10 @@ int main(int argc, char **argv)
     test_name = "records";
     for (unsigned i = 0; i < times && wrong == 0; i++) {
         hlc_store store = HLC_CLOSED_STORE;
-        EXPECT(hlc_open(&store, (uint16_t)(1 + chance(4))), HLC_OK);
+        EXPECT(hlc_store_open(&store, (uint16_t)(1 + chance(4))), HLC_OK);
         links_of_store(&links, &store);
         for (int j = 0; j < 200 && wrong == 0; j++) compare(&store, &links);
-        hlc_close(&store);
+        hlc_store_close(&store);
     }
     return ended();
 }

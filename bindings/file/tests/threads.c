@@ -47,7 +47,7 @@ static size_t read_key(hlc_store *mine, uint64_t id, char kind, unsigned writer,
     char key[16];
     size_t len;
     snprintf(key, sizeof key, "%c%u", kind, writer);
-    return hlc_read(mine, id, BYTES(key), value, 8, &len) == HLC_OK ? len : 0;
+    return hlc_snapshot_read(mine, id, BYTES(key), value, 8, &len) == HLC_OK ? len : 0;
 }
 
 static void *read_on(void *argument)

@@ -182,7 +182,7 @@ static size_t items(uint8_t *bytes, uint64_t from, uint64_t many, uint64_t l)
 {
     size_t at = 0, len;
     for (uint64_t i = from; i < from + many; i++) {
-        EXPECT(hlc_item_write(1, i, AT(l + i), BYTES("far"), BYTES("v"), bytes + at, 100, &len), HLC_OK);
+        EXPECT(hlc_item_encode_write(1, i, AT(l + i), BYTES("far"), BYTES("v"), bytes + at, 100, &len), HLC_OK);
         at += len;
     }
     return at;
@@ -262,7 +262,7 @@ static void a_threshold_waits_for_the_floor(void)
     uint64_t word, horizon, kept, cost, dropped, place;
     hlc_file *file = opened(fresh(PATH));
     put(file, 5, "a", "x");
-    EXPECT(hlc_record_threshold(AT(8), bytes, sizeof bytes, &len), HLC_OK);
+    EXPECT(hlc_record_encode_threshold(AT(8), bytes, sizeof bytes, &len), HLC_OK);
     EXPECT(hlc_file_append_records(file, bytes, len, 0, &many, &word), HLC_OK);
     EXPECT(hlc_file_vacuum_to(file, AT(4), &word, &kept, &cost, &dropped), HLC_OK);
     for (int i = 0; i < 3; i++) EXPECT(hlc_file_checkpoint(file, &place), HLC_OK);
@@ -289,9 +289,10 @@ static void append_thresholds(hlc_file *file, uint64_t one, uint64_t number, uin
     uint8_t bytes[100];
     size_t at, len, many;
     uint64_t word;
-    EXPECT(hlc_record_threshold(AT(one), bytes, sizeof bytes, &at), HLC_OK);
-    EXPECT(hlc_item_write(0, number, AT(l), BYTES("a"), BYTES("x"), bytes + at, sizeof bytes - at, &len), HLC_OK);
-    EXPECT(hlc_record_threshold(AT(other), bytes + at + len, sizeof bytes - at - len, &many), HLC_OK);
+    EXPECT(hlc_record_encode_threshold(AT(one), bytes, sizeof bytes, &at), HLC_OK);
+    EXPECT(hlc_item_encode_write(0, number, AT(l), BYTES("a"), BYTES("x"), bytes + at, sizeof bytes - at, &len),
+           HLC_OK);
+    EXPECT(hlc_record_encode_threshold(AT(other), bytes + at + len, sizeof bytes - at - len, &many), HLC_OK);
     EXPECT(hlc_file_append_records(file, bytes, at + len + many, 0, &many, &word), HLC_OK);
 }
 
@@ -360,7 +361,7 @@ static void reading_calls_are_those_of_the_store(void)
     EXPECT(many64, 1);
     EXPECT(hlc_file_read(file, id, BYTES("c"), out, sizeof out, &len), HLC_NO_VALUE);
     EXPECT(hlc_file_read_begin(file, &mine), HLC_OK);
-    EXPECT(hlc_read(&mine, id, BYTES("b"), out, sizeof out, &len), HLC_OK);
+    EXPECT(hlc_snapshot_read(&mine, id, BYTES("b"), out, sizeof out, &len), HLC_OK);
     EXPECT(len, 2);
     hlc_file_read_end(file);
     EXPECT(hlc_file_close_snapshot(file, id, &stamp), HLC_OK);
@@ -459,14 +460,14 @@ static void a_copy_opens_in_memory(void)
     hlc_output_drop(&output);
     EXPECT(state_of(file).checkpoint_place, 0);
     EXPECT(hlc_file_close(file), HLC_OK);
-    EXPECT(hlc_restore(&store, bytes, len, &word), HLC_OK);
+    EXPECT(hlc_store_restore(&store, bytes, len, &word), HLC_OK);
     EXPECT(word, 9);
-    EXPECT(hlc_floor(&store, &floor), HLC_OK);
+    EXPECT(hlc_store_floor(&store, &floor), HLC_OK);
     EXPECT(floor, AT(2));
-    EXPECT(hlc_open_snapshot(&store, AT(1), &id), HLC_OK);
-    EXPECT(hlc_read(&store, id, BYTES("a"), bytes, sizeof bytes, &len), HLC_OK);
+    EXPECT(hlc_snapshot_open(&store, AT(1), &id), HLC_OK);
+    EXPECT(hlc_snapshot_read(&store, id, BYTES("a"), bytes, sizeof bytes, &len), HLC_OK);
     HOLDS(len == 3 && memcmp(bytes, "one", len) == 0);
-    hlc_close(&store);
+    hlc_store_close(&store);
 }
 
 /* ---- Answers ---- */

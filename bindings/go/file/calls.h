@@ -250,7 +250,8 @@ static inline file_part file_changes(hlc_file *file, uint64_t before, uint64_t a
     hlc_store store;
     file_part part;
     hlc_file_read_begin(file, &store);
-    part.code = hlc_changes(&store, before, after, from, from_len, to, to_len, out, out_len, &part.len, &part.many);
+    part.code = hlc_snapshot_changes(&store, before, after, from, from_len, to, to_len, out, out_len, &part.len,
+                                     &part.many);
     hlc_file_read_end(file);
     return part;
 }
@@ -270,7 +271,7 @@ static inline file_digest file_digest_of(hlc_file *file, uint64_t id, const uint
     file_digest digest = { 0 };
     size_t len;
     hlc_file_read_begin(file, &store);
-    digest.code = hlc_digest(&store, id, from, from_len, to, to_len, digest.bytes, sizeof digest.bytes, &len);
+    digest.code = hlc_snapshot_digest(&store, id, from, from_len, to, to_len, digest.bytes, sizeof digest.bytes, &len);
     hlc_file_read_end(file);
     return digest;
 }

@@ -16,7 +16,7 @@ use std::alloc::Global;
 
 /// Accepts the write that a node issued under this number. Returns 0 and its stamp, or a refusal and its word.
 #[unsafe(no_mangle)]
-pub extern "C" fn hlc_accept_write(
+pub extern "C" fn hlc_store_accept_write(
     alloc: Global,
     store: &mut Store,
     node: u16,
@@ -38,7 +38,7 @@ pub extern "C" fn hlc_accept_write(
 
 /// Accepts the deletion that a node issued under this number. Returns 0 and its stamp, or a refusal and its word.
 #[unsafe(no_mangle)]
-pub extern "C" fn hlc_accept_delete(
+pub extern "C" fn hlc_store_accept_delete(
     alloc: Global,
     store: &mut Store,
     node: u16,
@@ -59,7 +59,7 @@ pub extern "C" fn hlc_accept_delete(
 
 /// Accepts a node's report of this number. Returns 0 and its stamp, or a refusal and its word. It takes no memory.
 #[unsafe(no_mangle)]
-pub extern "C" fn hlc_accept_report(
+pub extern "C" fn hlc_store_accept_report(
     alloc: Global,
     store: &mut Store,
     node: u16,
@@ -78,7 +78,7 @@ pub extern "C" fn hlc_accept_report(
 
 /// Accepts a node's last item, of this number. Returns 0 and its stamp, or a refusal and its word. No memory.
 #[unsafe(no_mangle)]
-pub extern "C" fn hlc_accept_retire(
+pub extern "C" fn hlc_store_accept_retire(
     alloc: Global,
     store: &mut Store,
     node: u16,
@@ -95,9 +95,9 @@ pub extern "C" fn hlc_accept_retire(
     on_core!(alloc, store, |core| items::accept(core, &item, word))
 }
 
-/// Returns why `hlc_accept_write` would refuse a write, apart from out of memory: 0, or the refusal and its word.
+/// Returns why `hlc_store_accept_write` would refuse a write, apart from out of memory: 0, or the refusal and its word.
 #[unsafe(no_mangle)]
-pub extern "C" fn hlc_check_write(
+pub extern "C" fn hlc_store_check_write(
     store: &mut Reader,
     node: u16,
     number: u64,
@@ -114,9 +114,10 @@ pub extern "C" fn hlc_check_write(
     of_core!(store, [word], |core| items::check(core, &item, word))
 }
 
-/// Returns why `hlc_accept_delete` would refuse a deletion, apart from out of memory: 0, or the refusal and its word.
+/// Returns why `hlc_store_accept_delete` would refuse a deletion, apart from out of memory: 0, or the refusal and its
+/// word.
 #[unsafe(no_mangle)]
-pub extern "C" fn hlc_check_delete(
+pub extern "C" fn hlc_store_check_delete(
     store: &mut Reader,
     node: u16,
     number: u64,
@@ -132,9 +133,10 @@ pub extern "C" fn hlc_check_delete(
     of_core!(store, [word], |core| items::check(core, &item, word))
 }
 
-/// Returns why `hlc_accept_report`, or `hlc_accept_retire`, would refuse an item: 0, or the refusal and its word.
+/// Returns why `hlc_store_accept_report`, or `hlc_store_accept_retire`, would refuse an item: 0, or the refusal and its
+/// word.
 #[unsafe(no_mangle)]
-pub extern "C" fn hlc_check_report(
+pub extern "C" fn hlc_store_check_report(
     store: &mut Reader,
     node: u16,
     number: u64,
@@ -153,7 +155,7 @@ pub extern "C" fn hlc_check_report(
 
 /// Lets a node join. Returns 0, its number and the stamp at which its clock starts; or 26 or 15.
 #[unsafe(no_mangle)]
-pub extern "C" fn hlc_join(alloc: Global, store: &mut Store, node: &mut u16, start: &mut u64) -> u32
+pub extern "C" fn hlc_store_join(alloc: Global, store: &mut Store, node: &mut u16, start: &mut u64) -> u32
     ensures answer { OnStorePast store.old.value store.new.value ((result ≡ 100) × (node.new ≡ 0) × (start.new ≡ 0))
         (λ old new past. ReturnsJoined old new past result node.new start.new) }
     ensures nothing { result ≢ 0 → (node.new ≡ 0) × (start.new ≡ 0) }
@@ -167,7 +169,7 @@ pub extern "C" fn hlc_join(alloc: Global, store: &mut Store, node: &mut u16, sta
 
 /// Lets a node join at a start. Returns 0, its number and the start; or 26, or 9 and the floor, or 15.
 #[unsafe(no_mangle)]
-pub extern "C" fn hlc_join_at(
+pub extern "C" fn hlc_store_join_at(
     alloc: Global,
     store: &mut Store,
     start: u64,
@@ -189,7 +191,7 @@ pub extern "C" fn hlc_join_at(
 /// Accepts writes and deletions in turn, until one is refused. Returns 0, or the answer for the refused one, its word,
 /// and how many were accepted before it. The answer is 103 for an entry whose bytes are not there.
 #[unsafe(no_mangle)]
-pub extern "C" fn hlc_accept_all(
+pub extern "C" fn hlc_store_accept_all(
     alloc: Global,
     store: &mut Store,
     entries: &[Entry],

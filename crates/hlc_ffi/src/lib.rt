@@ -24,7 +24,7 @@ use std::alloc::Global;
 
 /// Opens a closed store of 1 to 64 nodes. Returns 0, 1, 15, or 101 for an open store, which stays unchanged.
 #[unsafe(no_mangle)]
-pub extern "C" fn hlc_open(alloc: Global, store: &mut Store, count: u16) -> u32
+pub extern "C" fn hlc_store_open(alloc: Global, store: &mut Store, count: u16) -> u32
     ensures { IsOpening store.old.value store.new.value count result }
 {
     open(alloc, store, count)
@@ -32,7 +32,7 @@ pub extern "C" fn hlc_open(alloc: Global, store: &mut Store, count: u16) -> u32
 
 /// Closes a store, and frees what it contains. A closed one stays closed.
 #[unsafe(no_mangle)]
-pub extern "C" fn hlc_close(alloc: Global, store: &mut Store)
+pub extern "C" fn hlc_store_close(alloc: Global, store: &mut Store)
     ensures { store.new.value ≡ None }
 {
     let _ = store.take(alloc);

@@ -17,7 +17,7 @@ use std::alloc::Global;
 
 /// Writes a node's write as bytes. Returns 0, how many there are and, where they fit, the bytes; or 12 or 13. No memory.
 #[unsafe(no_mangle)]
-pub extern "C" fn hlc_item_write(
+pub extern "C" fn hlc_item_encode_write(
     node: u16,
     number: u64,
     stamp: u64,
@@ -35,7 +35,7 @@ pub extern "C" fn hlc_item_write(
 
 /// Writes a node's deletion as bytes. Returns 0, how many there are and, where they fit, the bytes; or 12. No memory.
 #[unsafe(no_mangle)]
-pub extern "C" fn hlc_item_delete(
+pub extern "C" fn hlc_item_encode_delete(
     node: u16,
     number: u64,
     stamp: u64,
@@ -51,7 +51,7 @@ pub extern "C" fn hlc_item_delete(
 
 /// Writes a node's report as bytes. Returns 0, how many there are and, where they fit, the bytes. No memory.
 #[unsafe(no_mangle)]
-pub extern "C" fn hlc_item_report(
+pub extern "C" fn hlc_item_encode_report(
     node: u16,
     number: u64,
     stamp: u64,
@@ -66,7 +66,7 @@ pub extern "C" fn hlc_item_report(
 
 /// Writes a node's retirement as bytes. Returns 0, how many there are and, where they fit, the bytes. No memory.
 #[unsafe(no_mangle)]
-pub extern "C" fn hlc_item_retire(
+pub extern "C" fn hlc_item_encode_retire(
     node: u16,
     number: u64,
     stamp: u64,
@@ -82,7 +82,7 @@ pub extern "C" fn hlc_item_retire(
 /// Accepts the items of a log in turn, and passes over those that came before, until one is refused. Returns 0, or its
 /// refusal and word, 106 and the first fault of the bytes, or 15; and how many items were taken, and their bytes.
 #[unsafe(no_mangle)]
-pub extern "C" fn hlc_items_accept(
+pub extern "C" fn hlc_store_accept_items(
     alloc: Global,
     store: &mut Store,
     bytes: &[u8],
@@ -101,7 +101,7 @@ pub extern "C" fn hlc_items_accept(
 
 /// Writes a join as bytes. Returns 0, how many there are and, where they fit, the bytes. No memory.
 #[unsafe(no_mangle)]
-pub extern "C" fn hlc_record_join(node: u16, start: u64, out: &mut [u8], len: &mut usize) -> u32
+pub extern "C" fn hlc_record_encode_join(node: u16, start: u64, out: &mut [u8], len: &mut usize) -> u32
     ensures { ReturnsRecord (Join node start) result len.new out.old out.new }
 {
     records::put_join(node, Stamp::from_bits(start), out, len)
@@ -109,7 +109,7 @@ pub extern "C" fn hlc_record_join(node: u16, start: u64, out: &mut [u8], len: &m
 
 /// Writes a retention threshold as bytes. Returns 0, how many there are and, where they fit, the bytes. No memory.
 #[unsafe(no_mangle)]
-pub extern "C" fn hlc_record_threshold(stamp: u64, out: &mut [u8], len: &mut usize) -> u32
+pub extern "C" fn hlc_record_encode_threshold(stamp: u64, out: &mut [u8], len: &mut usize) -> u32
     ensures { ReturnsRecord (Threshold stamp) result len.new out.old out.new }
 {
     records::put_threshold(Stamp::from_bits(stamp), out, len)
@@ -119,7 +119,7 @@ pub extern "C" fn hlc_record_threshold(stamp: u64, out: &mut [u8], len: &mut usi
 /// its refusal and word, 106 and the first fault of the bytes, or 15; and how many were taken, their bytes and greatest
 /// threshold.
 #[unsafe(no_mangle)]
-pub extern "C" fn hlc_records_apply(
+pub extern "C" fn hlc_store_apply_records(
     alloc: Global,
     store: &mut Store,
     bytes: &[u8],

@@ -13,7 +13,7 @@ use std::alloc::Global;
 
 /// Starts a restore. Returns 0; or 101 where one is under way, which goes on; or 15.
 #[unsafe(no_mangle)]
-pub extern "C" fn hlc_restore_start(alloc: Global, restoring: &mut Restoring) -> u32
+pub extern "C" fn hlc_restoring_start(alloc: Global, restoring: &mut Restoring) -> u32
     ensures { HasStarted restoring.old.value restoring.new.value result }
 {
     start(alloc, restoring)
@@ -21,15 +21,15 @@ pub extern "C" fn hlc_restore_start(alloc: Global, restoring: &mut Restoring) ->
 
 /// Adds the next bytes of a checkpoint. Returns 0; or 100 where no restore is under way; or 15, and nothing was added.
 #[unsafe(no_mangle)]
-pub extern "C" fn hlc_restore_feed(alloc: Global, restoring: &mut Restoring, bytes: &[u8]) -> u32
+pub extern "C" fn hlc_restoring_feed(alloc: Global, restoring: &mut Restoring, bytes: &[u8]) -> u32
     ensures { HasFed restoring.old.value restoring.new.value bytes.now result }
 {
     feed(alloc, restoring, bytes)
 }
 
-/// Ends a restore as `hlc_restore` of all its bytes; or returns 100 for none under way; or 101, and it goes on.
+/// Ends a restore as `hlc_store_restore` of all its bytes; or returns 100 for none under way; or 101, and it goes on.
 #[unsafe(no_mangle)]
-pub extern "C" fn hlc_restore_finish(
+pub extern "C" fn hlc_restoring_finish(
     alloc: Global,
     restoring: &mut Restoring,
     store: &mut Store,
@@ -55,7 +55,7 @@ pub extern "C" fn hlc_restore_finish(
 
 /// Ends a restore, and frees what it has read.
 #[unsafe(no_mangle)]
-pub extern "C" fn hlc_restore_drop(alloc: Global, restoring: &mut Restoring)
+pub extern "C" fn hlc_restoring_drop(alloc: Global, restoring: &mut Restoring)
     ensures { restoring.new.value ≡ None }
 {
     let _ = restoring.take(alloc);

@@ -27,7 +27,7 @@ use std::alloc::Global;
 
 /// Opens a snapshot at a stamp. Returns 0 and its id, or a refusal and its word.
 #[unsafe(no_mangle)]
-pub extern "C" fn hlc_open_snapshot(
+pub extern "C" fn hlc_snapshot_open(
     alloc: Global,
     store: &mut Store,
     stamp: u64,
@@ -45,7 +45,7 @@ pub extern "C" fn hlc_open_snapshot(
 
 /// Opens a snapshot at the floor (closed timestamp). Returns 0, its id and its stamp, or a refusal.
 #[unsafe(no_mangle)]
-pub extern "C" fn hlc_open_snapshot_at_floor(
+pub extern "C" fn hlc_snapshot_open_at_floor(
     alloc: Global,
     store: &mut Store,
     id: &mut u64,
@@ -64,7 +64,7 @@ pub extern "C" fn hlc_open_snapshot_at_floor(
 
 /// Reads a key in a snapshot. Returns 0, the value's length and, where it fits, the value; 102 for none; or 10.
 #[unsafe(no_mangle)]
-pub extern "C" fn hlc_read(
+pub extern "C" fn hlc_snapshot_read(
     store: &mut Reader,
     id: u64,
     key: &[u8],
@@ -81,7 +81,7 @@ pub extern "C" fn hlc_read(
 
 /// Closes a snapshot. Returns 0 and its stamp, or 10. It takes no memory.
 #[unsafe(no_mangle)]
-pub extern "C" fn hlc_close_snapshot(
+pub extern "C" fn hlc_snapshot_close(
     alloc: Global,
     store: &mut Store,
     id: u64,
@@ -98,7 +98,7 @@ pub extern "C" fn hlc_close_snapshot(
 
 /// Closes all open snapshots. Returns 0. It takes no memory.
 #[unsafe(no_mangle)]
-pub extern "C" fn hlc_close_all(alloc: Global, store: &mut Store) -> u32
+pub extern "C" fn hlc_snapshot_close_all(alloc: Global, store: &mut Store) -> u32
     ensures answer { OnStorePast store.old.value store.new.value (result ≡ 100)
         (λ old new past. (result ≡ 0) × Represents new (closed_all old.snapshots past)) }
     ensures nodes { nodes_in_handle store.new.value ≡ nodes_in_handle store.old.value }
@@ -111,7 +111,7 @@ pub extern "C" fn hlc_close_all(alloc: Global, store: &mut Store) -> u32
 
 /// Returns 0 and the floor. It takes no memory.
 #[unsafe(no_mangle)]
-pub extern "C" fn hlc_floor(store: &mut Reader, stamp: &mut u64) -> u32
+pub extern "C" fn hlc_store_floor(store: &mut Reader, stamp: &mut u64) -> u32
     ensures answer { OnReaderPast store.old.room.value ((result ≡ 100) × (stamp.new ≡ 0))
         (λ core past. (result ≡ 0) × (stamp.new ≡ floor (nodes core) past)) }
     ensures same { IsGivenBack store.old.room store.new.room }
@@ -124,7 +124,7 @@ pub extern "C" fn hlc_floor(store: &mut Reader, stamp: &mut u64) -> u32
 
 /// Returns 0 and the number of stored rows, or 2^64 - 1 where that is greater. It takes no memory.
 #[unsafe(no_mangle)]
-pub extern "C" fn hlc_rows(store: &mut Reader, rows: &mut u64) -> u32
+pub extern "C" fn hlc_store_rows(store: &mut Reader, rows: &mut u64) -> u32
     ensures answer { OnReader store.old.room.value ((result ≡ 100) × (rows.new ≡ 0))
         (λ core. (result ≡ 0) × (rows.new ≡ narrowed (length core.rows))) }
     ensures same { IsGivenBack store.old.room store.new.room }
@@ -137,7 +137,7 @@ pub extern "C" fn hlc_rows(store: &mut Reader, rows: &mut u64) -> u32
 
 /// Returns 0, in constant time, how many rows and keys are stored, the bytes of the keys, and those of all values.
 #[unsafe(no_mangle)]
-pub extern "C" fn hlc_sizes(
+pub extern "C" fn hlc_store_size(
     store: &mut Reader,
     rows: &mut u64,
     keys: &mut u64,
@@ -158,7 +158,7 @@ pub extern "C" fn hlc_sizes(
 /// Lists the keys with a value in a snapshot, in byte order. Returns 0, how many bytes the listing has and, where they
 /// fit, the bytes: of each key its length in eight bytes, the key, and the same of its value; or 10. No memory.
 #[unsafe(no_mangle)]
-pub extern "C" fn hlc_list(store: &mut Reader, id: u64, out: &mut [u8], len: &mut usize) -> u32
+pub extern "C" fn hlc_snapshot_list(store: &mut Reader, id: u64, out: &mut [u8], len: &mut usize) -> u32
     ensures answer { OnReaderPast store.old.room.value ((result ≡ 100) × (len.new ≡ 0) × (out.new ≡ out.old))
         (λ core past. ReturnsListing (stamp_of id past) (writes past) result len.new out.old out.new) }
     ensures nothing { result ≢ 0 → (len.new ≡ 0) × (out.new ≡ out.old) }
@@ -167,10 +167,10 @@ pub extern "C" fn hlc_list(store: &mut Reader, id: u64, out: &mut [u8], len: &mu
     of_core!(store, [len], |core| list(core, id, out, len))
 }
 
-/// Lists keys from one on and below another, if that has bytes, as `hlc_list`, but only as many whole pairs as fit.
-/// Returns 0, or 104 where a pair is left, with the length and the number of the pairs; or 10. It takes no memory.
+/// Lists keys from one on and below another, if that has bytes, as `hlc_snapshot_list`, but only as many whole pairs as
+/// fit. Returns 0, or 104 where a pair is left, with the length and the number of the pairs; or 10. It takes no memory.
 #[unsafe(no_mangle)]
-pub extern "C" fn hlc_scan(
+pub extern "C" fn hlc_snapshot_scan(
     store: &mut Reader,
     id: u64,
     from: &[u8],
@@ -189,9 +189,9 @@ pub extern "C" fn hlc_scan(
     })
 }
 
-/// Lists such a range as `hlc_scan` does, but the keys alone: for each its length, and the key.
+/// Lists such a range as `hlc_snapshot_scan` does, but the keys alone: for each its length, and the key.
 #[unsafe(no_mangle)]
-pub extern "C" fn hlc_scan_keys(
+pub extern "C" fn hlc_snapshot_scan_keys(
     store: &mut Reader,
     id: u64,
     from: &[u8],
@@ -210,10 +210,10 @@ pub extern "C" fn hlc_scan_keys(
     of_core!(store, |core| scan(core, id, from, to, true, out, len, many))
 }
 
-/// Lists such a range as `hlc_scan` does, but the last key first, and as many whole pairs as fit from the end: the
-/// next call has the last key that was returned as its `to`. It takes no memory.
+/// Lists such a range as `hlc_snapshot_scan` does, but the last key first, and as many whole pairs as fit from the end:
+/// the next call has the last key that was returned as its `to`. It takes no memory.
 #[unsafe(no_mangle)]
-pub extern "C" fn hlc_scan_back(
+pub extern "C" fn hlc_snapshot_scan_back(
     store: &mut Reader,
     id: u64,
     from: &[u8],
@@ -236,7 +236,7 @@ pub extern "C" fn hlc_scan_back(
 /// and its answer in the second, a byte 0, or 1 and the value after its length. As many whole ones as fit: returns 0 or
 /// 104, the length and the number of them; or 10. It takes no memory.
 #[unsafe(no_mangle)]
-pub extern "C" fn hlc_changes(
+pub extern "C" fn hlc_snapshot_changes(
     store: &mut Reader,
     before: u64,
     after: u64,
@@ -257,10 +257,10 @@ pub extern "C" fn hlc_changes(
 }
 
 /// Lists the stored rows of a key above one stamp and at or below another, the newest first: for each its stamp in
-/// eight bytes, its node in two, and its answer as `hlc_changes`. Returns 0, their bytes, their number and, where all
-/// fit, the bytes. It takes no memory.
+/// eight bytes, its node in two, and its answer as `hlc_snapshot_changes`. Returns 0, their bytes, their number and,
+/// where all fit, the bytes. It takes no memory.
 #[unsafe(no_mangle)]
-pub extern "C" fn hlc_versions(
+pub extern "C" fn hlc_store_versions(
     store: &mut Reader,
     key: &[u8],
     above: u64,
@@ -280,7 +280,7 @@ pub extern "C" fn hlc_versions(
 
 /// Returns 0 and how many keys of such a range have a value in a snapshot, 2^64 - 1 for more; or 10. No memory.
 #[unsafe(no_mangle)]
-pub extern "C" fn hlc_count(
+pub extern "C" fn hlc_snapshot_count(
     store: &mut Reader,
     id: u64,
     from: &[u8],
@@ -294,9 +294,10 @@ pub extern "C" fn hlc_count(
     of_core!(store, [many], |core| count(core, id, from, to, many))
 }
 
-/// Returns 0, 32 and, where it fits, the SHA-256 of what `hlc_list` would return for such a range; or 10. No memory.
+/// Returns 0, 32 and, where it fits, the SHA-256 of what `hlc_snapshot_list` would return for such a range; or 10. No
+/// memory.
 #[unsafe(no_mangle)]
-pub extern "C" fn hlc_digest(
+pub extern "C" fn hlc_snapshot_digest(
     store: &mut Reader,
     id: u64,
     from: &[u8],
@@ -315,7 +316,7 @@ pub extern "C" fn hlc_digest(
 /// after its length of eight bytes. Returns 0; or 103 where the bytes do not have the next key, or 104 where its answer
 /// does not fit; with the length and the number of the answers before it; or 10. It takes no memory.
 #[unsafe(no_mangle)]
-pub extern "C" fn hlc_read_all(
+pub extern "C" fn hlc_snapshot_read_all(
     store: &mut Reader,
     id: u64,
     places: &[Place],

@@ -21,7 +21,7 @@ use std::alloc::Global;
 
 /// Saves a store and a word of the caller's as bytes in an output. Returns 0 and how many they are; or 108, or 15.
 #[unsafe(no_mangle)]
-pub extern "C" fn hlc_checkpoint(
+pub extern "C" fn hlc_checkpoint_make(
     alloc: Global,
     store: &mut Reader,
     word: u64,
@@ -46,7 +46,7 @@ pub extern "C" fn hlc_checkpoint(
 /// Saves the state of a store with the rows above a stamp, and a word of the caller's, as bytes in an output. Returns 0
 /// and how many they are; or 108, 9 and the horizon (GC threshold), or 15.
 #[unsafe(no_mangle)]
-pub extern "C" fn hlc_increment(
+pub extern "C" fn hlc_increment_make(
     alloc: Global,
     store: &mut Reader,
     since: u64,
@@ -96,7 +96,7 @@ pub extern "C" fn hlc_increment_apply(
 
 /// Divides the bytes of a checkpoint at a key into two outputs. Returns 0, or 108, or as `halves` does.
 #[unsafe(no_mangle)]
-pub extern "C" fn hlc_split(
+pub extern "C" fn hlc_checkpoint_split(
     alloc: Global,
     bytes: &[u8],
     key: &[u8],
@@ -114,7 +114,7 @@ pub extern "C" fn hlc_split(
 
 /// Joins the bytes of two checkpoints into those of one. Returns 0, or 108, or as `joined` does.
 #[unsafe(no_mangle)]
-pub extern "C" fn hlc_merge(
+pub extern "C" fn hlc_checkpoint_merge(
     alloc: Global,
     left: &[u8],
     right: &[u8],
@@ -131,10 +131,11 @@ pub extern "C" fn hlc_merge(
     into_output!(alloc, output, len, joined(alloc, left, right, word))
 }
 
-/// Opens a closed store from the bytes of `hlc_checkpoint`. Returns 0 and their word; or 101 for an open store, which
-/// stays as it is; or 106 and the first fault of the bytes, 107 and the first reason against their content, or 15.
+/// Opens a closed store from the bytes of `hlc_checkpoint_make`. Returns 0 and their word; or 101 for an open store,
+/// which stays as it is; or 106 and the first fault of the bytes, 107 and the first reason against their content, or
+/// 15.
 #[unsafe(no_mangle)]
-pub extern "C" fn hlc_restore(alloc: Global, store: &mut Store, bytes: &[u8], word: &mut u64) -> u32
+pub extern "C" fn hlc_store_restore(alloc: Global, store: &mut Store, bytes: &[u8], word: &mut u64) -> u32
     ensures answer { IsRestoring store.old.value store.new.value bytes.now result word.new }
     ensures represents { (saved : ℕ) (past : List Step) → BytesRepresent bytes.now saved past
         → RestoresPast store.old.value store.new.value saved past result word.new }

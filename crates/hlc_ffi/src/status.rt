@@ -11,7 +11,7 @@ use hlc_handle::Reader;
 
 /// Returns 0 and the horizon (GC threshold): the stamp of the last vacuum, or part of one, or 0 before the first.
 #[unsafe(no_mangle)]
-pub extern "C" fn hlc_horizon(store: &mut Reader, stamp: &mut u64) -> u32
+pub extern "C" fn hlc_store_horizon(store: &mut Reader, stamp: &mut u64) -> u32
     ensures answer { OnReaderPast store.old.room.value ((result ≡ 100) × (stamp.new ≡ 0))
         (λ core past. (result ≡ 0) × (stamp.new ≡ horizon past)) }
     ensures same { IsGivenBack store.old.room store.new.room }
@@ -24,7 +24,7 @@ pub extern "C" fn hlc_horizon(store: &mut Reader, stamp: &mut u64) -> u32
 
 /// Returns 0 and how many node numbers are assigned, those of retired nodes too.
 #[unsafe(no_mangle)]
-pub extern "C" fn hlc_nodes(store: &mut Reader, many: &mut u64) -> u32
+pub extern "C" fn hlc_store_nodes(store: &mut Reader, many: &mut u64) -> u32
     ensures answer { OnReaderPast store.old.room.value ((result ≡ 100) × (many.new ≡ 0))
         (λ core past. (result ≡ 0) × (many.new ≡ numbered (nodes core) past)) }
     ensures same { IsGivenBack store.old.room store.new.room }
@@ -37,7 +37,7 @@ pub extern "C" fn hlc_nodes(store: &mut Reader, many: &mut u64) -> u32
 
 /// Returns 0, the number of a node's next item, its head, and whether its retirement was accepted; or 1.
 #[unsafe(no_mangle)]
-pub extern "C" fn hlc_link(
+pub extern "C" fn hlc_store_link(
     store: &mut Reader,
     node: u16,
     next: &mut u64,
@@ -56,7 +56,7 @@ pub extern "C" fn hlc_link(
 
 /// Returns 0 and the first node that holds the floor back: its head is the floor. Or 1, where all nodes have retired.
 #[unsafe(no_mangle)]
-pub extern "C" fn hlc_floor_node(store: &mut Reader, node: &mut u64) -> u32
+pub extern "C" fn hlc_store_floor_node(store: &mut Reader, node: &mut u64) -> u32
     ensures answer { OnReaderPast store.old.room.value ((result ≡ 100) × (node.new ≡ 0))
         (λ core past. ReturnsHolder (nodes core) past result node.new) }
     ensures same { IsGivenBack store.old.room store.new.room }
@@ -66,7 +66,7 @@ pub extern "C" fn hlc_floor_node(store: &mut Reader, node: &mut u64) -> u32
 
 /// Returns 0, the id and the stamp of the open snapshot at a place, by rising ids; or 10 after the last.
 #[unsafe(no_mangle)]
-pub extern "C" fn hlc_snapshot(store: &mut Reader, place: u64, id: &mut u64, stamp: &mut u64) -> u32
+pub extern "C" fn hlc_snapshot_at_place(store: &mut Reader, place: u64, id: &mut u64, stamp: &mut u64) -> u32
     ensures answer { OnReaderPast store.old.room.value ((result ≡ 100) × (id.new ≡ 0) × (stamp.new ≡ 0)) (λ core past.
         ReturnsSnapshot (slice_get (open_snapshots past) place) result id.new stamp.new) }
     ensures same { IsGivenBack store.old.room store.new.room }

@@ -19,7 +19,7 @@ use std::alloc::Global;
 
 /// Drops the rows that no reader needs. Returns 0, the floor, the rows kept up to it, their cost, those dropped; or 15.
 #[unsafe(no_mangle)]
-pub extern "C" fn hlc_vacuum(
+pub extern "C" fn hlc_store_vacuum(
     alloc: Global,
     store: &mut Store,
     floor: &mut u64,
@@ -45,9 +45,10 @@ pub extern "C" fn hlc_vacuum(
     )
 }
 
-/// Returns why `hlc_vacuum_to` would refuse: 0, or 8 and the floor, or 9 and the horizon (GC threshold). No memory.
+/// Returns why `hlc_store_vacuum_to` would refuse: 0, or 8 and the floor, or 9 and the horizon (GC threshold). No
+/// memory.
 #[unsafe(no_mangle)]
-pub extern "C" fn hlc_check_vacuum(store: &mut Reader, at: u64, word: &mut u64) -> u32
+pub extern "C" fn hlc_store_check_vacuum(store: &mut Reader, at: u64, word: &mut u64) -> u32
     ensures answer { OnReader store.old.room.value ((result ≡ 100) × (word.new ≡ 0)) (λ core. (past : List Step)
         → Represents core past → ReturnsVacuumChecked core at past result word.new) }
     ensures same { IsGivenBack store.old.room store.new.room }
@@ -60,7 +61,7 @@ pub extern "C" fn hlc_check_vacuum(store: &mut Reader, at: u64, word: &mut u64) 
 /// Drops the rows at or below a stamp that no reader needs. Returns 0, the stamp, how many rows up to it were kept,
 /// what they cost in bytes, and how many were dropped; or 8 and the floor, 9 and the horizon, or 15.
 #[unsafe(no_mangle)]
-pub extern "C" fn hlc_vacuum_to(
+pub extern "C" fn hlc_store_vacuum_to(
     alloc: Global,
     store: &mut Store,
     at: u64,
@@ -88,10 +89,10 @@ pub extern "C" fn hlc_vacuum_to(
     )
 }
 
-/// Makes a part of `hlc_vacuum_to`, of the first keys above one, at most so many. Returns what that returns, of these
-/// keys; the length of the last one and, where it fits, the key; and whether a key is left above it.
+/// Makes a part of `hlc_store_vacuum_to`, of the first keys above one, at most so many. Returns what that returns, of
+/// these keys; the length of the last one and, where it fits, the key; and whether a key is left above it.
 #[unsafe(no_mangle)]
-pub extern "C" fn hlc_vacuum_part(
+pub extern "C" fn hlc_store_vacuum_part(
     alloc: Global,
     store: &mut Store,
     at: u64,
@@ -134,7 +135,7 @@ pub extern "C" fn hlc_vacuum_part(
 /// stamp would show if it dropped no row. Returns 0, these rows, their cost and the certificate's length in bytes; or
 /// 108 where the output has bytes, 8 and the floor, 9 and the horizon, 109 where a row would be dropped, or 15.
 #[unsafe(no_mangle)]
-pub extern "C" fn hlc_certificate(
+pub extern "C" fn hlc_certificate_make(
     alloc: Global,
     store: &mut Reader,
     stamp: u64,
@@ -172,7 +173,7 @@ pub extern "C" fn hlc_certificate(
 /// Checks the text of a certificate, whoever made it. Returns 0, how many rows it shows to be the fewest, and their
 /// cost in bytes; or 22 and the first reason against it, 16 and the first bad line, or 15.
 #[unsafe(no_mangle)]
-pub extern "C" fn hlc_check(
+pub extern "C" fn hlc_certificate_check(
     alloc: Global,
     text: &[u8],
     rows: &mut u64,

@@ -8,7 +8,7 @@ const (
 	Pairs     Form = iota // a value
 	PairsBack             // a value, and the last key comes first
 	Keys                  // nothing
-	Answers               // an answer, as of hlc_changes
+	Answers               // an answer, as of hlc_snapshot_changes
 )
 
 // A Part is what one call wrote of a range.

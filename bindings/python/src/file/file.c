@@ -387,7 +387,8 @@ typedef struct {
     uint32_t (*call)(hlc_store *, uint64_t *);
 } StoreQuestion;
 
-static const StoreQuestion ROWS = { hlc_rows }, NODES = { hlc_nodes }, FLOOR_NODE = { hlc_floor_node };
+static const StoreQuestion ROWS = { hlc_store_rows }, NODES = { hlc_store_nodes }, FLOOR_NODE =
+    { hlc_store_floor_node };
 
 static PyObject *ask_store(PyObject *self, void *question)
 {
@@ -410,7 +411,7 @@ static PyObject *sizes(PyObject *self, void *none)
     uint32_t code;
     hlc_store mine, *store = &mine;
     (void)none;
-    WITH_STORE(self, code, hlc_sizes(store, &numbers[0], &numbers[1], &numbers[2], &numbers[3]));
+    WITH_STORE(self, code, hlc_store_size(store, &numbers[0], &numbers[1], &numbers[2], &numbers[3]));
     return code == HLC_OK ? result_of("Sizes", numbers, 4, NULL) : refuse(code, 0);
 }
 
@@ -422,7 +423,7 @@ static PyObject *file_link(PyObject *self, PyObject *from)
     uint32_t code;
     hlc_store mine, *store = &mine;
     if (!take_u16(from, &node)) return NULL;
-    WITH_STORE(self, code, hlc_link(store, node, &numbers[0], &numbers[1], &retired));
+    WITH_STORE(self, code, hlc_store_link(store, node, &numbers[0], &numbers[1], &retired));
     return code == HLC_OK ? result_of("Link", numbers, 2, retired ? Py_True : Py_False) : refuse(code, 0);
 }
 
@@ -438,7 +439,7 @@ static uint32_t list_versions(PyObject *self, const Bytes *key, uint64_t above, 
         room = len;
         *rows = malloc(room);
         if (!*rows) return HLC_NO_MEMORY;
-        WITH_STORE(self, code, hlc_versions(store, key->at, key->len, above, to, *rows, room, &len, many));
+        WITH_STORE(self, code, hlc_store_versions(store, key->at, key->len, above, to, *rows, room, &len, many));
     }
     return code;
 }
@@ -632,8 +633,8 @@ static PyObject *file_changes(PyObject *self, PyObject *args)
         return NULL;
     uint8_t *out = malloc(room);
     if (out)
-        WITH_STORE(self, code, hlc_changes(store, before, after, start.at, start.len, end.at, end.len, out, room, &len,
-                                           &many));
+        WITH_STORE(self, code, hlc_snapshot_changes(store, before, after, start.at, start.len, end.at, end.len, out,
+                                                    room, &len, &many));
     else code = HLC_NO_MEMORY;
     drop_bytes(&start);
     drop_bytes(&end);
@@ -651,7 +652,7 @@ static PyObject *file_digest(PyObject *self, PyObject *args)
     uint32_t code;
     hlc_store mine, *store = &mine;
     if (!PyArg_ParseTuple(args, "O&O&O&:_digest", take_u64, &id, take_bytes, &start, take_bytes, &end)) return NULL;
-    WITH_STORE(self, code, hlc_digest(store, id, start.at, start.len, end.at, end.len, out, sizeof out, &len));
+    WITH_STORE(self, code, hlc_snapshot_digest(store, id, start.at, start.len, end.at, end.len, out, sizeof out, &len));
     drop_bytes(&start);
     drop_bytes(&end);
     return code == HLC_OK ? PyBytes_FromStringAndSize((const char *)out, (Py_ssize_t)len) : refuse(code, 0);

@@ -12,7 +12,7 @@ PyObject *store_increment(PyObject *self, PyObject *args, PyObject *words)
         return NULL;
     PyThreadState *thread = lock_to_ask(store, LONG);
     hlc_store mine = store->handle;
-    uint32_t code = hlc_increment(&mine, since, word, &output, &len, &horizon);
+    uint32_t code = hlc_increment_make(&mine, since, word, &output, &len, &horizon);
     unlock(store, thread);
     return code == HLC_OK ? output_object(&output, len) : refuse(code, horizon);
 }

@@ -56,12 +56,12 @@ static uint32_t encode(const Content *item, uint8_t *out, size_t out_len, size_t
     const Bytes *key = &item->key, *value = &item->value;
     switch (item->kind) {
     case WRITE:
-        return hlc_item_write(item->node, item->number, item->stamp, key->at, key->len, value->at, value->len, out,
-                              out_len, len);
+        return hlc_item_encode_write(item->node, item->number, item->stamp, key->at, key->len, value->at, value->len,
+                                     out, out_len, len);
     case DELETE:
-        return hlc_item_delete(item->node, item->number, item->stamp, key->at, key->len, out, out_len, len);
-    case REPORT: return hlc_item_report(item->node, item->number, item->stamp, out, out_len, len);
-    default: return hlc_item_retire(item->node, item->number, item->stamp, out, out_len, len);
+        return hlc_item_encode_delete(item->node, item->number, item->stamp, key->at, key->len, out, out_len, len);
+    case REPORT: return hlc_item_encode_report(item->node, item->number, item->stamp, out, out_len, len);
+    default: return hlc_item_encode_retire(item->node, item->number, item->stamp, out, out_len, len);
     }
 }
 

@@ -111,7 +111,7 @@ PyObject *stamp_object(PyTypeObject *stamp_type, uint64_t stamp);
 /* Returns a named tuple of hlcstore/_results.py, of these numbers, and of an object after them unless it is NULL. */
 PyObject *result_of(const char *name, const uint64_t *numbers, Py_ssize_t many, PyObject *last);
 
-/* A stored row of a key, as hlc_versions writes it. It is a Reader. */
+/* A stored row of a key, as hlc_store_versions writes it. It is a Reader. */
 PyObject *version_at(const uint8_t **at);
 
 /* What a call of the library says of an answer: its name, or its text. */

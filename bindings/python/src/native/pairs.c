@@ -59,10 +59,11 @@ static uint32_t make_call(Pairs *pairs, hlc_store *store, size_t *many)
     const Listed *listed = &pairs->listed;
     uint64_t id = pairs->snapshot->id;
     if (listed->after)
-        return hlc_changes(store, id, listed->after->id, start->at, start->len, end->at, end->len, pairs->buffer, ROOM,
-                           &pairs->len, many);
-    return (listed->is_reverse ? hlc_scan_back : listed->entries == KEYS ? hlc_scan_keys : hlc_scan)(
-        store, id, start->at, start->len, end->at, end->len, pairs->buffer, ROOM, &pairs->len, many);
+        return hlc_snapshot_changes(store, id, listed->after->id, start->at, start->len, end->at, end->len,
+                                    pairs->buffer, ROOM, &pairs->len, many);
+    return (listed->is_reverse ? hlc_snapshot_scan_back : listed->entries == KEYS ? hlc_snapshot_scan_keys :
+            hlc_snapshot_scan)(store, id, start->at, start->len, end->at, end->len, pairs->buffer, ROOM, &pairs->len,
+                               many);
 }
 
 static uint32_t scan(Pairs *pairs)

@@ -14,7 +14,8 @@ PyObject *split_checkpoint(PyObject *module, PyObject *args, PyObject *words)
                                      &key))
         return NULL;
     Py_BEGIN_ALLOW_THREADS
-    code = hlc_split(checkpoint.at, checkpoint.len, key.at, key.len, &left, &right, &left_len, &right_len, &word);
+    code = hlc_checkpoint_split(checkpoint.at, checkpoint.len, key.at, key.len, &left, &right, &left_len, &right_len,
+                                &word);
     Py_END_ALLOW_THREADS
     drop_bytes(&checkpoint);
     drop_bytes(&key);
@@ -39,7 +40,7 @@ PyObject *merge_checkpoints(PyObject *module, PyObject *args, PyObject *words)
                                      &right))
         return NULL;
     Py_BEGIN_ALLOW_THREADS
-    code = hlc_merge(left.at, left.len, right.at, right.len, &output, &len, &word);
+    code = hlc_checkpoint_merge(left.at, left.len, right.at, right.len, &output, &len, &word);
     Py_END_ALLOW_THREADS
     drop_bytes(&left);
     drop_bytes(&right);

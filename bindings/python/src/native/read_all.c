@@ -66,8 +66,8 @@ static uint32_t read_from(Snapshot *snapshot, Batch *batch, size_t from, size_t 
 {
     PyThreadState *thread = lock_to_ask(snapshot->store, LONG);
     hlc_store mine = snapshot->store->handle;
-    uint32_t code = hlc_read_all(&mine, snapshot->id, batch->places + from, batch->many - from, batch->keys,
-                                 batch->keys_len, batch->answers, ROOM, &batch->answers_len, many);
+    uint32_t code = hlc_snapshot_read_all(&mine, snapshot->id, batch->places + from, batch->many - from, batch->keys,
+                                          batch->keys_len, batch->answers, ROOM, &batch->answers_len, many);
     unlock(snapshot->store, thread);
     return code;
 }

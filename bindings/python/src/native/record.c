@@ -16,7 +16,7 @@ static PyObject *join_record(PyObject *module, PyObject *args, PyObject *words)
     (void)module;
     if (!PyArg_ParseTupleAndKeywords(args, words, "O&O&:join_record", names, take_u16, &node, take_u64, &start))
         return NULL;
-    uint32_t code = hlc_record_join(node, start, out, sizeof out, &len);
+    uint32_t code = hlc_record_encode_join(node, start, out, sizeof out, &len);
     return record_object(code, out, len);
 }
 
@@ -27,7 +27,7 @@ static PyObject *threshold_record(PyObject *module, PyObject *from)
     uint64_t stamp;
     (void)module;
     if (!take_u64(from, &stamp)) return NULL;
-    uint32_t code = hlc_record_threshold(stamp, out, sizeof out, &len);
+    uint32_t code = hlc_record_encode_threshold(stamp, out, sizeof out, &len);
     return record_object(code, out, len);
 }
 

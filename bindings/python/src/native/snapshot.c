@@ -25,8 +25,8 @@ PyObject *store_snapshot(PyObject *self, PyObject *args, PyObject *words)
     Snapshot *snapshot = snapshot_object(self);
     if (!snapshot) return NULL;
     PyThreadState *thread = lock_to_change(store, SHORT);
-    uint32_t code = from == Py_None ? hlc_open_snapshot_at_floor(&store->handle, &id, &stamp)
-                                    : hlc_open_snapshot(&store->handle, stamp, &id);
+    uint32_t code = from == Py_None ? hlc_snapshot_open_at_floor(&store->handle, &id, &stamp)
+                                    : hlc_snapshot_open(&store->handle, stamp, &id);
     unlock(store, thread);
     snapshot->is_owner = code == HLC_OK;
     snapshot->id = id;
@@ -39,7 +39,7 @@ PyObject *store_snapshot(PyObject *self, PyObject *args, PyObject *words)
 static uint32_t close_id(Store *store, uint64_t id, uint64_t *stamp)
 {
     PyThreadState *thread = lock_to_change(store, SHORT);
-    uint32_t code = hlc_close_snapshot(&store->handle, id, stamp);
+    uint32_t code = hlc_snapshot_close(&store->handle, id, stamp);
     unlock(store, thread);
     return code;
 }
@@ -95,7 +95,7 @@ static uint32_t list_opened(Store *store, Opened *opened, Py_ssize_t *many)
     hlc_store mine = store->handle;
     uint32_t code = HLC_OK;
     for (*many = 0; code == HLC_OK && *many < MOST_OPEN; *many += code == HLC_OK)
-        code = hlc_snapshot(&mine, (uint64_t)*many, &opened[*many].id, &opened[*many].stamp);
+        code = hlc_snapshot_at_place(&mine, (uint64_t)*many, &opened[*many].id, &opened[*many].stamp);
     unlock(store, thread);
     return code == HLC_NO_SNAPSHOT ? HLC_OK : code;
 }
@@ -144,7 +144,7 @@ static uint32_t read_key(Snapshot *snapshot, const Bytes *key, uint8_t *out, siz
 {
     PyThreadState *thread = lock_to_ask(snapshot->store, SHORT);
     hlc_store mine = snapshot->store->handle;
-    uint32_t code = hlc_read(&mine, snapshot->id, key->at, key->len, out, out_len, len);
+    uint32_t code = hlc_snapshot_read(&mine, snapshot->id, key->at, key->len, out, out_len, len);
     unlock(snapshot->store, thread);
     return code;
 }
@@ -234,8 +234,8 @@ static uint32_t count(Snapshot *snapshot, const Range *range, uint64_t *many)
 {
     PyThreadState *thread = lock_to_ask(snapshot->store, LONG);
     hlc_store mine = snapshot->store->handle;
-    uint32_t code = hlc_count(&mine, snapshot->id, range->start.at, range->start.len, range->end.at, range->end.len,
-                              many);
+    uint32_t code = hlc_snapshot_count(&mine, snapshot->id, range->start.at, range->start.len, range->end.at,
+                                       range->end.len, many);
     unlock(snapshot->store, thread);
     return code;
 }
@@ -270,8 +270,8 @@ static PyObject *snapshot_digest(PyObject *self, PyObject *args, PyObject *words
     if (!take_range(args, words, &range)) return NULL;
     PyThreadState *thread = lock_to_ask(snapshot->store, LONG);
     hlc_store mine = snapshot->store->handle;
-    uint32_t code = hlc_digest(&mine, snapshot->id, range.start.at, range.start.len, range.end.at, range.end.len, out,
-                               sizeof out, &len);
+    uint32_t code = hlc_snapshot_digest(&mine, snapshot->id, range.start.at, range.start.len, range.end.at,
+                                        range.end.len, out, sizeof out, &len);
     unlock(snapshot->store, thread);
     drop_range(&range);
     return code == HLC_OK ? PyBytes_FromStringAndSize((const char *)out, (Py_ssize_t)len) : refuse(code, 0);
@@ -327,7 +327,7 @@ static uint32_t scan_last(Snapshot *snapshot, const Bytes *below, uint8_t *out, 
     size_t len;
     PyThreadState *thread = lock_to_ask(snapshot->store, SHORT);
     hlc_store mine = snapshot->store->handle;
-    uint32_t code = hlc_scan_back(&mine, snapshot->id, NULL, 0, below->at, below->len, out, room, &len, many);
+    uint32_t code = hlc_snapshot_scan_back(&mine, snapshot->id, NULL, 0, below->at, below->len, out, room, &len, many);
     unlock(snapshot->store, thread);
     return code;
 }

@@ -60,7 +60,7 @@ static PyObject *store_new(PyTypeObject *type, PyObject *args, PyObject *words)
     if (!PyArg_ParseTupleAndKeywords(args, words, "O&:Store", names, take_u16, &nodes)) return NULL;
     Store *store = closed_store(type);
     if (!store) return NULL;
-    uint32_t code = hlc_open(&store->handle, nodes);
+    uint32_t code = hlc_store_open(&store->handle, nodes);
     if (code == HLC_OK) return (PyObject *)store;
     Py_DECREF((PyObject *)store);
     return refuse(code, 0);
@@ -74,7 +74,7 @@ static int feed_piece(hlc_restoring *restoring, PyObject *piece, size_t *fed)
     if (!take_bytes(piece, &bytes)) return -1;
     *fed += bytes.len;
     PyThreadState *thread = let_go_for(*fed);
-    uint32_t code = hlc_restore_feed(restoring, bytes.at, bytes.len);
+    uint32_t code = hlc_restoring_feed(restoring, bytes.at, bytes.len);
     take_back(thread);
     if (thread) *fed = 0;
     drop_bytes(&bytes);
@@ -102,15 +102,15 @@ static PyObject *restore_pieces(PyObject *type, PyObject *pieces)
     hlc_restoring restoring = HLC_NO_RESTORING;
     uint64_t word = 0;
     if (!store) return NULL;
-    int code = (int)hlc_restore_start(&restoring);
+    int code = (int)hlc_restoring_start(&restoring);
     if (code == HLC_OK) code = feed_pieces(&restoring, pieces);
     if (code == HLC_OK) {
         PyThreadState *thread = lock_to_change(store, LONG);
-        code = (int)hlc_restore_finish(&restoring, &store->handle, &word);
+        code = (int)hlc_restoring_finish(&restoring, &store->handle, &word);
         unlock(store, thread);
         store->word = word;
     }
-    hlc_restore_drop(&restoring);
+    hlc_restoring_drop(&restoring);
     if (code == HLC_OK) return (PyObject *)store;
     Py_DECREF((PyObject *)store);
     return code < 0 ? NULL : refuse((uint32_t)code, word);
@@ -126,7 +126,7 @@ static PyObject *store_restore(PyObject *type, PyObject *from)
     uint32_t code = HLC_OK;
     if (store) {
         PyThreadState *thread = lock_to_change(store, LONG);
-        code = hlc_restore(&store->handle, saved.at, saved.len, &word);
+        code = hlc_store_restore(&store->handle, saved.at, saved.len, &word);
         unlock(store, thread);
         store->word = word;
     }
@@ -141,7 +141,7 @@ static void store_dealloc(PyObject *self)
 {
     Store *store = (Store *)self;
     Py_BEGIN_ALLOW_THREADS
-    hlc_close(&store->handle);
+    hlc_store_close(&store->handle);
     Py_END_ALLOW_THREADS
     if (store->has_locks) {
         pthread_rwlock_destroy(&store->gate);
@@ -155,7 +155,7 @@ static PyObject *store_close(PyObject *self, PyObject *none)
     Store *store = (Store *)self;
     (void)none;
     PyThreadState *thread = lock_to_change(store, LONG);
-    hlc_close(&store->handle);
+    hlc_store_close(&store->handle);
     unlock(store, thread);
     Py_RETURN_NONE;
 }
@@ -174,24 +174,24 @@ static uint32_t accept(hlc_store *store, const Content *item, uint64_t *word)
     const Bytes *key = &item->key, *value = &item->value;
     switch (item->kind) {
     case WRITE:
-        return hlc_accept_write(store, item->node, item->number, item->stamp, key->at, key->len, value->at, value->len,
-                                word);
-    case DELETE: return hlc_accept_delete(store, item->node, item->number, item->stamp, key->at, key->len, word);
-    case REPORT: return hlc_accept_report(store, item->node, item->number, item->stamp, word);
-    default: return hlc_accept_retire(store, item->node, item->number, item->stamp, word);
+        return hlc_store_accept_write(store, item->node, item->number, item->stamp, key->at, key->len, value->at,
+                                      value->len, word);
+    case DELETE: return hlc_store_accept_delete(store, item->node, item->number, item->stamp, key->at, key->len, word);
+    case REPORT: return hlc_store_accept_report(store, item->node, item->number, item->stamp, word);
+    default: return hlc_store_accept_retire(store, item->node, item->number, item->stamp, word);
     }
 }
 
-/* hlc_check_report answers for a retirement too. */
+/* hlc_store_check_report answers for a retirement too. */
 static uint32_t check(hlc_store *store, const Content *item, uint64_t *word)
 {
     const Bytes *key = &item->key, *value = &item->value;
     switch (item->kind) {
     case WRITE:
-        return hlc_check_write(store, item->node, item->number, item->stamp, key->at, key->len, value->at, value->len,
-                               word);
-    case DELETE: return hlc_check_delete(store, item->node, item->number, item->stamp, key->at, key->len, word);
-    default: return hlc_check_report(store, item->node, item->number, item->stamp, word);
+        return hlc_store_check_write(store, item->node, item->number, item->stamp, key->at, key->len, value->at,
+                                     value->len, word);
+    case DELETE: return hlc_store_check_delete(store, item->node, item->number, item->stamp, key->at, key->len, word);
+    default: return hlc_store_check_report(store, item->node, item->number, item->stamp, word);
     }
 }
 
@@ -286,7 +286,7 @@ static uint32_t accept_contents(Store *store, const Content **contents, size_t m
 {
     PyThreadState *thread = lock_to_change(store, LONG);
     /* So a closed store is refused too where there are no items. */
-    uint32_t code = hlc_floor(&store->handle, word);
+    uint32_t code = hlc_store_floor(&store->handle, word);
     for (*accepted = 0; code == HLC_OK && *accepted < many; *accepted += code == HLC_OK)
         code = accept(&store->handle, contents[*accepted], word);
     unlock(store, thread);
@@ -318,7 +318,7 @@ static PyObject *store_accept_items(PyObject *self, PyObject *from)
     size_t used, many;
     if (!take_bytes(from, &log)) return NULL;
     PyThreadState *thread = lock_to_change(store, LONG);
-    uint32_t code = hlc_items_accept(&store->handle, log.at, log.len, &used, &many, &word);
+    uint32_t code = hlc_store_accept_items(&store->handle, log.at, log.len, &used, &many, &word);
     unlock(store, thread);
     drop_bytes(&log);
     return code == HLC_OK ? PyLong_FromSize_t(many) : refuse_after(code, word, many, used, 0);
@@ -332,7 +332,7 @@ static PyObject *store_apply_records(PyObject *self, PyObject *from)
     size_t used, many;
     if (!take_bytes(from, &log)) return NULL;
     PyThreadState *thread = lock_to_change(store, LONG);
-    uint32_t code = hlc_records_apply(&store->handle, log.at, log.len, &used, &many, &threshold, &word);
+    uint32_t code = hlc_store_apply_records(&store->handle, log.at, log.len, &used, &many, &threshold, &word);
     unlock(store, thread);
     drop_bytes(&log);
     uint64_t numbers[] = { many, threshold };
@@ -350,7 +350,8 @@ static PyObject *join(PyObject *self, const uint64_t *start)
     uint64_t word = 0;
     if (!node) return NULL;
     PyThreadState *thread = lock_to_change(store, SHORT);
-    uint32_t code = start ? hlc_join_at(&store->handle, *start, &id, &word) : hlc_join(&store->handle, &id, &word);
+    uint32_t code = start ? hlc_store_join_at(&store->handle, *start, &id, &word) : hlc_store_join(&store->handle, &id,
+                                                                                                   &word);
     unlock(store, thread);
     node->node = hlc_node_open(id, word);
     if (code == HLC_OK) return (PyObject *)node;
@@ -379,7 +380,7 @@ static PyObject *store_link(PyObject *self, PyObject *from)
     if (!take_u16(from, &node)) return NULL;
     PyThreadState *thread = lock_to_ask(store, SHORT);
     hlc_store mine = store->handle;
-    uint32_t code = hlc_link(&mine, node, &numbers[0], &numbers[1], &retired);
+    uint32_t code = hlc_store_link(&mine, node, &numbers[0], &numbers[1], &retired);
     unlock(store, thread);
     return code == HLC_OK ? result_of("Link", numbers, 2, retired ? Py_True : Py_False) : refuse(code, 0);
 }
@@ -392,9 +393,9 @@ typedef struct {
     bool is_stamp;
 } Question;
 
-static const Question FLOOR = { hlc_floor, true }, HORIZON = { hlc_horizon, true };
-static const Question ROWS = { hlc_rows, false }, NODES = { hlc_nodes, false };
-static const Question FLOOR_NODE = { hlc_floor_node, false };
+static const Question FLOOR = { hlc_store_floor, true }, HORIZON = { hlc_store_horizon, true };
+static const Question ROWS = { hlc_store_rows, false }, NODES = { hlc_store_nodes, false };
+static const Question FLOOR_NODE = { hlc_store_floor_node, false };
 
 static PyObject *ask(PyObject *self, void *asked)
 {
@@ -416,7 +417,7 @@ static PyObject *sizes(PyObject *self, void *none)
     (void)none;
     PyThreadState *thread = lock_to_ask(store, SHORT);
     hlc_store mine = store->handle;
-    uint32_t code = hlc_sizes(&mine, &numbers[0], &numbers[1], &numbers[2], &numbers[3]);
+    uint32_t code = hlc_store_size(&mine, &numbers[0], &numbers[1], &numbers[2], &numbers[3]);
     unlock(store, thread);
     return code == HLC_OK ? result_of("Sizes", numbers, 4, NULL) : refuse(code, 0);
 }
@@ -432,7 +433,7 @@ static PyObject *store_close_all(PyObject *self, PyObject *none)
     Store *store = (Store *)self;
     (void)none;
     PyThreadState *thread = lock_to_change(store, SHORT);
-    uint32_t code = hlc_close_all(&store->handle);
+    uint32_t code = hlc_snapshot_close_all(&store->handle);
     unlock(store, thread);
     return answer(code, 0);
 }
@@ -449,7 +450,7 @@ static PyObject *store_checkpoint(PyObject *self, PyObject *args, PyObject *word
     if (!PyArg_ParseTupleAndKeywords(args, words, "|O&:checkpoint", names, take_u64, &word)) return NULL;
     PyThreadState *thread = lock_to_ask(store, LONG);
     hlc_store mine = store->handle;
-    uint32_t code = hlc_checkpoint(&mine, word, &output, &len);
+    uint32_t code = hlc_checkpoint_make(&mine, word, &output, &len);
     unlock(store, thread);
     return code == HLC_OK ? output_object(&output, len) : refuse(code, 0);
 }
@@ -462,8 +463,8 @@ static PyObject *store_repr(PyObject *self)
     uint64_t floor, rows;
     PyThreadState *thread = lock_to_ask(store, SHORT);
     hlc_store mine = store->handle;
-    uint32_t code = hlc_floor(&mine, &floor);
-    if (code == HLC_OK) code = hlc_rows(&mine, &rows);
+    uint32_t code = hlc_store_floor(&mine, &floor);
+    if (code == HLC_OK) code = hlc_store_rows(&mine, &rows);
     unlock(store, thread);
     if (code != HLC_OK) return PyUnicode_FromString("<Store, closed>");
     return PyUnicode_FromFormat("<Store, floor=%llu.%llu, rows=%llu>", (unsigned long long)(floor >> 16),

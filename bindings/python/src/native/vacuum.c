@@ -7,8 +7,8 @@ enum { STAMP, KEPT, COST, DROPPED, NUMBERS };
 /* Without a stamp it is a vacuum up to the floor. */
 static uint32_t run(hlc_store *store, const uint64_t *stamp, uint64_t *numbers)
 {
-    if (!stamp) return hlc_vacuum(store, &numbers[STAMP], &numbers[KEPT], &numbers[COST], &numbers[DROPPED]);
-    return hlc_vacuum_to(store, *stamp, &numbers[STAMP], &numbers[KEPT], &numbers[COST], &numbers[DROPPED]);
+    if (!stamp) return hlc_store_vacuum(store, &numbers[STAMP], &numbers[KEPT], &numbers[COST], &numbers[DROPPED]);
+    return hlc_store_vacuum_to(store, *stamp, &numbers[STAMP], &numbers[KEPT], &numbers[COST], &numbers[DROPPED]);
 }
 
 static PyObject *vacuum(Store *store, const uint64_t *stamp)
@@ -49,9 +49,9 @@ static PyObject *vacuum_part(Store *store, const Part *part)
     size_t len;
     bool more;
     PyThreadState *thread = lock_to_change(store, LONG);
-    uint32_t code = hlc_vacuum_part(&store->handle, part->stamp, part->after.at, part->after.len, part->most,
-                                    &numbers[STAMP], &numbers[KEPT], &numbers[COST], &numbers[DROPPED], key,
-                                    sizeof key, &len, &more);
+    uint32_t code = hlc_store_vacuum_part(&store->handle, part->stamp, part->after.at, part->after.len, part->most,
+                                          &numbers[STAMP], &numbers[KEPT], &numbers[COST], &numbers[DROPPED], key,
+                                          sizeof key, &len, &more);
     unlock(store, thread);
     if (code != HLC_OK) return refuse(code, numbers[STAMP]);
     if (!more) return result_of("VacuumPart", numbers, NUMBERS, Py_None);
@@ -83,7 +83,7 @@ PyObject *store_check_vacuum(PyObject *self, PyObject *from)
     if (!take_u64(from, &stamp)) return NULL;
     PyThreadState *thread = lock_to_ask(store, SHORT);
     hlc_store mine = store->handle;
-    uint32_t code = hlc_check_vacuum(&mine, stamp, &word);
+    uint32_t code = hlc_store_check_vacuum(&mine, stamp, &word);
     unlock(store, thread);
     if (code != HLC_OK) return refuse(code, word);
     Py_RETURN_NONE;
@@ -98,7 +98,7 @@ PyObject *store_certificate(PyObject *self, PyObject *from)
     if (!take_u64(from, &stamp)) return NULL;
     PyThreadState *thread = lock_to_ask(store, LONG);
     hlc_store mine = store->handle;
-    uint32_t code = hlc_certificate(&mine, stamp, &word, &numbers[0], &numbers[1], &output, &len);
+    uint32_t code = hlc_certificate_make(&mine, stamp, &word, &numbers[0], &numbers[1], &output, &len);
     unlock(store, thread);
     if (code != HLC_OK) return refuse(code, word);
     PyObject *text = output_object(&output, len), *result = text ? result_of("Certified", numbers, 2, text) : NULL;
@@ -114,7 +114,7 @@ PyObject *check_certificate(PyObject *module, PyObject *from)
     (void)module;
     if (!take_bytes(from, &text)) return NULL;
     Py_BEGIN_ALLOW_THREADS
-    code = hlc_check(text.at, text.len, &numbers[0], &numbers[1], &word);
+    code = hlc_certificate_check(text.at, text.len, &numbers[0], &numbers[1], &word);
     Py_END_ALLOW_THREADS
     drop_bytes(&text);
     return code == HLC_OK ? result_of("Checked", numbers, 2, NULL) : refuse(code, word);

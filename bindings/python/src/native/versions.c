@@ -19,8 +19,8 @@ static uint32_t list_versions(Store *store, Versions *versions)
 {
     PyThreadState *thread = lock_to_ask(store, LONG);
     hlc_store mine = store->handle;
-    uint32_t code = hlc_versions(&mine, versions->key.at, versions->key.len, versions->above, versions->to,
-                                 versions->rows, versions->room, &versions->len, &versions->many);
+    uint32_t code = hlc_store_versions(&mine, versions->key.at, versions->key.len, versions->above, versions->to,
+                                       versions->rows, versions->room, &versions->len, &versions->many);
     unlock(store, thread);
     return code;
 }

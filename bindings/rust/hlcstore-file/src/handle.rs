@@ -246,7 +246,7 @@ impl Handle {
         self.lend(|lent| {
             for key in keys {
                 values.push(value_of(SHORT_ROOM, |out, room, len| unsafe {
-                    store::hlc_read(lent, id, key.as_ptr(), key.len(), out, room, len)
+                    store::hlc_snapshot_read(lent, id, key.as_ptr(), key.len(), out, room, len)
                 })?);
             }
             Ok(values)
@@ -268,7 +268,9 @@ impl Handle {
         let (from, from_len, to, to_len) = (from.as_ptr(), from.len(), to.as_ptr(), to.len());
         let (bytes, many, has_more) = unsafe {
             fill(room, |out, room, len, many| {
-                self.lend(|lent| store::hlc_scan_keys(lent, id, from, from_len, to, to_len, out, room, len, many))
+                self.lend(|lent| {
+                    store::hlc_snapshot_scan_keys(lent, id, from, from_len, to, to_len, out, room, len, many)
+                })
             })?
         };
         Ok(KeyPage::from_bytes(bytes, many, has_more))
@@ -281,7 +283,7 @@ impl Handle {
         let (bytes, many, has_more) = unsafe {
             fill(room, |out, room, len, many| {
                 self.lend(|lent| {
-                    store::hlc_changes(lent, before, after, from, from_len, to, to_len, out, room, len, many)
+                    store::hlc_snapshot_changes(lent, before, after, from, from_len, to, to_len, out, room, len, many)
                 })
             })?
         };
@@ -297,8 +299,9 @@ impl Handle {
         let (from, from_len, to, to_len) = (from.as_ptr(), from.len(), to.as_ptr(), to.len());
         let (mut digest, mut len) = ([0; 32], 0);
         let (out, room) = (digest.as_mut_ptr(), digest.len());
-        let digested =
-            self.lend(|lent| unsafe { store::hlc_digest(lent, id, from, from_len, to, to_len, out, room, &mut len) });
+        let digested = self.lend(|lent| unsafe {
+            store::hlc_snapshot_digest(lent, id, from, from_len, to, to_len, out, room, &mut len)
+        });
         answer(digested, 0, digest)
     }
 
@@ -322,29 +325,30 @@ impl Handle {
     }
 
     pub(crate) fn rows(&self) -> Result<u64> {
-        self.ask(|lent, rows| unsafe { store::hlc_rows(lent, rows) })
+        self.ask(|lent, rows| unsafe { store::hlc_store_rows(lent, rows) })
     }
 
     pub(crate) fn sizes(&self) -> Result<Sizes> {
         let mut sizes = Sizes::default();
         let Sizes { keys, key_bytes, value_bytes, .. } = &mut sizes;
-        sizes.rows = self.ask(|lent, rows| unsafe { store::hlc_sizes(lent, rows, keys, key_bytes, value_bytes) })?;
+        sizes.rows =
+            self.ask(|lent, rows| unsafe { store::hlc_store_size(lent, rows, keys, key_bytes, value_bytes) })?;
         Ok(sizes)
     }
 
     pub(crate) fn nodes(&self) -> Result<u64> {
-        self.ask(|lent, nodes| unsafe { store::hlc_nodes(lent, nodes) })
+        self.ask(|lent, nodes| unsafe { store::hlc_store_nodes(lent, nodes) })
     }
 
     pub(crate) fn link(&self, node: u16) -> Result<Link> {
         let (mut head, mut is_retired) = (0, false);
         let next_number =
-            self.ask(|lent, next| unsafe { store::hlc_link(lent, node, next, &mut head, &mut is_retired) })?;
+            self.ask(|lent, next| unsafe { store::hlc_store_link(lent, node, next, &mut head, &mut is_retired) })?;
         Ok(Link { next_number, head: Stamp::from_bits(head), is_retired })
     }
 
     pub(crate) fn floor_node(&self) -> Result<Option<u16>> {
-        match self.ask(|lent, node| unsafe { store::hlc_floor_node(lent, node) }) {
+        match self.ask(|lent, node| unsafe { store::hlc_store_floor_node(lent, node) }) {
             // A node's number is below 1,024.
             Ok(node) => Ok(Some(node as u16)),
             Err(error) if error.code() == store::HLC_NO_NODE => Ok(None),
@@ -360,7 +364,7 @@ impl Handle {
             let (mut rows, room, mut many) = (with_room(needed)?, needed, 0);
             let out = rows.as_mut_ptr();
             let code = self.lend(|lent| unsafe {
-                store::hlc_versions(lent, key, key_len, above, to, out, room, &mut needed, &mut many)
+                store::hlc_store_versions(lent, key, key_len, above, to, out, room, &mut needed, &mut many)
             });
             answer(code, 0, ())?;
             // Other threads may add rows between two calls.

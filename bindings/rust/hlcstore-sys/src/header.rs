@@ -118,9 +118,9 @@ unsafe extern "C" {
     pub safe fn hlc_version() -> u32;
     pub fn hlc_error_name(answer: u32, out: *mut u8, out_len: usize, len: *mut usize);
     pub fn hlc_error_text(answer: u32, out: *mut u8, out_len: usize, len: *mut usize);
-    pub fn hlc_open(store: *mut hlc_store, nodes: u16) -> u32;
-    pub fn hlc_close(store: *mut hlc_store);
-    pub fn hlc_accept_write(
+    pub fn hlc_store_open(store: *mut hlc_store, nodes: u16) -> u32;
+    pub fn hlc_store_close(store: *mut hlc_store);
+    pub fn hlc_store_accept_write(
         store: *mut hlc_store,
         node: u16,
         number: u64,
@@ -131,7 +131,7 @@ unsafe extern "C" {
         value_len: usize,
         word: *mut u64,
     ) -> u32;
-    pub fn hlc_accept_delete(
+    pub fn hlc_store_accept_delete(
         store: *mut hlc_store,
         node: u16,
         number: u64,
@@ -140,18 +140,18 @@ unsafe extern "C" {
         key_len: usize,
         word: *mut u64,
     ) -> u32;
-    pub fn hlc_accept_report(store: *mut hlc_store, node: u16, number: u64, stamp: u64, word: *mut u64) -> u32;
-    pub fn hlc_accept_retire(store: *mut hlc_store, node: u16, number: u64, stamp: u64, word: *mut u64) -> u32;
-    pub fn hlc_accept_all(
+    pub fn hlc_store_accept_report(store: *mut hlc_store, node: u16, number: u64, stamp: u64, word: *mut u64) -> u32;
+    pub fn hlc_store_accept_retire(store: *mut hlc_store, node: u16, number: u64, stamp: u64, word: *mut u64) -> u32;
+    pub fn hlc_store_accept_all(
         store: *mut hlc_store,
         entries: *const hlc_entry,
         entries_len: usize,
         bytes: *const u8,
         bytes_len: usize,
-        many: *mut usize,
+        count: *mut usize,
         word: *mut u64,
     ) -> u32;
-    pub fn hlc_check_write(
+    pub fn hlc_store_check_write(
         store: *mut hlc_store,
         node: u16,
         number: u64,
@@ -162,7 +162,7 @@ unsafe extern "C" {
         value_len: usize,
         word: *mut u64,
     ) -> u32;
-    pub fn hlc_check_delete(
+    pub fn hlc_store_check_delete(
         store: *mut hlc_store,
         node: u16,
         number: u64,
@@ -171,14 +171,14 @@ unsafe extern "C" {
         key_len: usize,
         word: *mut u64,
     ) -> u32;
-    pub fn hlc_check_report(store: *mut hlc_store, node: u16, number: u64, stamp: u64, word: *mut u64) -> u32;
-    pub fn hlc_join(store: *mut hlc_store, node: *mut u16, start: *mut u64) -> u32;
-    pub fn hlc_join_at(store: *mut hlc_store, start: u64, node: *mut u16, word: *mut u64) -> u32;
-    pub fn hlc_open_snapshot(store: *mut hlc_store, stamp: u64, id: *mut u64) -> u32;
-    pub fn hlc_open_snapshot_at_floor(store: *mut hlc_store, id: *mut u64, stamp: *mut u64) -> u32;
-    pub fn hlc_close_snapshot(store: *mut hlc_store, id: u64, stamp: *mut u64) -> u32;
-    pub fn hlc_close_all(store: *mut hlc_store) -> u32;
-    pub fn hlc_read(
+    pub fn hlc_store_check_report(store: *mut hlc_store, node: u16, number: u64, stamp: u64, word: *mut u64) -> u32;
+    pub fn hlc_store_join(store: *mut hlc_store, node: *mut u16, start: *mut u64) -> u32;
+    pub fn hlc_store_join_at(store: *mut hlc_store, start: u64, node: *mut u16, word: *mut u64) -> u32;
+    pub fn hlc_snapshot_open(store: *mut hlc_store, stamp: u64, id: *mut u64) -> u32;
+    pub fn hlc_snapshot_open_at_floor(store: *mut hlc_store, id: *mut u64, stamp: *mut u64) -> u32;
+    pub fn hlc_snapshot_close(store: *mut hlc_store, id: u64, stamp: *mut u64) -> u32;
+    pub fn hlc_snapshot_close_all(store: *mut hlc_store) -> u32;
+    pub fn hlc_snapshot_read(
         store: *mut hlc_store,
         id: u64,
         key: *const u8,
@@ -187,7 +187,7 @@ unsafe extern "C" {
         out_len: usize,
         len: *mut usize,
     ) -> u32;
-    pub fn hlc_read_all(
+    pub fn hlc_snapshot_read_all(
         store: *mut hlc_store,
         id: u64,
         places: *const hlc_place,
@@ -197,10 +197,10 @@ unsafe extern "C" {
         out: *mut u8,
         out_len: usize,
         len: *mut usize,
-        many: *mut usize,
+        count: *mut usize,
     ) -> u32;
-    pub fn hlc_list(store: *mut hlc_store, id: u64, out: *mut u8, out_len: usize, len: *mut usize) -> u32;
-    pub fn hlc_scan(
+    pub fn hlc_snapshot_list(store: *mut hlc_store, id: u64, out: *mut u8, out_len: usize, len: *mut usize) -> u32;
+    pub fn hlc_snapshot_scan(
         store: *mut hlc_store,
         id: u64,
         from: *const u8,
@@ -210,9 +210,9 @@ unsafe extern "C" {
         out: *mut u8,
         out_len: usize,
         len: *mut usize,
-        many: *mut usize,
+        count: *mut usize,
     ) -> u32;
-    pub fn hlc_scan_keys(
+    pub fn hlc_snapshot_scan_keys(
         store: *mut hlc_store,
         id: u64,
         from: *const u8,
@@ -222,9 +222,9 @@ unsafe extern "C" {
         out: *mut u8,
         out_len: usize,
         len: *mut usize,
-        many: *mut usize,
+        count: *mut usize,
     ) -> u32;
-    pub fn hlc_scan_back(
+    pub fn hlc_snapshot_scan_back(
         store: *mut hlc_store,
         id: u64,
         from: *const u8,
@@ -234,9 +234,9 @@ unsafe extern "C" {
         out: *mut u8,
         out_len: usize,
         len: *mut usize,
-        many: *mut usize,
+        count: *mut usize,
     ) -> u32;
-    pub fn hlc_changes(
+    pub fn hlc_snapshot_changes(
         store: *mut hlc_store,
         before: u64,
         after: u64,
@@ -247,18 +247,18 @@ unsafe extern "C" {
         out: *mut u8,
         out_len: usize,
         len: *mut usize,
-        many: *mut usize,
+        count: *mut usize,
     ) -> u32;
-    pub fn hlc_count(
+    pub fn hlc_snapshot_count(
         store: *mut hlc_store,
         id: u64,
         from: *const u8,
         from_len: usize,
         to: *const u8,
         to_len: usize,
-        many: *mut u64,
+        count: *mut u64,
     ) -> u32;
-    pub fn hlc_digest(
+    pub fn hlc_snapshot_digest(
         store: *mut hlc_store,
         id: u64,
         from: *const u8,
@@ -269,16 +269,16 @@ unsafe extern "C" {
         out_len: usize,
         len: *mut usize,
     ) -> u32;
-    pub fn hlc_floor(store: *mut hlc_store, stamp: *mut u64) -> u32;
-    pub fn hlc_rows(store: *mut hlc_store, rows: *mut u64) -> u32;
-    pub fn hlc_sizes(
+    pub fn hlc_store_floor(store: *mut hlc_store, stamp: *mut u64) -> u32;
+    pub fn hlc_store_rows(store: *mut hlc_store, rows: *mut u64) -> u32;
+    pub fn hlc_store_size(
         store: *mut hlc_store,
         rows: *mut u64,
         keys: *mut u64,
         key_bytes: *mut u64,
         value_bytes: *mut u64,
     ) -> u32;
-    pub fn hlc_versions(
+    pub fn hlc_store_versions(
         store: *mut hlc_store,
         key: *const u8,
         key_len: usize,
@@ -287,16 +287,16 @@ unsafe extern "C" {
         out: *mut u8,
         out_len: usize,
         len: *mut usize,
-        many: *mut usize,
+        count: *mut usize,
     ) -> u32;
-    pub fn hlc_vacuum(
+    pub fn hlc_store_vacuum(
         store: *mut hlc_store,
         floor: *mut u64,
         kept: *mut u64,
         bytes: *mut u64,
         dropped: *mut u64,
     ) -> u32;
-    pub fn hlc_vacuum_to(
+    pub fn hlc_store_vacuum_to(
         store: *mut hlc_store,
         stamp: u64,
         word: *mut u64,
@@ -304,12 +304,12 @@ unsafe extern "C" {
         bytes: *mut u64,
         dropped: *mut u64,
     ) -> u32;
-    pub fn hlc_vacuum_part(
+    pub fn hlc_store_vacuum_part(
         store: *mut hlc_store,
         stamp: u64,
         after: *const u8,
         after_len: usize,
-        most: usize,
+        limit: usize,
         word: *mut u64,
         kept: *mut u64,
         bytes: *mut u64,
@@ -319,8 +319,8 @@ unsafe extern "C" {
         len: *mut usize,
         more: *mut bool,
     ) -> u32;
-    pub fn hlc_check_vacuum(store: *mut hlc_store, stamp: u64, word: *mut u64) -> u32;
-    pub fn hlc_certificate(
+    pub fn hlc_store_check_vacuum(store: *mut hlc_store, stamp: u64, word: *mut u64) -> u32;
+    pub fn hlc_certificate_make(
         store: *mut hlc_store,
         stamp: u64,
         word: *mut u64,
@@ -329,8 +329,14 @@ unsafe extern "C" {
         output: *mut hlc_output,
         len: *mut usize,
     ) -> u32;
-    pub fn hlc_check(text: *const u8, text_len: usize, rows: *mut u64, bytes: *mut u64, word: *mut u64) -> u32;
-    pub fn hlc_item_write(
+    pub fn hlc_certificate_check(
+        text: *const u8,
+        text_len: usize,
+        rows: *mut u64,
+        bytes: *mut u64,
+        word: *mut u64,
+    ) -> u32;
+    pub fn hlc_item_encode_write(
         node: u16,
         number: u64,
         stamp: u64,
@@ -342,7 +348,7 @@ unsafe extern "C" {
         out_len: usize,
         len: *mut usize,
     ) -> u32;
-    pub fn hlc_item_delete(
+    pub fn hlc_item_encode_delete(
         node: u16,
         number: u64,
         stamp: u64,
@@ -352,28 +358,42 @@ unsafe extern "C" {
         out_len: usize,
         len: *mut usize,
     ) -> u32;
-    pub fn hlc_item_report(node: u16, number: u64, stamp: u64, out: *mut u8, out_len: usize, len: *mut usize) -> u32;
-    pub fn hlc_item_retire(node: u16, number: u64, stamp: u64, out: *mut u8, out_len: usize, len: *mut usize) -> u32;
-    pub fn hlc_items_accept(
+    pub fn hlc_item_encode_report(
+        node: u16,
+        number: u64,
+        stamp: u64,
+        out: *mut u8,
+        out_len: usize,
+        len: *mut usize,
+    ) -> u32;
+    pub fn hlc_item_encode_retire(
+        node: u16,
+        number: u64,
+        stamp: u64,
+        out: *mut u8,
+        out_len: usize,
+        len: *mut usize,
+    ) -> u32;
+    pub fn hlc_store_accept_items(
         store: *mut hlc_store,
         bytes: *const u8,
         bytes_len: usize,
         used: *mut usize,
-        many: *mut usize,
+        count: *mut usize,
         word: *mut u64,
     ) -> u32;
-    pub fn hlc_record_join(node: u16, start: u64, out: *mut u8, out_len: usize, len: *mut usize) -> u32;
-    pub fn hlc_record_threshold(stamp: u64, out: *mut u8, out_len: usize, len: *mut usize) -> u32;
-    pub fn hlc_records_apply(
+    pub fn hlc_record_encode_join(node: u16, start: u64, out: *mut u8, out_len: usize, len: *mut usize) -> u32;
+    pub fn hlc_record_encode_threshold(stamp: u64, out: *mut u8, out_len: usize, len: *mut usize) -> u32;
+    pub fn hlc_store_apply_records(
         store: *mut hlc_store,
         bytes: *const u8,
         bytes_len: usize,
         used: *mut usize,
-        many: *mut usize,
+        count: *mut usize,
         threshold: *mut u64,
         word: *mut u64,
     ) -> u32;
-    pub fn hlc_checkpoint(store: *mut hlc_store, word: u64, output: *mut hlc_output, len: *mut usize) -> u32;
+    pub fn hlc_checkpoint_make(store: *mut hlc_store, word: u64, output: *mut hlc_output, len: *mut usize) -> u32;
     pub fn hlc_saving_start(saving: *mut hlc_saving, store: *mut hlc_store, word: u64, len: *mut u64) -> u32;
     pub fn hlc_saving_read(
         saving: *mut hlc_saving,
@@ -383,7 +403,7 @@ unsafe extern "C" {
         len: *mut usize,
     ) -> u32;
     pub fn hlc_saving_drop(saving: *mut hlc_saving);
-    pub fn hlc_increment(
+    pub fn hlc_increment_make(
         store: *mut hlc_store,
         since: u64,
         word: u64,
@@ -400,7 +420,7 @@ unsafe extern "C" {
         len: *mut usize,
         word: *mut u64,
     ) -> u32;
-    pub fn hlc_split(
+    pub fn hlc_checkpoint_split(
         bytes: *const u8,
         bytes_len: usize,
         key: *const u8,
@@ -411,7 +431,7 @@ unsafe extern "C" {
         right_len: *mut usize,
         word: *mut u64,
     ) -> u32;
-    pub fn hlc_merge(
+    pub fn hlc_checkpoint_merge(
         left: *const u8,
         left_len: usize,
         right: *const u8,
@@ -420,18 +440,18 @@ unsafe extern "C" {
         len: *mut usize,
         word: *mut u64,
     ) -> u32;
-    pub fn hlc_restore(store: *mut hlc_store, bytes: *const u8, bytes_len: usize, word: *mut u64) -> u32;
-    pub fn hlc_restore_start(restoring: *mut hlc_restoring) -> u32;
-    pub fn hlc_restore_feed(restoring: *mut hlc_restoring, bytes: *const u8, bytes_len: usize) -> u32;
-    pub fn hlc_restore_finish(restoring: *mut hlc_restoring, store: *mut hlc_store, word: *mut u64) -> u32;
-    pub fn hlc_restore_drop(restoring: *mut hlc_restoring);
+    pub fn hlc_store_restore(store: *mut hlc_store, bytes: *const u8, bytes_len: usize, word: *mut u64) -> u32;
+    pub fn hlc_restoring_start(restoring: *mut hlc_restoring) -> u32;
+    pub fn hlc_restoring_feed(restoring: *mut hlc_restoring, bytes: *const u8, bytes_len: usize) -> u32;
+    pub fn hlc_restoring_finish(restoring: *mut hlc_restoring, store: *mut hlc_store, word: *mut u64) -> u32;
+    pub fn hlc_restoring_drop(restoring: *mut hlc_restoring);
     pub fn hlc_output_read(output: *mut hlc_output, from: usize, out: *mut u8, out_len: usize, len: *mut usize) -> u32;
     pub fn hlc_output_drop(output: *mut hlc_output);
-    pub fn hlc_horizon(store: *mut hlc_store, stamp: *mut u64) -> u32;
-    pub fn hlc_nodes(store: *mut hlc_store, many: *mut u64) -> u32;
-    pub fn hlc_link(store: *mut hlc_store, node: u16, next: *mut u64, head: *mut u64, retired: *mut bool) -> u32;
-    pub fn hlc_floor_node(store: *mut hlc_store, node: *mut u64) -> u32;
-    pub fn hlc_snapshot(store: *mut hlc_store, place: u64, id: *mut u64, stamp: *mut u64) -> u32;
+    pub fn hlc_store_horizon(store: *mut hlc_store, stamp: *mut u64) -> u32;
+    pub fn hlc_store_nodes(store: *mut hlc_store, count: *mut u64) -> u32;
+    pub fn hlc_store_link(store: *mut hlc_store, node: u16, next: *mut u64, head: *mut u64, retired: *mut bool) -> u32;
+    pub fn hlc_store_floor_node(store: *mut hlc_store, node: *mut u64) -> u32;
+    pub fn hlc_snapshot_at_place(store: *mut hlc_store, place: u64, id: *mut u64, stamp: *mut u64) -> u32;
     pub safe fn hlc_node_open(id: u16, start: u64) -> hlc_node;
     pub fn hlc_node_restore(id: u16, last: u64, next: u64, node: *mut hlc_node) -> u32;
     pub fn hlc_node_raise(node: *mut hlc_node, stamp: u64);

@@ -50,20 +50,21 @@ impl Handle {
     }
 
     pub(crate) fn open(&mut self, nodes: u16) -> Result<()> {
-        self.change(|store, _| unsafe { sys::hlc_open(store, nodes) })?;
+        self.change(|store, _| unsafe { sys::hlc_store_open(store, nodes) })?;
         self.openings += 1;
         Ok(())
     }
 
     pub(crate) fn restore(&mut self, bytes: &[u8]) -> Result<u64> {
-        let word = self.change(|store, word| unsafe { sys::hlc_restore(store, bytes.as_ptr(), bytes.len(), word) })?;
+        let word =
+            self.change(|store, word| unsafe { sys::hlc_store_restore(store, bytes.as_ptr(), bytes.len(), word) })?;
         self.openings += 1;
         Ok(word)
     }
 
     /// Opens the store from the pieces of a restore, and ends that.
     pub(crate) fn finish(&mut self, restoring: &mut sys::hlc_restoring) -> Result<u64> {
-        let word = self.change(|store, word| unsafe { sys::hlc_restore_finish(restoring, store, word) })?;
+        let word = self.change(|store, word| unsafe { sys::hlc_restoring_finish(restoring, store, word) })?;
         self.openings += 1;
         Ok(word)
     }
@@ -73,7 +74,7 @@ impl Handle {
     }
 
     pub(crate) fn close(&mut self) {
-        unsafe { sys::hlc_close(&mut self.raw) }
+        unsafe { sys::hlc_store_close(&mut self.raw) }
     }
 
     /// Makes a call that only asks. It gets pointers to a copy of the handle, and to where a word goes.
@@ -99,13 +100,13 @@ impl Handle {
             match content {
                 Content::Write { key, value } => {
                     let (key, key_len, value, value_len) = (key.as_ptr(), key.len(), value.as_ptr(), value.len());
-                    sys::hlc_accept_write(store, node, number, stamp, key, key_len, value, value_len, word)
+                    sys::hlc_store_accept_write(store, node, number, stamp, key, key_len, value, value_len, word)
                 }
                 Content::Delete { key } => {
-                    sys::hlc_accept_delete(store, node, number, stamp, key.as_ptr(), key.len(), word)
+                    sys::hlc_store_accept_delete(store, node, number, stamp, key.as_ptr(), key.len(), word)
                 }
-                Content::Report => sys::hlc_accept_report(store, node, number, stamp, word),
-                Content::Retire => sys::hlc_accept_retire(store, node, number, stamp, word),
+                Content::Report => sys::hlc_store_accept_report(store, node, number, stamp, word),
+                Content::Retire => sys::hlc_store_accept_retire(store, node, number, stamp, word),
             }
         });
         accepted.map(drop)
@@ -118,12 +119,12 @@ impl Handle {
             match content {
                 Content::Write { key, value } => {
                     let (key, key_len, value, value_len) = (key.as_ptr(), key.len(), value.as_ptr(), value.len());
-                    sys::hlc_check_write(store, node, number, stamp, key, key_len, value, value_len, word)
+                    sys::hlc_store_check_write(store, node, number, stamp, key, key_len, value, value_len, word)
                 }
                 Content::Delete { key } => {
-                    sys::hlc_check_delete(store, node, number, stamp, key.as_ptr(), key.len(), word)
+                    sys::hlc_store_check_delete(store, node, number, stamp, key.as_ptr(), key.len(), word)
                 }
-                Content::Report | Content::Retire => sys::hlc_check_report(store, node, number, stamp, word),
+                Content::Report | Content::Retire => sys::hlc_store_check_report(store, node, number, stamp, word),
             }
         });
         checked.map(drop)
@@ -139,7 +140,7 @@ impl Handle {
     pub(crate) fn accept_items(&mut self, log: &[u8]) -> std::result::Result<usize, Stopped> {
         let (mut bytes, mut items) = (0, 0);
         let accepted = self.change(|store, word| unsafe {
-            sys::hlc_items_accept(store, log.as_ptr(), log.len(), &mut bytes, &mut items, word)
+            sys::hlc_store_accept_items(store, log.as_ptr(), log.len(), &mut bytes, &mut items, word)
         });
         accepted.map(|_| items).map_err(|error| Stopped { items, bytes, threshold: Stamp::ZERO, error })
     }
@@ -147,7 +148,7 @@ impl Handle {
     pub(crate) fn apply_records(&mut self, log: &[u8]) -> std::result::Result<Applied, Stopped> {
         let (mut bytes, mut records, mut threshold) = (0, 0, 0);
         let applied = self.change(|store, word| unsafe {
-            sys::hlc_records_apply(store, log.as_ptr(), log.len(), &mut bytes, &mut records, &mut threshold, word)
+            sys::hlc_store_apply_records(store, log.as_ptr(), log.len(), &mut bytes, &mut records, &mut threshold, word)
         });
         let threshold = Stamp::from_bits(threshold);
         match applied {
@@ -158,13 +159,13 @@ impl Handle {
 
     pub(crate) fn join(&mut self) -> Result<Node> {
         let mut node = 0;
-        let start = self.change(|store, start| unsafe { sys::hlc_join(store, &mut node, start) })?;
+        let start = self.change(|store, start| unsafe { sys::hlc_store_join(store, &mut node, start) })?;
         Ok(Node::new(node, Stamp::from_bits(start)))
     }
 
     pub(crate) fn join_at(&mut self, start: Stamp) -> Result<Node> {
         let mut node = 0;
-        self.change(|store, word| unsafe { sys::hlc_join_at(store, start.to_bits(), &mut node, word) })?;
+        self.change(|store, word| unsafe { sys::hlc_store_join_at(store, start.to_bits(), &mut node, word) })?;
         Ok(Node::new(node, start))
     }
 
@@ -172,27 +173,27 @@ impl Handle {
 
     pub(crate) fn open_snapshot(&mut self) -> Result<OpenSnapshot> {
         let mut stamp = 0;
-        let id = self.change(|store, id| unsafe { sys::hlc_open_snapshot_at_floor(store, id, &mut stamp) })?;
+        let id = self.change(|store, id| unsafe { sys::hlc_snapshot_open_at_floor(store, id, &mut stamp) })?;
         Ok(OpenSnapshot { id, stamp: Stamp::from_bits(stamp) })
     }
 
     pub(crate) fn open_snapshot_at(&mut self, stamp: Stamp) -> Result<OpenSnapshot> {
-        let id = self.change(|store, id| unsafe { sys::hlc_open_snapshot(store, stamp.to_bits(), id) })?;
+        let id = self.change(|store, id| unsafe { sys::hlc_snapshot_open(store, stamp.to_bits(), id) })?;
         Ok(OpenSnapshot { id, stamp })
     }
 
     pub(crate) fn close_snapshot(&mut self, id: u64) -> Result<Stamp> {
-        self.change(|store, stamp| unsafe { sys::hlc_close_snapshot(store, id, stamp) }).map(Stamp::from_bits)
+        self.change(|store, stamp| unsafe { sys::hlc_snapshot_close(store, id, stamp) }).map(Stamp::from_bits)
     }
 
     pub(crate) fn close_all(&mut self) -> Result<()> {
-        self.change(|store, _| unsafe { sys::hlc_close_all(store) }).map(drop)
+        self.change(|store, _| unsafe { sys::hlc_snapshot_close_all(store) }).map(drop)
     }
 
     /// The open snapshot at a place, by rising ids; or none after the last.
     fn snapshot_at_place(&self, place: u64) -> Result<Option<OpenSnapshot>> {
         let mut stamp = 0;
-        match self.ask(|store, id| unsafe { sys::hlc_snapshot(store, place, id, &mut stamp) }) {
+        match self.ask(|store, id| unsafe { sys::hlc_snapshot_at_place(store, place, id, &mut stamp) }) {
             Ok(id) => Ok(Some(OpenSnapshot { id, stamp: Stamp::from_bits(stamp) })),
             Err(error) if error.code() == sys::HLC_NO_SNAPSHOT => Ok(None),
             Err(error) => Err(error),
@@ -228,7 +229,7 @@ impl Handle {
         }
         let mut copy = self.raw;
         let read = unsafe {
-            append(out, |out, room, len| sys::hlc_read(&mut copy, id, key.as_ptr(), key.len(), out, room, len))
+            append(out, |out, room, len| sys::hlc_snapshot_read(&mut copy, id, key.as_ptr(), key.len(), out, room, len))
         };
         match read {
             Ok(()) => Ok(true),
@@ -253,14 +254,18 @@ impl Handle {
         let (store, place, len_at, many_at) = (&mut copy, out.as_mut_ptr(), &mut len, &mut many);
         let code = unsafe {
             match listed {
-                Listed::Pairs => sys::hlc_scan(store, id, from, from_len, to, to_len, place, room, len_at, many_at),
+                Listed::Pairs => {
+                    sys::hlc_snapshot_scan(store, id, from, from_len, to, to_len, place, room, len_at, many_at)
+                }
                 Listed::PairsBack => {
-                    sys::hlc_scan_back(store, id, from, from_len, to, to_len, place, room, len_at, many_at)
+                    sys::hlc_snapshot_scan_back(store, id, from, from_len, to, to_len, place, room, len_at, many_at)
                 }
-                Listed::Keys => sys::hlc_scan_keys(store, id, from, from_len, to, to_len, place, room, len_at, many_at),
-                Listed::Changes(after) => {
-                    sys::hlc_changes(store, id, after, from, from_len, to, to_len, place, room, len_at, many_at)
+                Listed::Keys => {
+                    sys::hlc_snapshot_scan_keys(store, id, from, from_len, to, to_len, place, room, len_at, many_at)
                 }
+                Listed::Changes(after) => sys::hlc_snapshot_changes(
+                    store, id, after, from, from_len, to, to_len, place, room, len_at, many_at,
+                ),
             }
         };
         let is_more_left = is_more_left(code)?;
@@ -271,7 +276,7 @@ impl Handle {
 
     pub(crate) fn count(&self, id: u64, range: &Bounds) -> Result<u64> {
         let (from, from_len, to, to_len) = range.pointers();
-        self.ask(|store, many| unsafe { sys::hlc_count(store, id, from, from_len, to, to_len, many) })
+        self.ask(|store, many| unsafe { sys::hlc_snapshot_count(store, id, from, from_len, to, to_len, many) })
     }
 
     pub(crate) fn digest(&self, id: u64, range: &Bounds) -> Result<[u8; 32]> {
@@ -279,7 +284,7 @@ impl Handle {
         let (mut digest, mut len) = ([0; 32], 0);
         self.ask(|store, _| unsafe {
             let (out, room) = (digest.as_mut_ptr(), digest.len());
-            sys::hlc_digest(store, id, from, from_len, to, to_len, out, room, &mut len)
+            sys::hlc_snapshot_digest(store, id, from, from_len, to, to_len, out, room, &mut len)
         })?;
         Ok(digest)
     }
@@ -287,37 +292,38 @@ impl Handle {
     // ---- What the store has ----
 
     pub(crate) fn floor(&self) -> Result<Stamp> {
-        self.ask(|store, stamp| unsafe { sys::hlc_floor(store, stamp) }).map(Stamp::from_bits)
+        self.ask(|store, stamp| unsafe { sys::hlc_store_floor(store, stamp) }).map(Stamp::from_bits)
     }
 
     pub(crate) fn horizon(&self) -> Result<Stamp> {
-        self.ask(|store, stamp| unsafe { sys::hlc_horizon(store, stamp) }).map(Stamp::from_bits)
+        self.ask(|store, stamp| unsafe { sys::hlc_store_horizon(store, stamp) }).map(Stamp::from_bits)
     }
 
     pub(crate) fn rows(&self) -> Result<u64> {
-        self.ask(|store, rows| unsafe { sys::hlc_rows(store, rows) })
+        self.ask(|store, rows| unsafe { sys::hlc_store_rows(store, rows) })
     }
 
     pub(crate) fn sizes(&self) -> Result<Sizes> {
         let mut sizes = Sizes::default();
         let Sizes { keys, key_bytes, value_bytes, .. } = &mut sizes;
-        sizes.rows = self.ask(|store, rows| unsafe { sys::hlc_sizes(store, rows, keys, key_bytes, value_bytes) })?;
+        sizes.rows =
+            self.ask(|store, rows| unsafe { sys::hlc_store_size(store, rows, keys, key_bytes, value_bytes) })?;
         Ok(sizes)
     }
 
     pub(crate) fn nodes(&self) -> Result<u64> {
-        self.ask(|store, many| unsafe { sys::hlc_nodes(store, many) })
+        self.ask(|store, many| unsafe { sys::hlc_store_nodes(store, many) })
     }
 
     pub(crate) fn link(&self, node: u16) -> Result<Link> {
         let (mut head, mut is_retired) = (0, false);
         let next_number =
-            self.ask(|store, next| unsafe { sys::hlc_link(store, node, next, &mut head, &mut is_retired) })?;
+            self.ask(|store, next| unsafe { sys::hlc_store_link(store, node, next, &mut head, &mut is_retired) })?;
         Ok(Link { next_number, head: Stamp::from_bits(head), is_retired })
     }
 
     pub(crate) fn floor_node(&self) -> Result<Option<u16>> {
-        match self.ask(|store, node| unsafe { sys::hlc_floor_node(store, node) }) {
+        match self.ask(|store, node| unsafe { sys::hlc_store_floor_node(store, node) }) {
             // A node's number is below 1,024.
             Ok(node) => Ok(Some(node as u16)),
             Err(error) if error.code() == sys::HLC_NO_NODE => Ok(None),
@@ -331,7 +337,7 @@ impl Handle {
         reserve(&mut bytes, VALUE_ROOM)?;
         unsafe {
             append(&mut bytes, |out, room, len| {
-                sys::hlc_versions(&mut copy, key, key_len, above, to, out, room, len, &mut many)
+                sys::hlc_store_versions(&mut copy, key, key_len, above, to, out, room, len, &mut many)
             })?;
         }
         Version::from_bytes(&bytes, many)
@@ -340,7 +346,7 @@ impl Handle {
     pub(crate) fn checkpoint(&self, word: u64) -> Result<Output> {
         let mut saved = Output::none();
         let (output, len) = saved.place();
-        self.ask(|store, _| unsafe { sys::hlc_checkpoint(store, word, output, len) })?;
+        self.ask(|store, _| unsafe { sys::hlc_checkpoint_make(store, word, output, len) })?;
         Ok(saved)
     }
 
@@ -363,7 +369,9 @@ impl Handle {
     pub(crate) fn increment(&self, since: Stamp, word: u64) -> Result<Output> {
         let mut saved = Output::none();
         let (output, len) = saved.place();
-        self.ask(|store, horizon| unsafe { sys::hlc_increment(store, since.to_bits(), word, output, len, horizon) })?;
+        self.ask(|store, horizon| unsafe {
+            sys::hlc_increment_make(store, since.to_bits(), word, output, len, horizon)
+        })?;
         Ok(saved)
     }
 
@@ -372,15 +380,16 @@ impl Handle {
     pub(crate) fn vacuum(&mut self) -> Result<Vacuumed> {
         let mut made = Numbers::default();
         let Numbers { stamp, kept, bytes, dropped } = &mut made;
-        self.change(|store, _| unsafe { sys::hlc_vacuum(store, stamp, kept, bytes, dropped) })?;
+        self.change(|store, _| unsafe { sys::hlc_store_vacuum(store, stamp, kept, bytes, dropped) })?;
         Ok(made.vacuumed())
     }
 
     pub(crate) fn vacuum_to(&mut self, to: Stamp) -> Result<Vacuumed> {
         let mut made = Numbers::default();
         let Numbers { kept, bytes, dropped, .. } = &mut made;
-        made.stamp =
-            self.change(|store, word| unsafe { sys::hlc_vacuum_to(store, to.to_bits(), word, kept, bytes, dropped) })?;
+        made.stamp = self.change(|store, word| unsafe {
+            sys::hlc_store_vacuum_to(store, to.to_bits(), word, kept, bytes, dropped)
+        })?;
         Ok(made.vacuumed())
     }
 
@@ -393,7 +402,7 @@ impl Handle {
         let (at, at_len, out, room) = (after.as_ptr(), after.len(), next.as_mut_ptr(), next.capacity());
         made.stamp = self.change(|store, word| unsafe {
             let to = to.to_bits();
-            sys::hlc_vacuum_part(
+            sys::hlc_store_vacuum_part(
                 store, to, at, at_len, most, word, kept, bytes, dropped, out, room, &mut len, &mut more,
             )
         })?;
@@ -404,14 +413,14 @@ impl Handle {
     }
 
     pub(crate) fn check_vacuum(&self, to: Stamp) -> Result<()> {
-        self.ask(|store, word| unsafe { sys::hlc_check_vacuum(store, to.to_bits(), word) }).map(drop)
+        self.ask(|store, word| unsafe { sys::hlc_store_check_vacuum(store, to.to_bits(), word) }).map(drop)
     }
 
     pub(crate) fn certificate(&self, at: Stamp) -> Result<Certificate> {
         let (mut kept, mut bytes, mut text) = (0, 0, Output::none());
         let (output, len) = text.place();
         self.ask(|store, word| unsafe {
-            sys::hlc_certificate(store, at.to_bits(), word, &mut kept, &mut bytes, output, len)
+            sys::hlc_certificate_make(store, at.to_bits(), word, &mut kept, &mut bytes, output, len)
         })?;
         Ok(Certificate { kept, bytes, text })
     }

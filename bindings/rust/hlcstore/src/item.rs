@@ -124,7 +124,7 @@ impl<'a> Item<'a> {
         // writes the item where there is room for it.
         unsafe {
             append(log, |out, room, len| match content {
-                Content::Write { key, value } => sys::hlc_item_write(
+                Content::Write { key, value } => sys::hlc_item_encode_write(
                     node,
                     number,
                     stamp,
@@ -137,10 +137,10 @@ impl<'a> Item<'a> {
                     len,
                 ),
                 Content::Delete { key } => {
-                    sys::hlc_item_delete(node, number, stamp, key.as_ptr(), key.len(), out, room, len)
+                    sys::hlc_item_encode_delete(node, number, stamp, key.as_ptr(), key.len(), out, room, len)
                 }
-                Content::Report => sys::hlc_item_report(node, number, stamp, out, room, len),
-                Content::Retire => sys::hlc_item_retire(node, number, stamp, out, room, len),
+                Content::Report => sys::hlc_item_encode_report(node, number, stamp, out, room, len),
+                Content::Retire => sys::hlc_item_encode_retire(node, number, stamp, out, room, len),
             })
         }
     }

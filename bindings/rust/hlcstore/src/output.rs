@@ -104,7 +104,17 @@ pub fn split_checkpoint(checkpoint: &[u8], key: &[u8]) -> Result<(Vec<u8>, Vec<u
     let code = unsafe {
         let (bytes, bytes_len) = (checkpoint.as_ptr(), checkpoint.len());
         let (key, key_len) = (key.as_ptr(), key.len());
-        sys::hlc_split(bytes, bytes_len, key, key_len, left_output, right_output, left_len, right_len, &mut word)
+        sys::hlc_checkpoint_split(
+            bytes,
+            bytes_len,
+            key,
+            key_len,
+            left_output,
+            right_output,
+            left_len,
+            right_len,
+            &mut word,
+        )
     };
     answer(code, word)?;
     Ok((left.read()?, right.read()?))
@@ -122,7 +132,7 @@ pub fn merge_checkpoints(left: &[u8], right: &[u8]) -> Result<Vec<u8>> {
     // SAFETY: as in `split_checkpoint`.
     let code = unsafe {
         let (left, left_len) = (left.as_ptr(), left.len());
-        sys::hlc_merge(left, left_len, right.as_ptr(), right.len(), output, len, &mut word)
+        sys::hlc_checkpoint_merge(left, left_len, right.as_ptr(), right.len(), output, len, &mut word)
     };
     answer(code, word)?;
     made.read()

@@ -49,8 +49,8 @@ impl Record {
         // SAFETY: the library writes the record where there is room for it.
         unsafe {
             append(log, |out, room, len| match self {
-                Record::Join { node, start } => sys::hlc_record_join(node, start.to_bits(), out, room, len),
-                Record::Threshold(stamp) => sys::hlc_record_threshold(stamp.to_bits(), out, room, len),
+                Record::Join { node, start } => sys::hlc_record_encode_join(node, start.to_bits(), out, room, len),
+                Record::Threshold(stamp) => sys::hlc_record_encode_threshold(stamp.to_bits(), out, room, len),
             })
         }
     }

@@ -32,7 +32,7 @@ impl Restoring {
     /// Refusal: `NoMemory`.
     pub fn start() -> Result<Restoring> {
         let mut restoring = Restoring { raw: sys::HLC_NO_RESTORING };
-        answer(unsafe { sys::hlc_restore_start(&mut restoring.raw) }, 0)?;
+        answer(unsafe { sys::hlc_restoring_start(&mut restoring.raw) }, 0)?;
         Ok(restoring)
     }
 
@@ -40,7 +40,7 @@ impl Restoring {
     ///
     /// Refusal: `NoMemory`, and nothing was added.
     pub fn feed(&mut self, piece: &[u8]) -> Result<()> {
-        let code = unsafe { sys::hlc_restore_feed(&mut self.raw, piece.as_ptr(), piece.len()) };
+        let code = unsafe { sys::hlc_restoring_feed(&mut self.raw, piece.as_ptr(), piece.len()) };
         answer(code, 0).map(drop)
     }
 
@@ -56,6 +56,6 @@ impl Restoring {
 
 impl Drop for Restoring {
     fn drop(&mut self) {
-        unsafe { sys::hlc_restore_drop(&mut self.raw) }
+        unsafe { sys::hlc_restoring_drop(&mut self.raw) }
     }
 }

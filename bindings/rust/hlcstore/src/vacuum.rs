@@ -66,7 +66,7 @@ pub fn check_certificate(text: impl AsRef<[u8]>) -> Result<Checked> {
     let text = text.as_ref();
     let (mut rows, mut bytes, mut word) = (0, 0, 0);
     // SAFETY: the text has this length, and the other pointers are live and not used otherwise during the call.
-    let code = unsafe { sys::hlc_check(text.as_ptr(), text.len(), &mut rows, &mut bytes, &mut word) };
+    let code = unsafe { sys::hlc_certificate_check(text.as_ptr(), text.len(), &mut rows, &mut bytes, &mut word) };
     answer(code, word)?;
     Ok(Checked { rows, bytes })
 }
