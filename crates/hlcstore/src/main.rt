@@ -3,8 +3,10 @@
 #![tactic(auto)]
 
 use crate::program::run_program;
+use hlc_explain::{Kept, explain, explains};
 use hlc_text::watched::Watched;
 use std::env;
+use std::io::IsTerminal;
 use std::process::ExitCode;
 
 mod program;
@@ -18,8 +20,13 @@ fn words(rt: &HostRuntime) -> Option<Vec<String>> {
 fn main(rt: HostRuntime) -> ExitCode {
     let words = words(&rt);
     let words = words.as_ref().map(|words| words.as_slice());
-    let mut reader = Watched::new(rt.stdin());
+    let explains = explains(&rt, rt.stderr().is_terminal());
+    let mut reader = Watched::new(Kept::new(rt.alloc(), rt.stdin(), explains));
     let mut writer = Watched::new(rt.stdout());
     let status = run_program(&rt, rt.alloc(), words, &mut reader, &mut writer);
+    if explains {
+        let mut errors = Watched::new(rt.stderr());
+        explain(rt.alloc(), &mut errors, words, &reader.into_inner(), status);
+    }
     ExitCode::from(status)
 }

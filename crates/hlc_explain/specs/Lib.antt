@@ -1,0 +1,4 @@
+pub mod Sentence
+pub mod Kept
+pub mod Look
+pub mod Explained

@@ -1,0 +1,124 @@
+//! A sentence: one line of text that a terminal shows as it is, of a limited length. It takes no memory.
+ghost use Rattle.std.specs.Prelude.{◌≡◌, ◌≤◌, [], true, length};
+ghost use Rattle.std.specs.List.{list_all};
+ghost use Rattle.hlc_explain.specs.Sentence.{is_shown, with_byte};
+
+use arrayvec::ArrayVec;
+use itoa::Buffer;
+use std::marker::Model;
+
+/// The maximum number of bytes of a sentence.
+pub const SENTENCE_LIMIT: usize = 1000;
+
+/// How many bytes of a line or a word are quoted.
+const QUOTED: usize = 80;
+
+/// Text of at most 1,000 bytes from a space to a tilde, without a line feed. Contracts see it as its bytes.
+#[derive(Drop)]
+pub struct Sentence {
+    text: ArrayVec<u8, SENTENCE_LIMIT>,
+}
+
+impl Model for Sentence {
+    ghost use Rattle.std.specs.Prelude.{List, ℕ};
+    ghost use Rattle.hlc_explain.specs.Sentence.{IsSentence};
+
+    ghost Value = { List ℕ };
+
+    ghost view = { λ sentence. sentence.text.items };
+
+    ghost invariant = { λ sentence. IsSentence sentence.text.items };
+}
+
+/// Returns whether a terminal shows the byte as it is.
+fn is_shown(byte: u8) -> bool
+    ensures { result ≡ is_shown byte }
+{
+    32 <= byte && byte <= 126
+}
+
+/// Returns the capital hexadecimal digit of a number, or a question mark for 16 and more.
+fn hex_digit(number: u8) -> u8 {
+    match number {
+        0..=9 => b'0' + number,
+        10..=15 => b'A' + (number - 10),
+        _ => b'?',
+    }
+}
+
+impl Sentence {
+    /// Returns an empty sentence.
+    pub fn new() -> Sentence
+        ensures { result ≡ [] }
+    {
+        Sentence {
+            text: ArrayVec::new(),
+        }
+    }
+
+    /// Returns its bytes.
+    pub fn as_slice(&self) -> &[u8]
+        ensures text { result.now ≡ self.now }
+        ensures short { length result.now ≤ 1000 }
+        ensures shown { list_all is_shown result.now ≡ true }
+    {
+        self.text.as_slice()
+    }
+
+    /// Appends a byte, if a terminal shows it and there is room.
+    pub fn put_byte(&mut self, byte: u8)
+        ensures { self.new ≡ with_byte self.old byte }
+    {
+        if is_shown(byte) && !self.text.is_full() {
+            self.text.push(byte);
+        }
+    }
+
+    /// Appends the bytes of a text, as `put_byte` does.
+    pub fn put(&mut self, text: &[u8]) {
+        for byte in text {
+            self.put_byte(*byte);
+        }
+    }
+
+    /// Appends the digits of a number.
+    pub fn put_number(&mut self, number: u64) {
+        let mut buffer = Buffer::new();
+        self.put(buffer.format(number).as_bytes());
+    }
+
+    /// Appends two capital hexadecimal digits.
+    fn put_hex(&mut self, byte: u8) {
+        self.put_byte(hex_digit(byte / 16));
+        self.put_byte(hex_digit(byte % 16));
+    }
+
+    /// Appends a byte as a percent sign and two digits.
+    pub fn put_escape(&mut self, byte: u8) {
+        self.put(b"%");
+        self.put_hex(byte);
+    }
+
+    /// Appends a byte of a quoted text: as `\xHH` where a terminal does not show it.
+    fn put_quoted_byte(&mut self, byte: u8) {
+        if is_shown(byte) {
+            self.put_byte(byte);
+        } else {
+            self.put(b"\\x");
+            self.put_hex(byte);
+        }
+    }
+
+    /// Appends the first 80 bytes of a text in quotation marks, and two stops where it has more.
+    pub fn put_quoted(&mut self, text: &[u8]) {
+        self.put(b"'");
+        let count = text.len().min(QUOTED);
+        for byte in &text[..count] {
+            self.put_quoted_byte(*byte);
+        }
+        self.put(b"'");
+        if count < text.len() {
+            self.put(b"..");
+        }
+    }
+}
