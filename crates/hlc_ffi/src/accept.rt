@@ -155,7 +155,12 @@ pub extern "C" fn hlc_store_check_report(
 
 /// Lets a node join. Returns 0, its number and the stamp at which its clock starts; or 26 or 15.
 #[unsafe(no_mangle)]
-pub extern "C" fn hlc_store_join(alloc: Global, store: &mut Store, node: &mut u16, start: &mut u64) -> u32
+pub extern "C" fn hlc_store_join(
+    alloc: Global,
+    store: &mut Store,
+    node: &mut u16,
+    start: &mut u64,
+) -> u32
     ensures answer { OnStorePast store.old.value store.new.value ((result ≡ 100) × (node.new ≡ 0) × (start.new ≡ 0))
         (λ old new past. ReturnsJoined old new past result node.new start.new) }
     ensures nothing { result ≢ 0 → (node.new ≡ 0) × (start.new ≡ 0) }

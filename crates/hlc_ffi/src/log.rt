@@ -101,7 +101,12 @@ pub extern "C" fn hlc_store_accept_items(
 
 /// Writes a join as bytes. Returns 0, how many there are and, where they fit, the bytes. No memory.
 #[unsafe(no_mangle)]
-pub extern "C" fn hlc_record_encode_join(node: u16, start: u64, out: &mut [u8], len: &mut usize) -> u32
+pub extern "C" fn hlc_record_encode_join(
+    node: u16,
+    start: u64,
+    out: &mut [u8],
+    len: &mut usize,
+) -> u32
     ensures { ReturnsRecord (Join node start) result len.new out.old out.new }
 {
     records::put_join(node, Stamp::from_bits(start), out, len)

@@ -158,7 +158,12 @@ pub extern "C" fn hlc_store_size(
 /// Lists the keys with a value in a snapshot, in byte order. Returns 0, how many bytes the listing has and, where they
 /// fit, the bytes: of each key its length in eight bytes, the key, and the same of its value; or 10. No memory.
 #[unsafe(no_mangle)]
-pub extern "C" fn hlc_snapshot_list(store: &mut Reader, id: u64, out: &mut [u8], len: &mut usize) -> u32
+pub extern "C" fn hlc_snapshot_list(
+    store: &mut Reader,
+    id: u64,
+    out: &mut [u8],
+    len: &mut usize,
+) -> u32
     ensures answer { OnReaderPast store.old.room.value ((result ≡ 100) × (len.new ≡ 0) × (out.new ≡ out.old))
         (λ core past. ReturnsListing (stamp_of id past) (writes past) result len.new out.old out.new) }
     ensures nothing { result ≢ 0 → (len.new ≡ 0) × (out.new ≡ out.old) }

@@ -135,7 +135,12 @@ pub extern "C" fn hlc_checkpoint_merge(
 /// which stays as it is; or 106 and the first fault of the bytes, 107 and the first reason against their content, or
 /// 15.
 #[unsafe(no_mangle)]
-pub extern "C" fn hlc_store_restore(alloc: Global, store: &mut Store, bytes: &[u8], word: &mut u64) -> u32
+pub extern "C" fn hlc_store_restore(
+    alloc: Global,
+    store: &mut Store,
+    bytes: &[u8],
+    word: &mut u64,
+) -> u32
     ensures answer { IsRestoring store.old.value store.new.value bytes.now result word.new }
     ensures represents { (saved : ℕ) (past : List Step) → BytesRepresent bytes.now saved past
         → RestoresPast store.old.value store.new.value saved past result word.new }

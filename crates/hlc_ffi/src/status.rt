@@ -66,7 +66,12 @@ pub extern "C" fn hlc_store_floor_node(store: &mut Reader, node: &mut u64) -> u3
 
 /// Returns 0, the id and the stamp of the open snapshot at a place, by rising ids; or 10 after the last.
 #[unsafe(no_mangle)]
-pub extern "C" fn hlc_snapshot_at_place(store: &mut Reader, place: u64, id: &mut u64, stamp: &mut u64) -> u32
+pub extern "C" fn hlc_snapshot_at_place(
+    store: &mut Reader,
+    place: u64,
+    id: &mut u64,
+    stamp: &mut u64,
+) -> u32
     ensures answer { OnReaderPast store.old.room.value ((result ≡ 100) × (id.new ≡ 0) × (stamp.new ≡ 0)) (λ core past.
         ReturnsSnapshot (slice_get (open_snapshots past) place) result id.new stamp.new) }
     ensures same { IsGivenBack store.old.room store.new.room }
