@@ -70,6 +70,17 @@ impl<const N: usize> Few<N> {
         self.lanes().len()
     }
 
+    /// Reads the first stamp and whether the first and the last place have a value, which lie in all of the block's
+    /// lines of memory but those between. Where they lie does not depend on what the block has, so no such read waits
+    /// for another. The number has no meaning, as with `Rows::fetched`.
+    #[inline]
+    pub(crate) fn fetched(&self) -> u64 {
+        let stamp = self.stamps.first().copied().unwrap_or(0);
+        let first = self.values.first().map_or(0, is_value);
+        let last = self.values.last().map_or(0, is_value);
+        stamp.wrapping_add(first).wrapping_add(last)
+    }
+
     /// Appends a row, for which there must be room.
     pub(crate) fn push(&mut self, row: Single)
         requires { length self.old < N }
@@ -141,6 +152,12 @@ impl<const N: usize> Few<N> {
         set_marks(&mut self.values, kept);
         self.len = kept as u8;
     }
+}
+
+/// Returns 1 for a value and 0 for a deletion mark.
+#[inline]
+fn is_value(value: &ValueOrMark) -> u64 {
+    value.as_slice().is_some() as u64
 }
 
 /// Takes the value at a position, and leaves a deletion mark in its place.

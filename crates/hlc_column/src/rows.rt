@@ -104,16 +104,16 @@ impl Rows {
         }
     }
 
-    /// Reads the last row wherever it is stored, for a caller that goes through many keys and then reads the newest row
-    /// of each: none of these reads waits for those of another key. The number that it returns has no meaning. It only
-    /// keeps the compiler from leaving the reads out.
+    /// Reads a row in place with its value, the block of a few rows, or the last row of lists, for a caller that goes
+    /// through many keys and then reads the newest row of each: none of these reads waits for those of another key. The
+    /// number that it returns has no meaning. It only keeps the compiler from leaving the reads out.
     #[inline]
     pub fn fetched(&self) -> u64 {
         match &self.form {
             Form::Empty => 0,
             Form::One { value, .. } => fetched_value(value),
-            Form::Two(block) => block.lanes().fetched(),
-            Form::Four(block) => block.lanes().fetched(),
+            Form::Two(block) => block.fetched(),
+            Form::Four(block) => block.fetched(),
             Form::Many(lists) => lists.lanes().fetched(),
         }
     }

@@ -16,7 +16,7 @@ use hlc_node::Bytes;
 use std::marker::Model;
 
 /// This many columns are fetched from memory together.
-const AHEAD: usize = 32;
+const AHEAD: usize = 64;
 
 /// A walk over the columns of an index up to the end of a range, if it has one: the rest of a leaf, and the number of
 /// the leaf after it.
