@@ -1,0 +1,267 @@
+package main
+
+import (
+	"bytes"
+	"context"
+	"encoding/json"
+	"errors"
+	"fmt"
+	"io"
+	"log"
+	"net/http"
+	"os"
+	"sync"
+	"time"
+
+	"go.etcd.io/etcd/clientv3"
+
+	"hlcstore"
+)
+
+const (
+	firstNodes = 1                      // the coordinator's node; all others join
+	lease      = 10                     // seconds after which the cluster forgets a replica that is gone
+	pause      = 500 * time.Millisecond // between two rounds of upkeep
+	partKeys   = 4096                   // of a vacuum, so that the log is applied between its parts
+)
+
+// A replica is a store with the place in the log up to which that was applied to it.
+type replica struct {
+	name        string
+	etcd        *clientv3.Client
+	checkpoints checkpoints
+	say         func(any)
+	lease       clientv3.LeaseID
+	between     sync.RWMutex // whoever has it sees the store between two entries of the log
+	store       *hlcstore.Store
+	revision    int64
+	threshold   hlcstore.Stamp
+}
+
+// errCut says that etcd no longer has all that comes next: only a newer checkpoint helps. errSealed says that other
+// ranges go on with the keys: what was applied can still be read.
+var (
+	errCut    = errors.New("the log begins behind what was applied, so this begins from another replica")
+	errSealed = errors.New("the log has ended: other ranges go on")
+)
+
+// Apply accepts items, and lets nodes join: all replicas do so at the same place of the log, with the same start. What
+// was applied before is passed over.
+func (r *replica) apply(revision int64, records []byte) error {
+	r.between.Lock()
+	defer r.between.Unlock()
+	if bytes.HasPrefix(records, []byte("{")) {
+		return errSealed
+	}
+	applied, err := r.store.ApplyRecords(records)
+	if err != nil {
+		return fmt.Errorf("the entry at revision %d: %w", revision, err)
+	}
+	if r.revision = revision; applied.Threshold > r.threshold {
+		r.threshold = applied.Threshold
+	}
+	return nil
+}
+
+// Follow applies the log as it grows, until it ends or the context does.
+func (r *replica) follow(ctx context.Context) error {
+	for ctx.Err() == nil {
+		switch err := r.watch(ctx); err {
+		case nil:
+			wait(ctx, 50*time.Millisecond) // the member lost its leader: another watch goes on
+		case errCut:
+			log.Print(err)
+			r.beginFromAnother(ctx)
+		case errSealed:
+			log.Print(err)
+			<-ctx.Done()
+		default:
+			return err
+		}
+	}
+	return ctx.Err()
+}
+
+// Watch applies entries above the revision as they come, in order, until the watch ends.
+func (r *replica) watch(ctx context.Context) error {
+	ctx, cancel := context.WithCancel(clientv3.WithRequireLeader(ctx))
+	defer cancel()
+	for answer := range r.etcd.Watch(ctx, "log/", clientv3.WithPrefix(), clientv3.WithRev(r.revision+1),
+		clientv3.WithFilterDelete(), clientv3.WithFragment()) {
+		if answer.CompactRevision != 0 {
+			return errCut
+		}
+		for _, event := range answer.Events {
+			if err := r.apply(event.Kv.ModRevision, event.Kv.Value); err != nil {
+				return err
+			}
+		}
+	}
+	return nil
+}
+
+// BeginFromDisk begins with the newest checkpoint that is whole, or with an empty store before the first entry.
+func (r *replica) beginFromDisk() error {
+	for _, path := range r.checkpoints.paths() {
+		file, err := os.Open(path)
+		if err != nil {
+			return err
+		}
+		err = r.begin("disk", file)
+		file.Close()
+		if !errors.Is(err, hlcstore.ErrBadBytes) && !errors.Is(err, hlcstore.ErrNoCheckpoint) {
+			return err
+		}
+		log.Printf("removes a damaged checkpoint, %s: %v", path, err)
+		os.Remove(path)
+	}
+	return r.begin("empty", nil)
+}
+
+// Begin goes on with the store of a checkpoint, or with an empty one. The snapshots in a checkpoint are closed: their
+// readers are gone.
+func (r *replica) begin(origin string, saved io.Reader) error {
+	start, word := time.Now(), uint64(0)
+	store, err := hlcstore.Open(firstNodes)
+	if err == nil && saved != nil {
+		store, word, err = hlcstore.Restore(saved)
+	}
+	if err != nil {
+		return err
+	}
+	rows, err := store.Rows()
+	if err := firstOf(store.CloseAll(), err); err != nil {
+		return err
+	}
+	r.between.Lock()
+	r.store, r.revision = store, int64(word)
+	r.between.Unlock()
+	log.Printf("begins from %s at revision %d, with %d rows", origin, word, rows)
+	r.say(map[string]any{"begins": origin, "revision": word, "rows": rows, "seconds": time.Since(start).Seconds()})
+	return nil
+}
+
+// What a replica publishes of itself.
+type published struct {
+	Name       string `json:"name"`
+	Address    string `json:"address"`
+	Floor      uint64 `json:"floor"`
+	Checkpoint int64  `json:"checkpoint"`
+}
+
+// BeginFromAnother begins with the checkpoint of another replica, as soon as one has a newer one. It may be that the
+// other was killed, or that its disk is damaged: then the next one is asked.
+func (r *replica) beginFromAnother(ctx context.Context) {
+	for ; ctx.Err() == nil; wait(ctx, pause) {
+		others, err := r.etcd.Get(ctx, "replica/", clientv3.WithPrefix())
+		for at := 0; err == nil && at < len(others.Kvs); at++ {
+			var other published
+			if json.Unmarshal(others.Kvs[at].Value, &other) == nil && other.Checkpoint > r.revision {
+				err := r.fetch(other.Address)
+				if err == nil {
+					return
+				}
+				log.Printf("no checkpoint of %s: %v", other.Name, err)
+			}
+		}
+	}
+}
+
+func (r *replica) fetch(address string) error {
+	answer, err := (&http.Client{Timeout: time.Minute}).Get("http://" + address + "/checkpoint")
+	if err != nil {
+		return err
+	}
+	defer answer.Body.Close()
+	if answer.StatusCode != http.StatusOK {
+		return errors.New(answer.Status)
+	}
+	return r.begin("another replica", answer.Body)
+}
+
+// KeepUp publishes the floor and the oldest checkpoint, vacuums to the threshold, and makes checkpoints.
+func (r *replica) keepUp(ctx context.Context, address string, every time.Duration) error {
+	saved := time.Now()
+	for ; ctx.Err() == nil; wait(ctx, pause) {
+		r.publish(ctx, address)
+		if err := r.vacuum(ctx); err != nil {
+			return err
+		}
+		if time.Since(saved) >= every {
+			if err := r.save(); err != nil {
+				log.Print("a checkpoint was not saved: ", err) // it goes on with those that it has, and tries again
+			}
+			saved = time.Now()
+		}
+	}
+	return ctx.Err()
+}
+
+// Publish puts where the replica is, for as long as the lease is kept alive. Where etcd does not answer, the next round
+// tries again.
+func (r *replica) publish(ctx context.Context, address string) {
+	limited, cancel := context.WithTimeout(ctx, patience)
+	defer cancel()
+	if _, err := r.etcd.KeepAliveOnce(limited, r.lease); r.lease == 0 || err != nil {
+		granted, err := r.etcd.Grant(limited, lease)
+		if err != nil {
+			return
+		}
+		r.lease = granted.ID
+	}
+	floor := r.state()["floor"].(uint64)
+	text, _ := json.Marshal(published{r.name, address, floor, r.checkpoints.oldest()})
+	r.etcd.Put(limited, "replica/"+r.name, string(text), clientv3.WithLease(r.lease))
+}
+
+// Vacuum vacuums to the threshold, if the floor has reached it, unless a certificate at a later stamp was asked for.
+func (r *replica) vacuum(ctx context.Context) error {
+	store, threshold := r.now()
+	floor, _ := store.Floor()
+	if horizon, _ := store.Horizon(); horizon >= threshold || threshold > floor {
+		return nil
+	}
+	_, err := store.VacuumInParts(ctx, threshold, partKeys)
+	if errors.Is(err, hlcstore.ErrBelowHorizon) {
+		return nil
+	}
+	return err
+}
+
+// Now returns the store, and the retention threshold that it has come to.
+func (r *replica) now() (*hlcstore.Store, hlcstore.Stamp) {
+	r.between.RLock()
+	defer r.between.RUnlock()
+	return r.store, r.threshold
+}
+
+// State says how far the replica is, between two entries. A stamp is a word of 64 bits.
+func (r *replica) state() map[string]any {
+	r.between.RLock()
+	defer r.between.RUnlock()
+	floor, _ := r.store.Floor()
+	horizon, _ := r.store.Horizon()
+	rows, _ := r.store.Rows()
+	return map[string]any{
+		"program": "replica", "name": r.name, "revision": r.revision, "floor": uint64(floor), "rows": rows,
+		"horizon": uint64(horizon), "threshold": uint64(r.threshold), "checkpoint": r.checkpoints.oldest(),
+	}
+}
+
+// Save makes a checkpoint of the store between two entries. The log waits for it, and reads do not.
+func (r *replica) save() error {
+	r.between.RLock()
+	defer r.between.RUnlock()
+	return r.checkpoints.save(r.revision, func(to io.Writer) error {
+		_, err := r.store.CheckpointTo(to, uint64(r.revision))
+		return err
+	})
+}
+
+// wait waits for as long, or until the context ends.
+func wait(ctx context.Context, duration time.Duration) {
+	select {
+	case <-ctx.Done():
+	case <-time.After(duration):
+	}
+}
