@@ -12,7 +12,6 @@ import (
 	"net/http"
 	"os"
 	"os/signal"
-	"strings"
 	"syscall"
 	"time"
 
@@ -26,12 +25,12 @@ const patience = 3 * time.Second
 func main() {
 	name := flag.String("name", "", "its name, under which it publishes where it is")
 	folder := flag.String("folder", "", "the folder of its checkpoints, which is made if it is not there")
-	members := flag.String("members", "", "the addresses of the members of etcd, HOST:PORT, with commas between")
+	first := flag.String("members", "", "the address of a member of etcd, HOST:PORT; those of others are the last words")
 	listen := flag.String("listen", "127.0.0.1:0", "the address at which it answers")
 	seconds := flag.Float64("checkpoint-seconds", 60, "seconds from one checkpoint to the next")
 	piped := flag.Bool("piped", false, "say in JSON on the output where it began, and end with the input")
 	flag.Parse()
-	if *name == "" || *folder == "" || *members == "" || *seconds <= 0 || flag.NArg() > 0 {
+	if *name == "" || *folder == "" || *first == "" || *seconds <= 0 {
 		flag.Usage()
 		os.Exit(2)
 	}
@@ -45,16 +44,17 @@ func main() {
 			stop()
 		}()
 	}
-	if err := r.work(ctx, *members, *listen, time.Duration(*seconds*float64(time.Second))); err != nil {
+	members := append([]string{*first}, flag.Args()...)
+	if err := r.work(ctx, members, *listen, time.Duration(*seconds*float64(time.Second))); err != nil {
 		log.Fatal(err)
 	}
 }
 
 // Work runs the replica until the context ends, and then makes a last checkpoint. A member of etcd that does not answer
 // is left for the next one.
-func (r *replica) work(ctx context.Context, members, listen string, every time.Duration) (err error) {
+func (r *replica) work(ctx context.Context, members []string, listen string, every time.Duration) (err error) {
 	r.etcd, err = clientv3.New(clientv3.Config{
-		Endpoints:            strings.Split(members, ","),
+		Endpoints:            members,
 		DialKeepAliveTime:    patience,
 		DialKeepAliveTimeout: patience,
 		PermitWithoutStream:  true,

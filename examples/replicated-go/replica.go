@@ -242,9 +242,16 @@ func (r *replica) state() map[string]any {
 	floor, _ := r.store.Floor()
 	horizon, _ := r.store.Horizon()
 	rows, _ := r.store.Rows()
+	links, nodes := [][3]any{}, uint64(0)
+	for nodes, _ = r.store.Nodes(); uint64(len(links)) < nodes; {
+		link, _ := r.store.Link(uint16(len(links)))
+		links = append(links, [3]any{link.Next, uint64(link.Head), link.Retired})
+	}
+	own := map[string]any{"range": 0, "revision": r.revision, "rows": rows, "links": links}
 	return map[string]any{
 		"program": "replica", "name": r.name, "revision": r.revision, "floor": uint64(floor), "rows": rows,
 		"horizon": uint64(horizon), "threshold": uint64(r.threshold), "checkpoint": r.checkpoints.oldest(),
+		"links": links, "ranges": []any{own},
 	}
 }
 

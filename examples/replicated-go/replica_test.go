@@ -132,8 +132,8 @@ func TestAnswers(t *testing.T) {
 		{"/checkpoint", `{"refused":"there is no such path, or no checkpoint yet"}`, 404},
 		{"/nothing", `{"refused":"there is no such path, or no checkpoint yet"}`, 404},
 		{"/certificate?stamp=131072", "point 2.0\n", 200},
-		{"/range?stamp=65536", `{"refused":"hlcstore: the stamp is below that of the last vacuum (2.0)"}`, 410},
-		{"/state", `{"checkpoint":0,"floor":196608,"horizon":131072,"name":"g1","program":"replica",`, 200},
+		{"/range?stamp=65536", `{"refused":"hlcstore: the stamp is below the horizon (2.0)"}`, 410},
+		{"/state", `{"checkpoint":0,"floor":196608,"horizon":131072,"links":[[3,196608,false]],"name":"g1",`, 200},
 	} {
 		answer := httptest.NewRecorder()
 		r.ServeHTTP(answer, httptest.NewRequest(http.MethodGet, one.path, nil))
