@@ -14,10 +14,7 @@ answer_words answer =
       codes "the stamp is not above that of the last accepted item of the node",
     )
     else if answer == 8 then (codes "HLC_ABOVE_FLOOR", codes "the stamp is above the floor")
-    else if answer == 9 then (
-      codes "HLC_BELOW_HORIZON",
-      codes "the stamp is below the horizon, or the start below the floor",
-    )
+    else if answer == 9 then (codes "HLC_BELOW_HORIZON", codes "the stamp is below the horizon")
     else if answer == 10 then (codes "HLC_NO_SNAPSHOT", codes "no open snapshot has this id")
     else if answer == 11 then (codes "HLC_TOO_MANY_SNAPSHOTS", codes "1,024 snapshots are open")
     else if answer == 12 then (codes "HLC_BAD_KEY", codes "the key is empty or longer than 255 bytes")
@@ -31,11 +28,8 @@ answer_words answer =
     )
     else if answer == 26 then (codes "HLC_TOO_MANY_NODES", codes "1,024 node numbers are assigned")
     else if answer == 27 then (codes "HLC_RETIRED", codes "the node retired")
-    else if answer == 100 then (codes "HLC_CLOSED", codes "the store is closed, or no restore or saving is under way")
-    else if answer == 101 then (
-      codes "HLC_IS_OPEN",
-      codes "the store is open already, or a restore or saving is under way",
-    )
+    else if answer == 100 then (codes "HLC_CLOSED", codes "the store is closed")
+    else if answer == 101 then (codes "HLC_IS_OPEN", codes "the store is open already")
     else if answer == 102 then (codes "HLC_NO_VALUE", codes "the key has no value in the snapshot")
     else if answer == 103 then (codes "HLC_OUTSIDE", codes "the bytes of an entry or a key are not there")
     else if answer == 104 then (codes "HLC_MORE", codes "the next part does not fit")
@@ -48,6 +42,12 @@ answer_words answer =
     else if answer == 111 then (codes "HLC_NOT_LATER", codes "the increment is not of a later state of the store")
     else if answer == 112 then (codes "HLC_CHANGED", codes "the store changed since the saving began")
     else if answer == 113 then (codes "HLC_NOT_PARTS", codes "the checkpoints are no two parts of one store")
+    else if answer == 114 then (codes "HLC_BAD_NODE_COUNT", codes "the number of nodes is not 1 to 64")
+    else if answer == 115 then (codes "HLC_ALL_RETIRED", codes "all nodes have retired")
+    else if answer == 116 then (codes "HLC_BELOW_FLOOR", codes "the start is below the floor")
+    else if answer == 117 then (codes "HLC_AFTER_LAST", codes "no open snapshot is at this place")
+    else if answer == 118 then (codes "HLC_NOT_UNDER_WAY", codes "no restore or saving is under way")
+    else if answer == 119 then (codes "HLC_IS_UNDER_WAY", codes "a restore or saving is under way already")
     else ([], [])
 
 abbrev pub answer_name : ℕ → List ℕ

@@ -22,10 +22,7 @@ fn words(answer: u32) -> (&'static str, &'static str)
             "the stamp is not above that of the last accepted item of the node",
         ),
         8 => ("HLC_ABOVE_FLOOR", "the stamp is above the floor"),
-        9 => (
-            "HLC_BELOW_HORIZON",
-            "the stamp is below the horizon, or the start below the floor",
-        ),
+        9 => ("HLC_BELOW_HORIZON", "the stamp is below the horizon"),
         10 => ("HLC_NO_SNAPSHOT", "no open snapshot has this id"),
         11 => ("HLC_TOO_MANY_SNAPSHOTS", "1,024 snapshots are open"),
         12 => ("HLC_BAD_KEY", "the key is empty or longer than 255 bytes"),
@@ -42,14 +39,8 @@ fn words(answer: u32) -> (&'static str, &'static str)
         ),
         26 => ("HLC_TOO_MANY_NODES", "1,024 node numbers are assigned"),
         27 => ("HLC_RETIRED", "the node retired"),
-        100 => (
-            "HLC_CLOSED",
-            "the store is closed, or no restore or saving is under way",
-        ),
-        101 => (
-            "HLC_IS_OPEN",
-            "the store is open already, or a restore or saving is under way",
-        ),
+        100 => ("HLC_CLOSED", "the store is closed"),
+        101 => ("HLC_IS_OPEN", "the store is open already"),
         102 => ("HLC_NO_VALUE", "the key has no value in the snapshot"),
         103 => (
             "HLC_OUTSIDE",
@@ -79,6 +70,15 @@ fn words(answer: u32) -> (&'static str, &'static str)
         113 => (
             "HLC_NOT_PARTS",
             "the checkpoints are no two parts of one store",
+        ),
+        114 => ("HLC_BAD_NODE_COUNT", "the number of nodes is not 1 to 64"),
+        115 => ("HLC_ALL_RETIRED", "all nodes have retired"),
+        116 => ("HLC_BELOW_FLOOR", "the start is below the floor"),
+        117 => ("HLC_AFTER_LAST", "no open snapshot is at this place"),
+        118 => ("HLC_NOT_UNDER_WAY", "no restore or saving is under way"),
+        119 => (
+            "HLC_IS_UNDER_WAY",
+            "a restore or saving is under way already",
         ),
         _ => ("", ""),
     }

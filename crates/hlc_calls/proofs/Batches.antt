@@ -8,11 +8,9 @@ use Rattle.hlc_node.specs.declared.item.Item.{Item}
 use Rattle.hlc_events.specs.declared.fault.CoreFault.{CoreFault}
 use Rattle.hlc_events.specs.declared.fault.CoreFault.TheVariants.{NoNode, Link, Body, Join, AboveFloor, BelowHorizon}
 use Rattle.hlc_events.specs.declared.fault.CoreFault.TheVariants.{Snapshot, NoSnapshot, NoMemory}
-use Rattle.hlc_events.specs.Faults.{core_code}
 use Rattle.hlc_intake.specs.Faults.{link_code}
 use Rattle.hlc_intake.specs.declared.intake.LinkFault.{LinkFault}
 use Rattle.hlc_intake.specs.declared.intake.LinkFault.TheVariants.{Retired, NotNext, NumbersSpent, StampNotRising}
-use Rattle.hlc_heads.specs.Faults.{join_code}
 use Rattle.hlc_heads.specs.declared.heads.JoinFault.{JoinFault}
 use Rattle.hlc_heads.specs.declared.heads.JoinFault.TheVariants.{TooManyNodes, BelowFloor, NoMemory as NoRoom}
 use Rattle.hlc_snapshot.specs.Faults.{snapshot_code}
@@ -23,7 +21,7 @@ use Rattle.hlc_node.specs.declared.item.BodyFault.{BodyFault}
 use Rattle.hlc_core.specs.Past.{Step, Took}
 use Rattle.hlc_core.specs.StoreView.{StoreView, Represents}
 use Rattle.hlc_calls.specs.declared.batch.Entry.{Entry}
-use Rattle.hlc_calls.specs.Outcome.{IsAnswered}
+use Rattle.hlc_calls.specs.Outcome.{IsAnswered, answer_code}
 use Rattle.hlc_calls.specs.Batch.{item_of, is_within, took, entered, IsEntered}
 
 link_above : (fault : LinkFault) → 0 < link_code fault
@@ -36,7 +34,7 @@ body_above : (fault : BodyFault) → 0 < body_code fault
 body_above BadKey = lit< tt
 body_above ValueTooLong = lit< tt
 
-join_above : (fault : JoinFault) → 0 < join_code fault
+join_above : (fault : JoinFault) → 0 < answer_code (Join fault)
 join_above TooManyNodes = lit< tt
 join_above (BelowFloor floor) = lit< tt
 join_above NoRoom = lit< tt
@@ -46,7 +44,7 @@ snapshot_above snapshot_fault.TooManySnapshots = lit< tt
 snapshot_above snapshot_fault.NumbersSpent = lit< tt
 snapshot_above snapshot_fault.NoMemory = lit< tt
 
-code_above : (fault : CoreFault) → 0 < core_code fault
+code_above : (fault : CoreFault) → 0 < answer_code fault
 code_above NoNode = lit< tt
 code_above (Link fault) = link_above fault
 code_above (Body fault) = body_above fault
@@ -63,7 +61,7 @@ not_above n above is = omega arith
 -- at 0 the call was made
 made_of : (expected : Option CoreFault) (MayGrow Made : Type 0) (returned : ℕ)
     → IsAnswered expected MayGrow Made 0 returned → Made
-made_of (Some fault) MayGrow Made returned (is, word) = absurd (not_above (core_code fault) (code_above fault) is)
+made_of (Some fault) MayGrow Made returned (is, word) = absurd (not_above (answer_code fault) (code_above fault) is)
 made_of None MayGrow Made returned (inl (is, made)) = made
 made_of None MayGrow Made returned (inr (is, nothing, may)) = absurd (not_above 15 (lit< tt) is)
 

@@ -41,7 +41,7 @@ first-holds nodes past links at n are is h =
     )
 
 pub none-holds : (nodes : ℕ) (past : List Step) (links : List IntakeView) (at : ℕ) → AreLinks nodes past links
-    → at ≡ floor nodes past → IsFirstHolder links at None → ReturnsHolder nodes past 1 0
+    → at ≡ floor nodes past → IsFirstHolder links at None → ReturnsHolder nodes past 115 0
 none-holds nodes past links at are is h =
     inr (refl, refl, λ other also. h other (is-holder nodes past links at other are is also))
 

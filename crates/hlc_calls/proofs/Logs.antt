@@ -10,11 +10,12 @@ use Rattle.hlc_wire.specs.Reading.{item_at}
 use Rattle.hlc_wire.proofs.FieldLemmas.{IsBytes}
 use Rattle.hlc_wire.proofs.ItemLemmas.{item_reader}
 use Rattle.hlc_events.specs.declared.fault.CoreFault.{CoreFault}
-use Rattle.hlc_events.specs.Faults.{core_code, core_word}
+use Rattle.hlc_events.specs.Faults.{core_word}
 use Rattle.hlc_core.specs.Calls.{IsRefusal, IsWrite}
 use Rattle.hlc_core.specs.Past.{Step, Took, item_refusal}
 use Rattle.hlc_core.specs.StoreView.{StoreView, Represents}
 use Rattle.hlc_calls.specs.Log.{came_before, log_bytes, with_item, with_items, IsStopped, IsLogEnd, AreTaken}
+use Rattle.hlc_calls.specs.Outcome.{answer_code}
 use Rattle.hlc_calls.proofs.Refusals.{refused_returns}
 
 pub front_is : (bytes : List ℕ) (item : Item) (rest : List ℕ) → IsBytes bytes → item_at bytes ≡ Ok (item, rest)
@@ -43,7 +44,7 @@ taken core nodes past item new h =
 pub refused_here : (nodes : ℕ) (bytes rest : List ℕ) (past : List Step) (item : Item) (fault : CoreFault)
     → item_at bytes ≡ Ok (item, rest) → came_before nodes past item ≡ false
     → IsRefusal (item_refusal nodes past item) (IsWrite item.body) fault
-    → IsStopped nodes bytes past (core_code fault) (core_word fault)
+    → IsStopped nodes bytes past (answer_code fault) (core_word fault)
 refused_here nodes bytes rest past item fault read new is =
     inr (item, rest, read, new, refused_returns (item_refusal nodes past item) (IsWrite item.body) ⊥ fault is)
 

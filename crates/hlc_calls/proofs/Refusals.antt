@@ -11,18 +11,18 @@ use Rattle.hlc_node.specs.declared.item.Body.{Body}
 use Rattle.hlc_node.specs.Items.{an_item, body_refusal}
 use Rattle.hlc_core.specs.Past.{Step, numbered, retired, count, head, item_refusal, of_body}
 use Rattle.hlc_core.specs.Calls.{IsRefusal}
-use Rattle.hlc_events.specs.Faults.{core_code, core_word}
-use Rattle.hlc_calls.specs.Outcome.{IsAnswered}
+use Rattle.hlc_events.specs.Faults.{core_word}
+use Rattle.hlc_calls.specs.Outcome.{IsAnswered, answer_code}
 
 pub refused_returns : (expected : Option CoreFault) (MayGrow Made : Type 0) (fault : CoreFault)
     → IsRefusal expected MayGrow fault
-    → IsAnswered expected MayGrow Made (core_code fault) (core_word fault)
+    → IsAnswered expected MayGrow Made (answer_code fault) (core_word fault)
 refused_returns expected MayGrow Made fault (inl is) =
-    subst (λ (d : Option CoreFault). IsAnswered d MayGrow Made (core_code fault) (core_word fault)) (sym is)
+    subst (λ (d : Option CoreFault). IsAnswered d MayGrow Made (answer_code fault) (core_word fault)) (sym is)
     (refl, refl)
 refused_returns expected MayGrow Made fault (inr (none, is, may)) =
-    subst (λ (d : Option CoreFault). IsAnswered d MayGrow Made (core_code fault) (core_word fault)) (sym none)
-    (subst (λ (f : CoreFault). IsAnswered None MayGrow Made (core_code f) (core_word f)) (sym is)
+    subst (λ (d : Option CoreFault). IsAnswered d MayGrow Made (answer_code fault) (core_word fault)) (sym none)
+    (subst (λ (f : CoreFault). IsAnswered None MayGrow Made (answer_code f) (core_word f)) (sym is)
     (inr (refl, refl, may)))
 
 pub made_returns : (expected : Option CoreFault) (MayGrow Made : Type 0) (returned : ℕ) → expected ≡ None → Made
@@ -36,7 +36,7 @@ lack_returns expected MayGrow Made none may =
     subst (λ (d : Option CoreFault). IsAnswered d MayGrow Made 15 0) (sym none) (inr (refl, refl, may))
 
 pub expected_returns : (expected : Option CoreFault) (MayGrow Made : Type 0) (fault : CoreFault) → expected ≡ Some fault
-    → IsAnswered expected MayGrow Made (core_code fault) (core_word fault)
+    → IsAnswered expected MayGrow Made (answer_code fault) (core_word fault)
 expected_returns expected MayGrow Made fault is = refused_returns expected MayGrow Made fault (inl is)
 
 -- items of the same node, number and stamp are refused in the same way if their bodies are
@@ -56,7 +56,7 @@ pub alike_returns : (nodes : ℕ) (past : List Step) (item : Item) (body : Body)
     (fault : CoreFault)
     → body_refusal body ≡ body_refusal item.body → item_refusal nodes past item ≡ Some fault
     → IsAnswered (item_refusal nodes past (an_item item.node item.number item.stamp body)) MayGrow Made
-    (core_code fault) (core_word fault)
+    (answer_code fault) (core_word fault)
 alike_returns nodes past item body MayGrow Made fault same is =
     expected_returns _ MayGrow Made fault (refused_alike nodes past item body same ∙ is)
 

@@ -1,7 +1,7 @@
 -- The records of a log as bytes, and how far a store applied them.
 use Rattle.std.specs.Prelude.{◌≡◌, ℕ, List, length, Option, Some, None}
 use Rattle.hlc_wire.specs.Faults.{fault_code}
-use Rattle.hlc_events.specs.Faults.{core_code, core_word}
+use Rattle.hlc_events.specs.Faults.{core_word}
 use Rattle.hlc_core.specs.Past.{Step}
 use Rattle.hlc_core.specs.StoreView.{StoreView}
 use Rattle.hlc_log.specs.declared.record.Record.{Record}
@@ -11,12 +11,13 @@ use Rattle.hlc_log.specs.declared.apply.Applied.{Applied}
 use Rattle.hlc_log.specs.Record.{record_bytes}
 use Rattle.hlc_log.specs.Log.{AreApplied}
 use Rattle.hlc_calls.specs.Answers.{IsCopied}
+use Rattle.hlc_calls.specs.Outcome.{answer_code}
 
 -- the answer at the end of a log, and its word
 abbrev pub end_code : Option RecordFault → ℕ
 end_code None = 0
 end_code (Some (Bytes fault)) = 106
-end_code (Some (Refused fault)) = core_code fault
+end_code (Some (Refused fault)) = answer_code fault
 
 abbrev pub end_word : Option RecordFault → ℕ
 end_word None = 0

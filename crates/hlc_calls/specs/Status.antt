@@ -28,13 +28,13 @@ abbrev pub HoldsFloor : ℕ → List Step → ℕ → Type 0
 HoldsFloor nodes past node =
     (node < numbered nodes past) × (retired node past ≡ false) × (head node past ≡ floor nodes past)
 
--- the first node that holds the floor back is returned; or 1, where none does
+-- the first node that holds the floor back is returned; or 115, where none does: then all have retired
 abbrev pub ReturnsHolder : ℕ → List Step → ℕ → ℕ → Type 0
 ReturnsHolder nodes past code node =
     ((code ≡ 0) × HoldsFloor nodes past node × ((other : ℕ) → other < node → HoldsFloor nodes past other → ⊥))
-    ⊎ ((code ≡ 1) × (node ≡ 0) × ((other : ℕ) → HoldsFloor nodes past other → ⊥))
+    ⊎ ((code ≡ 115) × (node ≡ 0) × ((other : ℕ) → HoldsFloor nodes past other → ⊥))
 
--- an open snapshot's id and stamp are returned; or 10
+-- an open snapshot's id and stamp are returned; or 117, where none is at the place
 abbrev pub ReturnsSnapshot : Option Snapshot → ℕ → ℕ → ℕ → Type 0
-ReturnsSnapshot None code id stamp = (code ≡ 10) × (id ≡ 0) × (stamp ≡ 0)
+ReturnsSnapshot None code id stamp = (code ≡ 117) × (id ≡ 0) × (stamp ≡ 0)
 ReturnsSnapshot (Some snapshot) code id stamp = (code ≡ 0) × (id ≡ snapshot.id) × (stamp ≡ snapshot.stamp)

@@ -7,7 +7,7 @@ ghost use Rattle.hlc_calls.specs.Answers.{ReturnsClosed, IsCopied, ReturnsRead, 
 ghost use Rattle.hlc_calls.specs.Answers.{ReturnsVacuumedTo, ReturnsVacuumChecked, ReturnsSizes, AreNumbers};
 ghost use Rattle.hlc_calls.specs.Answers.{narrowed, ReturnsVacuumedPart, ReturnsEnd};
 
-use crate::codes::{answer, refuse};
+use crate::codes::{answer, number, refuse};
 use hlc_core::{Bytes, Core, Numbers, Stamp};
 
 /// Lets a node join. Returns 0, its number and the stamp of its start, or a refusal.
@@ -28,7 +28,7 @@ pub fn join(core: &mut Core, node: &mut u16, start: &mut u64) -> u32
         Err(fault) => {
             *node = 0;
             *start = 0;
-            fault.code()
+            number(&fault)
         }
     }
 }

@@ -51,7 +51,7 @@ fn holder(links: &[Intake], floor: Stamp) -> Option<usize>
     None
 }
 
-/// Returns 0 and the first node whose head is the floor and which has not retired; or 1, if all nodes have.
+/// Returns 0 and the first node whose head is the floor and which has not retired; or 115, if all nodes have.
 pub fn floor_node(core: &Core, node: &mut u64) -> u32
     ensures { (past : List Step) → Represents core.now past → ReturnsHolder
         (nodes core.now) past result node.new }
@@ -62,11 +62,11 @@ pub fn floor_node(core: &Core, node: &mut u64) -> u32
             *node = place as u64;
             0
         }
-        None => 1,
+        None => 115,
     }
 }
 
-/// Returns 0, the id and the stamp of the open snapshot at a place, by rising ids; or 10.
+/// Returns 0, the id and the stamp of the open snapshot at a place, by rising ids; or 117.
 pub fn snapshot(core: &Core, place: u64, id: &mut u64, stamp: &mut u64) -> u32
     ensures { (past : List Step) → Represents core.now past
         → ReturnsSnapshot (slice_get (open_snapshots past) place) result id.new stamp.new }
@@ -79,6 +79,6 @@ pub fn snapshot(core: &Core, place: u64, id: &mut u64, stamp: &mut u64) -> u32
             *stamp = snapshot.stamp.bits();
             0
         }
-        None => 10,
+        None => 117,
     }
 }

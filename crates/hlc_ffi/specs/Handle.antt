@@ -5,7 +5,6 @@ use Rattle.hlc_core.specs.Past.{Step}
 use Rattle.hlc_node.specs.declared.item.Item.{Item}
 use Rattle.hlc_handle.specs.contracts.reader.LentRoom.{the_row}
 use Rattle.hlc_calls.specs.Answers.{ReturnsAccepted, ReturnsChecked}
-use Rattle.hlc_calls.specs.Saved.{IsMade, IsNotMade}
 
 -- the answer is about an open store, which stays open; a closed one stays closed, and its answer is this
 abbrev pub OnStore : Option StoreView → Option StoreView → Type 0 → (StoreView → StoreView → Type 0) → Type 0
@@ -53,16 +52,3 @@ ListsNothing code len many old new = (code ≡ 100) × (len ≡ 0) × (many ≡ 
 abbrev pub nodes_in_handle : Option StoreView → ℕ
 nodes_in_handle None = 0
 nodes_in_handle (Some kept) = nodes kept
-
--- A closed store was opened from bytes, with exactly the state that they contain, and their word is returned; or it
--- stays closed, for the first reason or because it ran out of memory. An open one is unchanged.
-abbrev pub IsRestoring : Option StoreView → Option StoreView → List ℕ → ℕ → ℕ → Type 0
-IsRestoring (Some before) new bytes code word = (code ≡ 101) × (word ≡ 0) × (new ≡ Some before)
-IsRestoring None new bytes code word = MatchOption new (IsNotMade bytes code word)
-    (λ core. (code ≡ 0) × IsMade bytes word core)
-
--- of bytes that represent a past: a closed store represents it then, or stays closed where memory ran out
-abbrev pub RestoresPast : Option StoreView → Option StoreView → ℕ → List Step → ℕ → ℕ → Type 0
-RestoresPast (Some before) new saved past code word = code ≡ 101
-RestoresPast None new saved past code word = MatchOption new (code ≡ 15)
-    (λ core. (word ≡ saved) × Represents core past)

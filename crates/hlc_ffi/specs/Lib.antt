@@ -1,3 +1,2 @@
 pub mod Handle
 pub mod Outputs
-pub mod Pieces

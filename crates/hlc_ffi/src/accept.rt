@@ -172,7 +172,7 @@ pub extern "C" fn hlc_store_join(
     on_core!(alloc, store, |core| open_store::join(core, node, start))
 }
 
-/// Lets a node join at a start. Returns 0, its number and the start; or 26, or 9 and the floor, or 15.
+/// Lets a node join at a start. Returns 0, its number and the start; or 26, or 116 and the floor, or 15.
 #[unsafe(no_mangle)]
 pub extern "C" fn hlc_store_join_at(
     alloc: Global,

@@ -22,7 +22,7 @@ pub use hlc_handle::{Output, Reader, Restoring, Saving, Store};
 use hlc_handle_calls::opening::open;
 use std::alloc::Global;
 
-/// Opens a closed store of 1 to 64 nodes. Returns 0, 1, 15, or 101 for an open store, which stays unchanged.
+/// Opens a closed store of 1 to 64 nodes. Returns 0, 114, 15, or 101 for an open store, which stays unchanged.
 #[unsafe(no_mangle)]
 pub extern "C" fn hlc_store_open(alloc: Global, store: &mut Store, count: u16) -> u32
     ensures { IsOpening store.old.value store.new.value count result }

@@ -2,16 +2,14 @@
 ghost use Rattle.std.specs.Prelude.{◌≡◌, ℕ, List, None};
 ghost use Rattle.hlc_core.specs.Past.{Step};
 ghost use Rattle.hlc_saved.specs.Saved.{BytesRepresent};
-ghost use Rattle.hlc_ffi.specs.Handle.{RestoresPast};
-ghost use Rattle.hlc_ffi.specs.Pieces.{HasReadAll, HasFinished};
-ghost use Rattle.hlc_handle_calls.specs.Restorings.{HasStarted, HasFed};
+ghost use Rattle.hlc_handle_calls.specs.Opening.{RestoresPast};
+ghost use Rattle.hlc_handle_calls.specs.Restorings.{HasStarted, HasFed, HasReadAll, HasFinished};
 
-use hlc_calls::saved::answered;
-use hlc_handle::{Restoring, Slot, Store, opened};
-use hlc_handle_calls::restorings::{feed, start};
+use hlc_handle::{Restoring, Slot, Store};
+use hlc_handle_calls::restorings::{feed, finish, start};
 use std::alloc::Global;
 
-/// Starts a restore. Returns 0; or 101 where one is under way, which goes on; or 15.
+/// Starts a restore. Returns 0; or 119 where one is under way, which goes on; or 15.
 #[unsafe(no_mangle)]
 pub extern "C" fn hlc_restoring_start(alloc: Global, restoring: &mut Restoring) -> u32
     ensures { HasStarted restoring.old.value restoring.new.value result }
@@ -19,7 +17,7 @@ pub extern "C" fn hlc_restoring_start(alloc: Global, restoring: &mut Restoring) 
     start(alloc, restoring)
 }
 
-/// Adds the next bytes of a checkpoint. Returns 0; or 100 where no restore is under way; or 15, and nothing was added.
+/// Adds the next bytes of a checkpoint. Returns 0; or 118 where no restore is under way; or 15, and nothing was added.
 #[unsafe(no_mangle)]
 pub extern "C" fn hlc_restoring_feed(alloc: Global, restoring: &mut Restoring, bytes: &[u8]) -> u32
     ensures { HasFed restoring.old.value restoring.new.value bytes.now result }
@@ -27,7 +25,7 @@ pub extern "C" fn hlc_restoring_feed(alloc: Global, restoring: &mut Restoring, b
     feed(alloc, restoring, bytes)
 }
 
-/// Ends a restore as `hlc_store_restore` of all its bytes; or returns 100 for none under way; or 101, and it goes on.
+/// Ends a restore as `hlc_store_restore` of all its bytes; or returns 118 for none under way; or 101, and it goes on.
 #[unsafe(no_mangle)]
 pub extern "C" fn hlc_restoring_finish(
     alloc: Global,
@@ -40,17 +38,7 @@ pub extern "C" fn hlc_restoring_finish(
     ensures represents { (fed : List ℕ) (saved : ℕ) (past : List Step) → HasReadAll restoring.old.value fed
         → BytesRepresent fed saved past → RestoresPast store.old.value store.new.value saved past result word.new }
 {
-    *word = 0;
-    let Some(reader) = restoring.take(alloc) else {
-        return 100;
-    };
-    if let Some(handle) = store.take(alloc) {
-        store.put(handle);
-        restoring.put(reader);
-        return 101;
-    }
-    let made = answered(Box::into_inner(reader).finish(), word);
-    opened(alloc, store, made, word)
+    finish(alloc, restoring, store, word)
 }
 
 /// Ends a restore, and frees what it has read.

@@ -3,7 +3,8 @@ ghost use Rattle.std.specs.Prelude.{◌≡◌, ◌≢◌, ⊤, List, ℕ, None, 
 ghost use Rattle.hlc_core.specs.Past.{Step};
 ghost use Rattle.hlc_core.specs.StoreView.{Represents};
 ghost use Rattle.hlc_saved.specs.Saved.{AreOfStore, BytesRepresent};
-ghost use Rattle.hlc_ffi.specs.Handle.{IsRestoring, RestoresPast, OnReader, IsGivenBack};
+ghost use Rattle.hlc_handle_calls.specs.Opening.{IsRestoring, RestoresPast};
+ghost use Rattle.hlc_ffi.specs.Handle.{OnReader, IsGivenBack};
 ghost use Rattle.hlc_ffi.specs.Outputs.{OnOutput};
 ghost use Rattle.hlc_increment_calls.specs.Increments.{AreAdvanced, AreIncrementOf, IsNotAdvanced, IsRefusedIncrement};
 ghost use Rattle.hlc_split_calls.specs.Halves.{AreHalves, AreJoined, IsNotDivided, IsNotJoined};
@@ -12,7 +13,8 @@ ghost use Rattle.hlc_split_calls.specs.Outputs.{OnOutputs};
 use crate::handle::{into_output, of_core};
 use hlc_calls::saved;
 use hlc_core::Stamp;
-use hlc_handle::{Output, Reader, Slot, Store, opened};
+use hlc_handle::{Output, Reader, Slot, Store};
+use hlc_handle_calls::opening::restore;
 use hlc_increment_calls::apply::apply;
 use hlc_increment_calls::increment::increment;
 use hlc_split_calls::merge::joined;
@@ -145,11 +147,5 @@ pub extern "C" fn hlc_store_restore(
     ensures represents { (saved : ℕ) (past : List Step) → BytesRepresent bytes.now saved past
         → RestoresPast store.old.value store.new.value saved past result word.new }
 {
-    *word = 0;
-    if let Some(handle) = store.take(alloc) {
-        store.put(handle);
-        return 101;
-    }
-    let made = saved::restore(alloc, bytes, word);
-    opened(alloc, store, made, word)
+    restore(alloc, store, bytes, word)
 }

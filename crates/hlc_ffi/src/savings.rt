@@ -8,7 +8,7 @@ use hlc_handle::{Reader, Saving, Slot};
 use hlc_handle_calls::savings::{begin, read_on};
 use std::alloc::Global;
 
-/// Begins to save a store and a word of the caller's. Returns 0 and how many bytes it will be; or 101 where a saving is
+/// Begins to save a store and a word of the caller's. Returns 0 and how many bytes it will be; or 119 where a saving is
 /// under way, which goes on; or 15.
 #[unsafe(no_mangle)]
 pub extern "C" fn hlc_saving_start(
@@ -26,7 +26,7 @@ pub extern "C" fn hlc_saving_start(
 }
 
 /// Reads the next bytes of a saving, as many as fit. Returns 0 where they are the last, and the saving has ended; or
-/// 104 where bytes are left; or 100 where none is under way; or 112 for a store that changed, or 15.
+/// 104 where bytes are left; or 118 where none is under way; or 112 for a store that changed, or 15.
 #[unsafe(no_mangle)]
 pub extern "C" fn hlc_saving_read(
     alloc: Global,

@@ -54,7 +54,7 @@ pub extern "C" fn hlc_store_link(
     of_core!(store, |core| status::link(core, node, next, head, retired))
 }
 
-/// Returns 0 and the first node that holds the floor back: its head is the floor. Or 1, where all nodes have retired.
+/// Returns 0 and the first node that holds the floor back: its head is the floor. Or 115: all nodes have retired.
 #[unsafe(no_mangle)]
 pub extern "C" fn hlc_store_floor_node(store: &mut Reader, node: &mut u64) -> u32
     ensures answer { OnReaderPast store.old.room.value ((result ≡ 100) × (node.new ≡ 0))
@@ -64,7 +64,7 @@ pub extern "C" fn hlc_store_floor_node(store: &mut Reader, node: &mut u64) -> u3
     of_core!(store, [node], |core| status::floor_node(core, node))
 }
 
-/// Returns 0, the id and the stamp of the open snapshot at a place, by rising ids; or 10 after the last.
+/// Returns 0, the id and the stamp of the open snapshot at a place, by rising ids; or 117 after the last.
 #[unsafe(no_mangle)]
 pub extern "C" fn hlc_snapshot_at_place(
     store: &mut Reader,

@@ -34,15 +34,9 @@ pub extern "C" fn hlc_store_vacuum(
     ensures same { result ≢ 0 → store.new.value ≡ store.old.value }
     ensures nodes { nodes_in_handle store.new.value ≡ nodes_in_handle store.old.value }
 {
-    *floor = 0;
-    *kept = 0;
-    *bytes = 0;
-    *dropped = 0;
-    on_core!(
-        alloc,
-        store,
-        |core| open_store::vacuum(core, floor, kept, bytes, dropped)
-    )
+    on_core!(alloc, store, [floor, kept, bytes, dropped], |core| {
+        open_store::vacuum(core, floor, kept, bytes, dropped)
+    })
 }
 
 /// Returns why `hlc_store_vacuum_to` would refuse: 0, or 8 and the floor, or 9 and the horizon (GC threshold). No
@@ -53,9 +47,12 @@ pub extern "C" fn hlc_store_check_vacuum(store: &mut Reader, at: u64, word: &mut
         → Represents core past → ReturnsVacuumChecked core at past result word.new) }
     ensures same { IsGivenBack store.old.room store.new.room }
 {
-    *word = 0;
     let at = Stamp::from_bits(at);
-    of_core!(store, |core| open_store::check_vacuum(core, at, word))
+    of_core!(
+        store,
+        [word],
+        |core| open_store::check_vacuum(core, at, word)
+    )
 }
 
 /// Drops the rows at or below a stamp that no reader needs. Returns 0, the stamp, how many rows up to it were kept,
@@ -77,16 +74,10 @@ pub extern "C" fn hlc_store_vacuum_to(
     ensures same { result ≢ 0 → store.new.value ≡ store.old.value }
     ensures nodes { nodes_in_handle store.new.value ≡ nodes_in_handle store.old.value }
 {
-    *word = 0;
-    *kept = 0;
-    *bytes = 0;
-    *dropped = 0;
     let at = Stamp::from_bits(at);
-    on_core!(
-        alloc,
-        store,
-        |core| open_store::vacuum_to(core, at, word, kept, bytes, dropped)
-    )
+    on_core!(alloc, store, [word, kept, bytes, dropped], |core| {
+        open_store::vacuum_to(core, at, word, kept, bytes, dropped)
+    })
 }
 
 /// Makes a part of `hlc_store_vacuum_to`, of the first keys above one, at most so many. Returns what that returns, of
@@ -115,20 +106,13 @@ pub extern "C" fn hlc_store_vacuum_part(
     ensures same { result ≢ 0 → store.new.value ≡ store.old.value }
     ensures nodes { nodes_in_handle store.new.value ≡ nodes_in_handle store.old.value }
 {
-    *word = 0;
-    *kept = 0;
-    *bytes = 0;
-    *dropped = 0;
-    *len = 0;
     *more = false;
     let at = Stamp::from_bits(at);
-    on_core!(
-        alloc,
-        store,
-        |core| open_store::vacuum_part(
+    on_core!(alloc, store, [word, kept, bytes, dropped, len], |core| {
+        open_store::vacuum_part(
             core, at, after, most, word, kept, bytes, dropped, out, len, more
         )
-    )
+    })
 }
 
 /// Puts the certificate of the rows at or below a stamp into an output: it changes nothing, and is what a vacuum to the
@@ -154,13 +138,10 @@ pub extern "C" fn hlc_certificate_make(
         × (output.new.value ≡ output.old.value) }
     ensures same { IsGivenBack store.old.room store.new.room }
 {
-    *word = 0;
-    *kept = 0;
-    *bytes = 0;
-    *len = 0;
     let at = Stamp::from_bits(stamp);
     of_core!(
         store,
+        [word, kept, bytes, len],
         |core| into_output!(
             alloc,
             output,

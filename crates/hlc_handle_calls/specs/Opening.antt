@@ -1,13 +1,27 @@
--- A store before and after it is opened with its nodes.
-use Rattle.std.specs.Prelude.{◌≡◌, ℕ, [], Option, Some, None, MatchOption, ⊤}
+-- A store before and after it is opened, with its nodes or from bytes.
+use Rattle.std.specs.Prelude.{◌≡◌, ℕ, List, [], Option, Some, None, MatchOption}
+use Rattle.hlc_core.specs.Past.{Step}
 use Rattle.hlc_core.specs.StoreView.{StoreView, Represents, nodes}
 use Rattle.hlc_core.specs.Calls.{new_refusal}
-use Rattle.hlc_calls.specs.Outcome.{IsAnswered}
+use Rattle.hlc_calls.specs.Saved.{IsMade, IsNotMade}
 
--- A closed store was opened, and nothing took place in it; or it stays closed, for the expected reason or because it
--- ran out of memory. An open one is unchanged.
+-- A closed store was opened, and nothing took place in it; or it stays closed, because of the number of its nodes, or
+-- because it ran out of memory. An open one is unchanged.
 abbrev pub IsOpening : Option StoreView → Option StoreView → ℕ → ℕ → Type 0
 IsOpening (Some before) new count code = (code ≡ 101) × (new ≡ Some before)
 IsOpening None new count code =
-    MatchOption new (IsAnswered (new_refusal count) ⊤ ⊥ code 0) (λ core. (code ≡ 0) × (nodes core ≡ count)
-    × (new_refusal count ≡ None) × Represents core [])
+    MatchOption new (MatchOption (new_refusal count) (code ≡ 15) (λ fault. code ≡ 114)) (λ core. (code ≡ 0)
+    × (nodes core ≡ count) × (new_refusal count ≡ None) × Represents core [])
+
+-- A closed store was opened from bytes, with exactly the state that they contain, and their word is returned; or it
+-- stays closed, for the first reason or because it ran out of memory. An open one is unchanged.
+abbrev pub IsRestoring : Option StoreView → Option StoreView → List ℕ → ℕ → ℕ → Type 0
+IsRestoring (Some before) new bytes code word = (code ≡ 101) × (word ≡ 0) × (new ≡ Some before)
+IsRestoring None new bytes code word = MatchOption new (IsNotMade bytes code word)
+    (λ core. (code ≡ 0) × IsMade bytes word core)
+
+-- of bytes that represent a past: a closed store represents it then, or stays closed where memory ran out
+abbrev pub RestoresPast : Option StoreView → Option StoreView → ℕ → List Step → ℕ → ℕ → Type 0
+RestoresPast (Some before) new saved past code word = code ≡ 101
+RestoresPast None new saved past code word = MatchOption new (code ≡ 15)
+    (λ core. (word ≡ saved) × Represents core past)

@@ -10,7 +10,7 @@ use Rattle.hlc_saved.specs.Saver.{HasMade, mark_of}
 -- it has begun, nothing was read, and it will be so many bytes; or it did not start, out of memory; one that was under
 -- way goes on
 abbrev pub HasBegun : Option Saver → Option Saver → ℕ → StoreView → ℕ → ℕ → Type 0
-HasBegun (Some before) new word core code len = (code ≡ 101) × (len ≡ 0) × (new ≡ Some before)
+HasBegun (Some before) new word core code len = (code ≡ 119) × (len ≡ 0) × (new ≡ Some before)
 HasBegun None new word core code len = MatchOption new ((code ≡ 15) × (len ≡ 0))
     (λ saver. (code ≡ 0) × (len ≡ length (saved_bytes word core)) × HasMade saver word core [])
 
@@ -37,6 +37,6 @@ ReadsNone before after core code len old out =
 
 -- what a call reads of a saving that is under way, if one is
 abbrev pub HasReadOn : Option Saver → Option Saver → StoreView → ℕ → ℕ → List ℕ → List ℕ → Type 0
-HasReadOn None new core code len old out = (code ≡ 100) × (len ≡ 0) × (new ≡ None) × (out ≡ old)
+HasReadOn None new core code len old out = (code ≡ 118) × (len ≡ 0) × (new ≡ None) × (out ≡ old)
 HasReadOn (Some before) new core code len old out = MatchOption new (ReadsLast before core code len old out)
     (λ after. ReadsNext before after core code len old out ⊎ ReadsNone before after core code len old out)

@@ -8,14 +8,14 @@ use hlc_saved::Saver;
 use std::alloc::Global;
 
 /// Begins to save a store and a word of the caller's, where no saving is under way, and puts into `len` how many bytes
-/// it will be. Returns 0; or 101 where one is under way, which goes on; or 15.
+/// it will be. Returns 0; or 119 where one is under way, which goes on; or 15.
 pub fn begin(alloc: Global, saving: &mut Saving, core: &Core, word: u64, len: &mut u64) -> u32
     requires { len.old ≡ 0 }
     ensures { HasBegun saving.old.value saving.new.value word core.now result len.new }
 {
     if let Some(saver) = saving.take(alloc) {
         saving.put(saver);
-        return 101;
+        return 119;
     }
     let Ok((saver, many)) = Saver::start(alloc, core, word) else {
         return 15;
@@ -29,7 +29,7 @@ pub fn begin(alloc: Global, saving: &mut Saving, core: &Core, word: u64, len: &m
 }
 
 /// Reads the next bytes of a saving, as many as fit, and puts into `len` how many these are. Returns 0 with the last
-/// ones, and the saving has ended; or 104 where bytes are left; or 100 where no saving is under way. A store that
+/// ones, and the saving has ended; or 104 where bytes are left; or 118 where no saving is under way. A store that
 /// changed is refused with 112, and 15 comes where memory ran out before a byte was read: then the saving is as it was.
 pub fn read_on(
     alloc: Global,
@@ -42,7 +42,7 @@ pub fn read_on(
     ensures { HasReadOn saving.old.value saving.new.value core.now result len.new out.old out.new }
 {
     let Some(taken) = saving.take(alloc) else {
-        return 100;
+        return 118;
     };
     let mut saver = taken;
     match saver.read(core, out) {

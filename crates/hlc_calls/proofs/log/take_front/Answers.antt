@@ -1,8 +1,8 @@
 -- The item at the front was read, and came before or was accepted.
 use Rattle.std.proofs.Common.{◌∙◌, ℕ, sym, subst, arith}
 use Rattle.hlc_core.specs.StoreView.{nodes}
-use Rattle.hlc_events.specs.Faults.{core_code}
 use Rattle.hlc_calls.specs.Log.{IsStopped}
+use Rattle.hlc_calls.specs.Outcome.{answer_code}
 use Rattle.hlc_calls.proofs.Logs.{front_is, front_shortens, passed_over, taken, refused_here}
 use Rattle.hlc_calls.proofs.log.take_front.Goals as goal
 
@@ -40,5 +40,5 @@ returns-in-Err-clause-answer c = λ past h.
     (sym (c.came.ensures past h) ∙ c.if-came.false) (c.in-Err.ensures.represents past h) in
     subst (λ (code : ℕ). IsStopped (nodes c.args.core.now) c.args.bytes.now past code c.refuse.new.word)
     (sym c.refuse.ensures.0)
-    (subst (λ (word : ℕ). IsStopped (nodes c.args.core.now) c.args.bytes.now past (core_code c.in-Err.fault) word)
+    (subst (λ (word : ℕ). IsStopped (nodes c.args.core.now) c.args.bytes.now past (answer_code c.in-Err.fault) word)
     (sym c.refuse.ensures.1) here)

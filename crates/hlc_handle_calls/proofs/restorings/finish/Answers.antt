@@ -4,8 +4,8 @@ use Rattle.hlc_saved.specs.declared.reader.CheckpointReader.{CheckpointReader}
 use Rattle.hlc_saved.specs.Blocks.{HasRead}
 use Rattle.hlc_saved.proofs.SaveLemmas.{resumed_word, resumed_represents, resumed_only}
 use Rattle.hlc_calls.proofs.ResumedLemmas.{is_made, is_past}
-use Rattle.hlc_ffi.proofs.Openings.{restores, restores_past}
-use Rattle.hlc_ffi.proofs.pieces.hlc_restoring_finish.Goals as goal
+use Rattle.hlc_handle_calls.proofs.Openings.{restores, restores_past}
+use Rattle.hlc_handle_calls.proofs.restorings.finish.Goals as goal
 
 pub returns-clause-answer : goal.returns-clause-answer
 returns-clause-answer c =

@@ -1,6 +1,6 @@
 -- A closed store gets the core that was made, or stays closed.
-use Rattle.hlc_ffi.proofs.Openings.{restores, restores_past}
-use Rattle.hlc_ffi.proofs.saved.hlc_store_restore.Goals as goal
+use Rattle.hlc_handle_calls.proofs.Openings.{restores, restores_past}
+use Rattle.hlc_handle_calls.proofs.opening.restore.Goals as goal
 
 pub returns-clause-answer : goal.returns-clause-answer
 returns-clause-answer c =

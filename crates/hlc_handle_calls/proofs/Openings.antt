@@ -6,7 +6,7 @@ use Rattle.hlc_core.specs.StoreView.{StoreView, Represents}
 use Rattle.hlc_saved.proofs.SaveLemmas.{of_frame}
 use Rattle.hlc_calls.specs.Saved.{IsMade, IsNotMade}
 use Rattle.hlc_calls.proofs.ResumedLemmas.{Restores, LeavesPast}
-use Rattle.hlc_ffi.specs.Handle.{IsRestoring, RestoresPast}
+use Rattle.hlc_handle_calls.specs.Opening.{IsRestoring, RestoresPast}
 
 abbrev Opens : Result StoreView ℕ → Option StoreView → ℕ → ℕ → ℕ → Type 0
 Opens made new code was word =
