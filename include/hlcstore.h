@@ -49,14 +49,14 @@
  * with other stores; these and reads of the same store, with copies; calls with other nodes; or all.
  *
  *   call                                        refusals, in this order               memory  beside
- *   hlc_store_open                              101 1 15                              yes     other stores
+ *   hlc_store_open                              101 114 15                            yes     other stores
  *   hlc_store_close                                                                           other stores
  *   hlc_store_accept_write, _delete             1 27 6 14 7 12 13 15                  yes     other stores
  *   hlc_store_accept_report, _retire            1 27 6 14 7                                   other stores
  *   hlc_store_accept_all                        103, those of hlc_store_accept_write  yes     other stores
  *   hlc_store_check_write, _delete, _report     those of hlc_store_accept but 15              reads
  *   hlc_store_join                              26 15                                 yes     other stores
- *   hlc_store_join_at                           26 9 15                               yes     other stores
+ *   hlc_store_join_at                           26 116 15                             yes     other stores
  *   hlc_snapshot_open                           8 9 11 14 15                          yes     other stores
  *   hlc_snapshot_open_at_floor                  11 14 15                              yes     other stores
  *   hlc_snapshot_close, hlc_snapshot_close_all  10; none                                      other stores
@@ -71,8 +71,9 @@
  *   hlc_store_floor, _rows, _size, _horizon     none                                          reads
  *   hlc_store_nodes                             none                                          reads
  *   hlc_store_versions                          none                                          reads
- *   hlc_store_link, hlc_store_floor_node        1                                             reads
- *   hlc_snapshot_at_place                       10                                            reads
+ *   hlc_store_link                              1                                             reads
+ *   hlc_store_floor_node                        115                                           reads
+ *   hlc_snapshot_at_place                       117                                           reads
  *   hlc_store_vacuum                            15                                    yes     other stores
  *   hlc_store_vacuum_to                         8 9 15                                yes     other stores
  *   hlc_store_vacuum_part                       8 9 15                                yes     other stores
@@ -82,19 +83,19 @@
  *   hlc_item_encode_report, _retire             none                                          all
  *   hlc_store_accept_items                      106 1 27 6 14 7 15                    yes     other stores
  *   hlc_record_encode_join, _threshold          none                                          all
- *   hlc_store_apply_records                     106 1 27 6 26 9 14 7 15               yes     other stores
+ *   hlc_store_apply_records                     106 1 27 6 26 116 14 7 15             yes     other stores
  *   hlc_checkpoint_make                         108 15                                yes     reads, with other outputs
- *   hlc_saving_start                            101 15                                yes     reads, with other savings
- *   hlc_saving_read                             100 112 15                            yes     reads, with other savings
+ *   hlc_saving_start                            119 15                                yes     reads, with other savings
+ *   hlc_saving_read                             118 112 15                            yes     reads, with other savings
  *   hlc_saving_drop                                                                           other savings
  *   hlc_increment_make                          108 9 15                              yes     reads, with other outputs
  *   hlc_increment_apply                         108 106 110 107 111 8 110 15          yes     all, with other outputs
  *   hlc_checkpoint_split                        108 106 107 15                        yes     all, with other outputs
  *   hlc_checkpoint_merge                        108 106 113 107 15                    yes     all, with other outputs
  *   hlc_store_restore                           101 106 107 15                        yes     other stores
- *   hlc_restoring_start                         101 15                                yes     other restores
- *   hlc_restoring_feed                          100 15                                yes     other restores
- *   hlc_restoring_finish                        100 101 106 107 15                    yes     other stores and restores
+ *   hlc_restoring_start                         119 15                                yes     other restores
+ *   hlc_restoring_feed                          118 15                                yes     other restores
+ *   hlc_restoring_finish                        118 101 106 107 15                    yes     other stores and restores
  *   hlc_restoring_drop                                                                        other restores
  *   hlc_output_read                             104                                           other outputs
  *   hlc_output_drop                                                                           other outputs
@@ -142,18 +143,18 @@ typedef struct {
     bool retired;
 } hlc_node;
 
-/* The refusals' numbers are those of docs/refusals.md. With each comes the word that is named here, otherwise 0. */
+/* The refusals' numbers are those of docs/refusals.md, and each means one thing. With each comes the word that is named
+ * here, otherwise 0. */
 typedef enum hlc_answer {
     HLC_OK = 0,
-    HLC_NO_NODE = 1,            /* no node has this number; of hlc_store_open: the count is not 1 to 64 */
+    HLC_NO_NODE = 1,            /* no node has this number */
     HLC_READING_TOO_LARGE = 2,  /* the reading is 2^48 or more */
     HLC_COUNTER_FULL = 3,       /* word: the greatest earlier stamp, whose counter is 65,535 */
     HLC_NOT_NEXT = 6,           /* word: the number that is next on the node's link; of a join of
                                    hlc_store_apply_records, the number that the next node is assigned */
     HLC_STAMP_NOT_RISING = 7,   /* word: the stamp of the node's last accepted item */
     HLC_ABOVE_FLOOR = 8,        /* word: the floor; of hlc_increment_apply: that of the older checkpoint */
-    HLC_BELOW_HORIZON = 9,      /* word: the horizon; of hlc_store_join_at: the start is below the floor, word: the
-                                   floor */
+    HLC_BELOW_HORIZON = 9,      /* word: the horizon */
     HLC_NO_SNAPSHOT = 10,       /* no open snapshot has this id */
     HLC_TOO_MANY_SNAPSHOTS = 11, /* 1,024 are open */
     HLC_BAD_KEY = 12,           /* the key has no bytes, or more than 255 */
@@ -169,12 +170,9 @@ typedef enum hlc_answer {
                                    to 8 */
     HLC_TOO_MANY_NODES = 26,    /* 1,024 node numbers are assigned */
     HLC_RETIRED = 27,           /* the node retired */
-    HLC_CLOSED = 100,           /* the store is closed, or another thread makes a call with it, against the rules; of
-                                   hlc_restoring_feed, _finish: no restore is under way; of hlc_saving_read: no saving
-                                   is under way */
+    HLC_CLOSED = 100,           /* the store is closed, or another thread makes a call with it, against the rules */
     HLC_IS_OPEN = 101,          /* of hlc_store_open, hlc_store_restore, hlc_restoring_finish: the store is open, and is
-                                   unchanged; of hlc_restoring_start: a restore is under way, and goes on; of
-                                   hlc_saving_start: a saving is under way, and goes on */
+                                   unchanged */
     HLC_NO_VALUE = 102,         /* of hlc_snapshot_read: the key has no value in the snapshot */
     HLC_OUTSIDE = 103,          /* of hlc_store_accept_all, hlc_snapshot_read_all: a key or a value lies outside the
                                    bytes */
@@ -194,9 +192,18 @@ typedef enum hlc_answer {
                                    bytes, 1 to 7; or 0, where its stamp does not fit its rows and its horizon */
     HLC_NOT_LATER = 111,        /* of hlc_increment_apply: the increment is not of a later state of this store */
     HLC_CHANGED = 112,          /* of hlc_saving_read: the store changed since the saving began */
-    HLC_NOT_PARTS = 113         /* of hlc_checkpoint_merge; word: the first that differs: 1 the nodes at the start, or
+    HLC_NOT_PARTS = 113,        /* of hlc_checkpoint_merge; word: the first that differs: 1 the nodes at the start, or
                                    the links; 2 the open snapshots, or how many were ever opened; 3 the horizons; or 4:
                                    the keys of the left checkpoint are not all below those of the right one */
+    HLC_BAD_NODE_COUNT = 114,   /* of hlc_store_open: the number of nodes is not 1 to 64 */
+    HLC_ALL_RETIRED = 115,      /* of hlc_store_floor_node: no node holds the floor back */
+    HLC_BELOW_FLOOR = 116,      /* of hlc_store_join_at, and of a join of hlc_store_apply_records: the start is below
+                                   the floor; word: the floor */
+    HLC_AFTER_LAST = 117,       /* of hlc_snapshot_at_place: no open snapshot is at this place */
+    HLC_NOT_UNDER_WAY = 118,    /* of hlc_restoring_feed, _finish: no restore is under way; of hlc_saving_read: no
+                                   saving is under way */
+    HLC_IS_UNDER_WAY = 119      /* of hlc_restoring_start: a restore is under way, and goes on; of hlc_saving_start: a
+                                   saving is under way, and goes on */
 } hlc_answer;
 
 /* The library returns 32 bits. */
@@ -262,8 +269,8 @@ void hlc_error_text(uint32_t answer, uint8_t *out, size_t out_len, size_t *len) 
 
 /* ---- The store ---- */
 
-/* Opens a closed store of so many nodes, numbered from 0, in which nothing took place. Refusals, in this order: 101, 1,
- * 15. */
+/* Opens a closed store of so many nodes, numbered from 0, in which nothing took place. Refusals, in this order: 101,
+ * 114, 15. */
 hlc_answer hlc_store_open(hlc_store *store, uint16_t nodes) HLC_CHECKED(1);
 
 /* Closes a store and frees what it contains. A closed one stays closed. */
@@ -319,7 +326,7 @@ hlc_answer hlc_store_join(hlc_store *store, uint16_t *node, uint64_t *start) HLC
 
 /* Lets a node join that starts at this stamp, at or above the floor. Stores that accept the same items agree on a join
  * if each gets the same start, whatever their floors are then. node: its number; word: the start, for hlc_node_open, or
- * the refusal's word, which is the floor with 9. Refusals, in this order: 26, 9, 15. */
+ * the refusal's word, which is the floor with 116. Refusals, in this order: 26, 116, 15. */
 hlc_answer hlc_store_join_at(hlc_store *store, uint64_t start, uint16_t *node, uint64_t *word) HLC_CHECKED(1, 3, 4);
 
 /* Opens a snapshot at a stamp. id: its id, or the refusal's word. Refusals: 8, 9, 11, 14, 15. */
@@ -516,7 +523,7 @@ hlc_answer hlc_record_encode_threshold(uint64_t stamp, uint8_t *out, size_t out_
  * place. A threshold changes nothing: threshold is the greatest stamp of one among these records, or 0, and the caller
  * may vacuum to it. count, used and word are as in hlc_store_accept_items. Refusals, of each item those of
  * hlc_store_accept_items; of each join in this order: 6 where its node is not the next one, word: the number that is
- * next; 26, 9, 15. */
+ * next; 26, 116, 15. */
 hlc_answer hlc_store_apply_records(hlc_store *store, const uint8_t *bytes, size_t bytes_len, size_t *used,
                                    size_t *count, uint64_t *threshold, uint64_t *word) HLC_CHECKED(1, 4, 5, 6, 7);
 
@@ -536,14 +543,14 @@ typedef struct {
 #define HLC_NO_SAVING { 0, false }
 
 /* Begins to save the whole state of a store, with a word of the caller's, as hlc_checkpoint_make does. len: how many
- * bytes it will be in all. Refusals, in this order: 101 where a saving is under way, 15. Looks at each row, to add up
+ * bytes it will be in all. Refusals, in this order: 119 where a saving is under way, 15. Looks at each row, to add up
  * its length, and takes memory for a list of 16 bytes for each 64 to 128 keys, which is freed at once. */
 hlc_answer hlc_saving_start(hlc_saving *saving, hlc_store *store, uint64_t word, uint64_t *len) HLC_CHECKED(1, 2, 4);
 
 /* Writes the next bytes of a saving, as many as out has room for. len: how many were written. Returns HLC_OK where they
  * are the last: all pieces, one after another, are the bytes of hlc_checkpoint_make, and the saving has ended. Returns
  * HLC_MORE where bytes are left; then len is less than out_len only if memory ran out after some bytes. Refusals, in
- * this order: 100 where no saving is under way; 112 where the store changed since hlc_saving_start: where an item was
+ * this order: 118 where no saving is under way; 112 where the store changed since hlc_saving_start: where an item was
  * accepted, a node joined, a snapshot opened or closed, or a vacuum moved the horizon or dropped a row; 15, before any
  * byte. After 112 and 15 the saving is as it was: after 15 the call may be repeated, and after 112 hlc_saving_drop ends
  * the saving. Each call gets the store of hlc_saving_start: another one is refused with 112 only if these numbers of it
@@ -616,15 +623,15 @@ typedef struct {
 
 #define HLC_NO_RESTORING { 0, false }
 
-/* Starts a restore. Refusals: 101 where one is under way, 15. */
+/* Starts a restore. Refusals: 119 where one is under way, 15. */
 hlc_answer hlc_restoring_start(hlc_restoring *restoring) HLC_CHECKED(1);
 
-/* Adds the next bytes. Refusals: 100 where no restore is under way; 15, and nothing was added. No fault of the bytes is
+/* Adds the next bytes. Refusals: 118 where no restore is under way; 15, and nothing was added. No fault of the bytes is
  * found before hlc_restoring_finish. */
 hlc_answer hlc_restoring_feed(hlc_restoring *restoring, const uint8_t *bytes, size_t bytes_len) HLC_CHECKED(1);
 
 /* Opens a closed store from all bytes that were added, as hlc_store_restore does, and ends the restore. word: as in
- * hlc_store_restore. Refusals, in this order: 100 where no restore is under way; 101 where the store is open, and the
+ * hlc_store_restore. Refusals, in this order: 118 where no restore is under way; 101 where the store is open, and the
  * restore goes on; 106, 107 and 15, as of hlc_store_restore, after which the restore has ended. */
 hlc_answer hlc_restoring_finish(hlc_restoring *restoring, hlc_store *store, uint64_t *word) HLC_CHECKED(1, 2, 3);
 
@@ -656,11 +663,11 @@ hlc_answer hlc_store_nodes(hlc_store *store, uint64_t *count) HLC_CHECKED(1, 2);
 hlc_answer hlc_store_link(hlc_store *store, uint16_t node, uint64_t *next, uint64_t *head, bool *retired)
     HLC_CHECKED(1, 3, 4, 5);
 
-/* Returns the first node that holds the floor back: it has not retired, and its head is the floor. Refusal: 1, where
+/* Returns the first node that holds the floor back: it has not retired, and its head is the floor. Refusal: 115, where
  * all nodes have retired. Looks at each node up to that one. */
 hlc_answer hlc_store_floor_node(hlc_store *store, uint64_t *node) HLC_CHECKED(1, 2);
 
-/* Returns the open snapshot at a place, from 0 on, by rising ids. Refusal: 10 after the last. In constant time. */
+/* Returns the open snapshot at a place, from 0 on, by rising ids. Refusal: 117 after the last. In constant time. */
 hlc_answer hlc_snapshot_at_place(hlc_store *store, uint64_t place, uint64_t *id, uint64_t *stamp) HLC_CHECKED(1, 3, 4);
 
 /* ---- A node ---- No memory in any call. */

@@ -25,7 +25,7 @@ static inline const char *hlc_strerror(uint32_t answer)
 {
     const char *const other = "the number is no answer";
     /* In C++ an enum has no number beyond its greatest one. */
-    if (answer > HLC_NOT_PARTS) return other;
+    if (answer > HLC_IS_UNDER_WAY) return other;
     switch ((hlc_answer)answer) {
     case HLC_OK: return "the call was made";
     case HLC_NO_NODE: return "no node has this number";
@@ -34,7 +34,7 @@ static inline const char *hlc_strerror(uint32_t answer)
     case HLC_NOT_NEXT: return "the number is not the next one of the node";
     case HLC_STAMP_NOT_RISING: return "the stamp is not above that of the last accepted item of the node";
     case HLC_ABOVE_FLOOR: return "the stamp is above the floor";
-    case HLC_BELOW_HORIZON: return "the stamp is below the horizon, or the start below the floor";
+    case HLC_BELOW_HORIZON: return "the stamp is below the horizon";
     case HLC_NO_SNAPSHOT: return "no open snapshot has this id";
     case HLC_TOO_MANY_SNAPSHOTS: return "1,024 snapshots are open";
     case HLC_BAD_KEY: return "the key is empty or longer than 255 bytes";
@@ -45,8 +45,8 @@ static inline const char *hlc_strerror(uint32_t answer)
     case HLC_NOT_SHOWN: return "the certificate does not show that the rows are the fewest";
     case HLC_TOO_MANY_NODES: return "1,024 node numbers are assigned";
     case HLC_RETIRED: return "the node retired";
-    case HLC_CLOSED: return "the store is closed, or no restore or saving is under way";
-    case HLC_IS_OPEN: return "the store is open already, or a restore or saving is under way";
+    case HLC_CLOSED: return "the store is closed";
+    case HLC_IS_OPEN: return "the store is open already";
     case HLC_NO_VALUE: return "the key has no value in the snapshot";
     case HLC_OUTSIDE: return "the bytes of an entry or a key are not there";
     case HLC_MORE: return "the next part does not fit";
@@ -59,6 +59,12 @@ static inline const char *hlc_strerror(uint32_t answer)
     case HLC_NOT_LATER: return "the increment is not of a later state of the store";
     case HLC_CHANGED: return "the store changed since the saving began";
     case HLC_NOT_PARTS: return "the checkpoints are no two parts of one store";
+    case HLC_BAD_NODE_COUNT: return "the number of nodes is not 1 to 64";
+    case HLC_ALL_RETIRED: return "all nodes have retired";
+    case HLC_BELOW_FLOOR: return "the start is below the floor";
+    case HLC_AFTER_LAST: return "no open snapshot is at this place";
+    case HLC_NOT_UNDER_WAY: return "no restore or saving is under way";
+    case HLC_IS_UNDER_WAY: return "a restore or saving is under way already";
     }
     return other;
 }
@@ -355,7 +361,7 @@ static inline hlc_answer hlc_snapshot_get_stamp(const hlc_store *store, uint64_t
     while (low < high) {
         const uint64_t place = low + (high - low) / 2;
         const hlc_answer answer = hlc_snapshot_get(store, place, &open);
-        if (answer != HLC_OK && answer != HLC_NO_SNAPSHOT) return answer;
+        if (answer != HLC_OK && answer != HLC_AFTER_LAST) return answer;
         if (answer == HLC_OK && open.id == id) {
             *stamp = open.stamp;
             return HLC_OK;

@@ -195,7 +195,7 @@ void ownership() {
   std::ostringstream written;
   copy.checkpoint_to(written, 7);
   EXPECT(written.str() == saved);
-  EXPECT(refusal_of([&] { pieces.feed("more"); }) == HLC_CLOSED);
+  EXPECT(refusal_of([&] { pieces.feed("more"); }) == HLC_NOT_UNDER_WAY);
   early = moved.open_snapshot();
   EXPECT(moved.snapshots().size() == 1 && early.get("a") == "y");
   early.close();
@@ -251,7 +251,7 @@ void restores_that_fail() {
     hlcstore::restoring cut;
     cut.feed(saved.substr(0, saved.size() - 1));
     EXPECT(refusal_of([&] { copy.restore(cut); }) == HLC_BAD_BYTES);
-    EXPECT(refusal_of([&] { cut.feed("more"); }) == HLC_CLOSED);
+    EXPECT(refusal_of([&] { cut.feed("more"); }) == HLC_NOT_UNDER_WAY);
   }
   {
     hlcstore::restoring whole;

@@ -121,7 +121,7 @@ static uint32_t take_join(struct links *links, const struct record *record, bool
     if (links->many == MOST_NODES) return HLC_TOO_MANY_NODES;
     uint64_t floor = links_floor(links);
     if (record->stamp < floor) *word = floor;
-    if (record->stamp < floor) return HLC_BELOW_HORIZON;
+    if (record->stamp < floor) return HLC_BELOW_FLOOR;
     links->at[links->many++] = (struct link){ 0, record->stamp, false };
     return HLC_OK;
 }

@@ -162,7 +162,7 @@ func (s *Store) AcceptItems(log []byte) (Applied, error) {
 // is returned, and the caller may vacuum to it. C reads the slice where it is.
 //
 // Refusals, of each item those of AcceptItems; of each join in this order: ErrNotNext, with the number of the next
-// node; ErrTooManyNodes; ErrBelowHorizon, with the floor.
+// node; ErrTooManyNodes; ErrBelowFloor, with the floor.
 func (s *Store) ApplyRecords(log []byte) (Applied, error) {
 	bytes, bytesLen := pointer(log)
 	s.mu.Lock()

@@ -14,13 +14,13 @@ type Code uint32
 
 // The refusals, with the meaning of the word that comes with some of them.
 const (
-	ErrNoNode           = Code(C.HLC_NO_NODE)            // no node has this number; of Open: it is not 1 to 64
+	ErrNoNode           = Code(C.HLC_NO_NODE)            // no node has this number
 	ErrReadingTooLarge  = Code(C.HLC_READING_TOO_LARGE)  // the reading is 2^48 or more
 	ErrCounterFull      = Code(C.HLC_COUNTER_FULL)       // word: the greatest earlier stamp, with the counter 65,535
 	ErrNotNext          = Code(C.HLC_NOT_NEXT)           // word: the number that is next on the node's link
 	ErrStampNotRising   = Code(C.HLC_STAMP_NOT_RISING)   // word: the stamp of the node's last accepted item
 	ErrAboveFloor       = Code(C.HLC_ABOVE_FLOOR)        // word: the floor; of ApplyIncrement: the older checkpoint's
-	ErrBelowHorizon     = Code(C.HLC_BELOW_HORIZON)      // word: the horizon; of a join: the floor
+	ErrBelowHorizon     = Code(C.HLC_BELOW_HORIZON)      // word: the horizon
 	ErrNoSnapshot       = Code(C.HLC_NO_SNAPSHOT)        // the snapshot is not open
 	ErrTooManySnapshots = Code(C.HLC_TOO_MANY_SNAPSHOTS) // 1,024 are open
 	ErrBadKey           = Code(C.HLC_BAD_KEY)            // the key has no bytes, or more than 255
@@ -40,6 +40,9 @@ const (
 	ErrNoIncrement      = Code(C.HLC_NO_INCREMENT)       // word: the number of the fault, or 0, see ApplyIncrement
 	ErrNotLater         = Code(C.HLC_NOT_LATER)          // the increment is not of a later state of this store
 	ErrNotParts         = Code(C.HLC_NOT_PARTS)          // word: the number of what differs, see hlcstore.h
+	ErrBadNodeCount     = Code(C.HLC_BAD_NODE_COUNT)     // the number of nodes is not 1 to 64
+	ErrAllRetired       = Code(C.HLC_ALL_RETIRED)        // no node holds the floor back
+	ErrBelowFloor       = Code(C.HLC_BELOW_FLOOR)        // of a join: the start is too low; word: the floor
 )
 
 // Name returns the name of the refusal in hlcstore.h, for example HLC_NOT_NEXT, or nothing for an unknown number.
@@ -69,7 +72,7 @@ type Error struct {
 // Error returns the text of the refusal, and its word: a stamp as 5.0, any other as a number.
 func (e *Error) Error() string {
 	switch e.Code {
-	case ErrCounterFull, ErrStampNotRising, ErrAboveFloor, ErrBelowHorizon:
+	case ErrCounterFull, ErrStampNotRising, ErrAboveFloor, ErrBelowHorizon, ErrBelowFloor:
 		return fmt.Sprintf("%v (%v)", e.Code, e.Stamp())
 	case ErrNotNext:
 		return fmt.Sprintf("%v (%d)", e.Code, e.Word)

@@ -24,13 +24,14 @@ var codes = map[string]hlcstore.Code{
 	"HLC_NO_VALUE": hlcstore.ErrNoValue, "HLC_NO_SUCH_NODE": hlcstore.ErrNoSuchNode, "HLC_BAD_BYTES": hlcstore.ErrBadBytes,
 	"HLC_NO_CHECKPOINT": hlcstore.ErrNoCheckpoint, "HLC_NOT_FEWEST": hlcstore.ErrNotFewest,
 	"HLC_NO_INCREMENT": hlcstore.ErrNoIncrement, "HLC_NOT_LATER": hlcstore.ErrNotLater,
-	"HLC_NOT_PARTS": hlcstore.ErrNotParts,
+	"HLC_NOT_PARTS": hlcstore.ErrNotParts, "HLC_BAD_NODE_COUNT": hlcstore.ErrBadNodeCount,
+	"HLC_ALL_RETIRED": hlcstore.ErrAllRetired, "HLC_BELOW_FLOOR": hlcstore.ErrBelowFloor,
 }
 
 // Answers that never reach the caller of the package: a call that was made, and those whose cause would be its own.
 var within = map[string]bool{
 	"HLC_OK": true, "HLC_IS_OPEN": true, "HLC_OUTSIDE": true, "HLC_MORE": true, "HLC_HAS_BYTES": true,
-	"HLC_CHANGED": true,
+	"HLC_CHANGED": true, "HLC_AFTER_LAST": true, "HLC_NOT_UNDER_WAY": true, "HLC_IS_UNDER_WAY": true,
 }
 
 func TestErrorsAreThoseOfTheHeader(t *testing.T) {
@@ -81,7 +82,7 @@ func TestErrorsAsText(t *testing.T) {
 		{Code: hlcstore.ErrAboveFloor}:                 "hlcstore: the stamp is above the floor (0.0)",
 		{Code: hlcstore.ErrNotNext}:                    "hlcstore: the number is not the next one of the node (0)",
 		{Code: hlcstore.ErrNotNext, Word: 7}:           "hlcstore: the number is not the next one of the node (7)",
-		{Code: hlcstore.ErrClosed}:                     "hlcstore: the store is closed, or no restore or saving is under way",
+		{Code: hlcstore.ErrClosed}:                     "hlcstore: the store is closed",
 		{Code: hlcstore.ErrNoIncrement}:                "hlcstore: " + hlcstore.ErrNoIncrement.Text(),
 		{Code: hlcstore.ErrBadBytes, Word: 3}:          "hlcstore: " + hlcstore.ErrBadBytes.Text() + " (3)",
 		{Code: hlcstore.ErrNotParts, Word: 4}:          "hlcstore: the checkpoints are no two parts of one store (4)",

@@ -29,7 +29,7 @@ const (
 // OpenRanges opens the stores of a division, in which nothing took place, with so many machines, 1 to 64, numbered from
 // 0.
 //
-// Refusal: ErrNoNode, where it is another number.
+// Refusal: ErrBadNodeCount, where it is another number.
 func OpenRanges(division Division, machines uint16) (*Ranges, error) {
 	r := &Ranges{division: division}
 	for len(r.stores) < division.Stores() {

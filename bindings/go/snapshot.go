@@ -86,7 +86,7 @@ func (s *Store) Snapshots() ([]OpenSnapshot, error) {
 	var all []OpenSnapshot
 	for {
 		next := C.hlcgo_snapshot_at(&s.raw, C.uint64_t(len(all)))
-		if next.code == C.HLC_NO_SNAPSHOT {
+		if next.code == C.HLC_AFTER_LAST {
 			return all, nil
 		}
 		if next.code != C.HLC_OK {

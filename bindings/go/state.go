@@ -18,7 +18,7 @@ func (s *Store) floor() (Stamp, error) {
 // FloorNode returns the first node that holds the floor back: it has not retired, and its last accepted item, or its
 // start, is the floor.
 //
-// Refusal: ErrNoNode, where all nodes have retired.
+// Refusal: ErrAllRetired.
 func (s *Store) FloorNode() (uint16, error) {
 	defer s.mu.RUnlock(s.mu.RLock())
 	answer := C.hlcgo_floor_node(&s.raw)

@@ -24,7 +24,7 @@ var closedStore Store
 
 // Open opens a store of so many nodes, 1 to 64, numbered from 0, in which nothing took place.
 //
-// Refusal: ErrNoNode, where it is another number.
+// Refusal: ErrBadNodeCount, where it is another number.
 func Open(nodes uint16) (*Store, error) {
 	store := new(Store)
 	if code := C.hlc_store_open(&store.raw, C.uint16_t(nodes)); code != C.HLC_OK {
@@ -66,7 +66,7 @@ func (s *Store) Join() (*Node, error) {
 // JoinAt lets a node join that starts at this stamp, at or above the floor, and returns it. Stores that accept the same
 // items agree on a join if each gets the same start, whatever their floors are then.
 //
-// Refusals: ErrTooManyNodes; ErrBelowHorizon, with the floor.
+// Refusals: ErrTooManyNodes; ErrBelowFloor, with the floor.
 func (s *Store) JoinAt(start Stamp) (*Node, error) {
 	s.mu.Lock()
 	defer s.mu.Unlock()

@@ -50,8 +50,8 @@ static void closed_first(hlc_output *with_bytes)
     code = hlc_snapshot_open(&closed, UINT64_MAX, &word);
     expect("open snapshot", code, word, HLC_CLOSED, 0);
     code = hlc_restoring_finish(&none, &closed, &word);
-    expect("finish", code, word, HLC_CLOSED, 0);
-    expect("feed", hlc_restoring_feed(&none, BYTES("bytes")), 0, HLC_CLOSED, 0);
+    expect("finish", code, word, HLC_NOT_UNDER_WAY, 0);
+    expect("feed", hlc_restoring_feed(&none, BYTES("bytes")), 0, HLC_NOT_UNDER_WAY, 0);
 }
 
 /* A restore into an open store is refused, and goes on. A second start is refused too. */
@@ -60,7 +60,7 @@ static void restore_into_open(hlc_store *open)
     hlc_restoring restoring = HLC_NO_RESTORING;
     uint64_t word;
     expect("start", hlc_restoring_start(&restoring), 0, HLC_OK, 0);
-    expect("start again", hlc_restoring_start(&restoring), 0, HLC_IS_OPEN, 0);
+    expect("start again", hlc_restoring_start(&restoring), 0, HLC_IS_UNDER_WAY, 0);
     uint32_t code = hlc_restoring_finish(&restoring, open, &word);
     expect("finish", code, word, HLC_IS_OPEN, 0);
     expect("feed", hlc_restoring_feed(&restoring, BYTES("x")), 0, HLC_OK, 0);
@@ -122,8 +122,10 @@ int main(void)
     hlc_output output = HLC_NO_OUTPUT;
     uint64_t word;
     size_t len;
-    expect_text(HLC_CLOSED, "the store is closed, or no restore or saving is under way");
-    expect_text(HLC_IS_OPEN, "the store is open already, or a restore or saving is under way");
+    expect_text(HLC_CLOSED, "the store is closed");
+    expect_text(HLC_IS_OPEN, "the store is open already");
+    expect_text(HLC_NOT_UNDER_WAY, "no restore or saving is under way");
+    expect_text(HLC_IS_UNDER_WAY, "a restore or saving is under way already");
     expect_text(HLC_NO_INCREMENT, "the bytes are no increment");
     expect_text(HLC_NOT_LATER, "the increment is not of a later state of the store");
     expect_text(HLC_NOT_PARTS, "the checkpoints are no two parts of one store");

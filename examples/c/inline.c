@@ -357,7 +357,7 @@ static void ask_store(const hlc_store *store)
     EXPECT(hlc_snapshot_get(store, 1, &snapshot), HLC_OK);
     EXPECT(snapshot.id, 2);
     EXPECT(snapshot.stamp, HLC_STAMP(4, 0));
-    EXPECT(hlc_snapshot_get(store, 2, &snapshot), HLC_NO_SNAPSHOT);
+    EXPECT(hlc_snapshot_get(store, 2, &snapshot), HLC_AFTER_LAST);
     EXPECT(snapshot.id + snapshot.stamp, 0);
 }
 

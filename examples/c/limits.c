@@ -64,8 +64,8 @@ static void limit_nodes(void)
     hlc_store store = HLC_CLOSED_STORE;
     uint64_t word, many;
     uint16_t node;
-    EXPECT(hlc_store_open(&store, 0), HLC_NO_NODE);
-    EXPECT(hlc_store_open(&store, HLC_MAX_INITIAL_NODES + 1), HLC_NO_NODE);
+    EXPECT(hlc_store_open(&store, 0), HLC_BAD_NODE_COUNT);
+    EXPECT(hlc_store_open(&store, HLC_MAX_INITIAL_NODES + 1), HLC_BAD_NODE_COUNT);
     EXPECT(hlc_store_open(&store, HLC_MAX_INITIAL_NODES), HLC_OK);
     for (int i = HLC_MAX_INITIAL_NODES; i < HLC_MAX_NODES; i++) EXPECT(hlc_store_join(&store, &node, &word), HLC_OK);
     EXPECT(hlc_store_join(&store, &node, &word), HLC_TOO_MANY_NODES);

@@ -60,13 +60,13 @@ static void restore_no_pieces(hlc_store *copy)
     hlc_restoring restoring = HLC_NO_RESTORING;
     uint64_t word;
     uint32_t code = hlc_restoring_feed(&restoring, NONE);
-    expect("no restore", code, 0, HLC_CLOSED, 0);
+    expect("no restore", code, 0, HLC_NOT_UNDER_WAY, 0);
     code = hlc_restoring_finish(&restoring, copy, &word);
-    expect("no restore", code, word, HLC_CLOSED, 0);
+    expect("no restore", code, word, HLC_NOT_UNDER_WAY, 0);
     code = hlc_restoring_start(&restoring);
     expect("start", code, 0, HLC_OK, 0);
     code = hlc_restoring_start(&restoring);
-    expect("start twice", code, 0, HLC_IS_OPEN, 0);
+    expect("start twice", code, 0, HLC_IS_UNDER_WAY, 0);
     code = hlc_restoring_feed(&restoring, NONE);
     expect("feed, no bytes", code, 0, HLC_OK, 0);
     code = hlc_restoring_finish(&restoring, copy, &word);

@@ -134,7 +134,7 @@ static void save_in_pieces(const uint8_t *saved, size_t saved_len, size_t piece)
     expect("saved", code, at, HLC_OK, saved_len);
     if (memcmp(bytes, saved, saved_len) != 0) wrong++;
     code = hlc_saving_read(&saving, &store, bytes, 1, &len);
-    expect("the saving has ended", code, len, HLC_CLOSED, 0);
+    expect("the saving has ended", code, len, HLC_NOT_UNDER_WAY, 0);
 }
 
 /* A saving is refused once the store has changed, and goes on until it is dropped. */
@@ -146,12 +146,12 @@ static void save_in_vain(void)
     uint64_t word;
     size_t len;
     uint32_t code = hlc_saving_read(&saving, &store, bytes, sizeof bytes, &len);
-    expect("no saving", code, len, HLC_CLOSED, 0);
+    expect("no saving", code, len, HLC_NOT_UNDER_WAY, 0);
     code = hlc_saving_start(&saving, &closed, 7, &word);
     expect("of a closed store", code, word, HLC_CLOSED, 0);
     expect("saving", hlc_saving_start(&saving, &store, 7, &word), 0, HLC_OK, 0);
     code = hlc_saving_start(&saving, &store, 8, &word);
-    expect("a second start", code, word, HLC_IS_OPEN, 0);
+    expect("a second start", code, word, HLC_IS_UNDER_WAY, 0);
     code = hlc_saving_read(&saving, &store, bytes, 0, &len);
     expect("no room", code, len, HLC_MORE, 0);
     code = hlc_saving_read(&saving, &store, bytes, 9, &len);
@@ -163,7 +163,7 @@ static void save_in_vain(void)
     }
     hlc_saving_drop(&saving);
     code = hlc_saving_read(&saving, &store, bytes, sizeof bytes, &len);
-    expect("dropped", code, len, HLC_CLOSED, 0);
+    expect("dropped", code, len, HLC_NOT_UNDER_WAY, 0);
 }
 
 static void feed(hlc_restoring *restoring, const uint8_t *bytes, size_t len)
@@ -193,12 +193,12 @@ static void restore_in_vain(void)
     for (int part = 0; part < 3; part++) {
         feed(&restoring, saved, saved_len * part / 2);
         hlc_restoring_drop(&restoring);
-        expect("dropped", hlc_restoring_feed(&restoring, saved, 1), 0, HLC_CLOSED, 0);
+        expect("dropped", hlc_restoring_feed(&restoring, saved, 1), 0, HLC_NOT_UNDER_WAY, 0);
     }
     feed(&restoring, saved, saved_len - 1);
     code = hlc_restoring_finish(&restoring, &copy, &word);
     expect("refused", code, word, HLC_BAD_BYTES, 1);
-    expect("ended", hlc_restoring_feed(&restoring, saved, 1), 0, HLC_CLOSED, 0);
+    expect("ended", hlc_restoring_feed(&restoring, saved, 1), 0, HLC_NOT_UNDER_WAY, 0);
     feed(&restoring, saved, saved_len);
     code = hlc_restoring_finish(&restoring, &store, &word);
     expect("open", code, word, HLC_IS_OPEN, 0);

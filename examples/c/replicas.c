@@ -56,7 +56,7 @@ static void join_and_vacuum(hlc_store *store, uint64_t floor)
     uint32_t code = hlc_store_floor(store, &word);
     expect("floor", code, word, HLC_OK, floor);
     code = hlc_store_join_at(store, floor - 1, &node, &word);
-    expect("join below the floor", code, word, HLC_BELOW_HORIZON, floor);
+    expect("join below the floor", code, word, HLC_BELOW_FLOOR, floor);
     code = hlc_store_join_at(store, START, &node, &word);
     expect("join", code, word, HLC_OK, START);
     expect("node", code, node, HLC_OK, 2);

@@ -48,7 +48,13 @@ enum class error_kind : std::uint32_t {
   no_increment = HLC_NO_INCREMENT,
   not_later = HLC_NOT_LATER,
   changed = HLC_CHANGED,
-  not_parts = HLC_NOT_PARTS
+  not_parts = HLC_NOT_PARTS,
+  bad_node_count = HLC_BAD_NODE_COUNT,
+  all_retired = HLC_ALL_RETIRED,
+  below_floor = HLC_BELOW_FLOOR,
+  after_last = HLC_AFTER_LAST,
+  not_under_way = HLC_NOT_UNDER_WAY,
+  is_under_way = HLC_IS_UNDER_WAY
 };
 
 // A refusal: the number of the answer, and the word that comes with it. Making one takes no memory.
@@ -78,6 +84,7 @@ class error : public std::exception {
       case error_kind::stamp_not_rising:
       case error_kind::above_floor:
       case error_kind::below_horizon:
+      case error_kind::below_floor:
         std::snprintf(out, room, " (%" PRIu64 ".%" PRIu64 ")", word_ >> 16, word_ & 0xffff);
         break;
       case error_kind::not_next:

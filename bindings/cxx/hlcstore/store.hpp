@@ -307,7 +307,7 @@ class store {
     for (;;) {
       snapshot_info next;
       const std::uint32_t code = hlc_snapshot_at_place(&mine, found.size(), &next.id, &next.stamp.word);
-      if (code == HLC_NO_SNAPSHOT) return found;
+      if (code == HLC_AFTER_LAST) return found;
       detail::check(code);
       found.push_back(next);
     }
@@ -341,7 +341,7 @@ class store {
   std::optional<std::uint16_t> floor_node() const {
     hlc_store mine = copy();
     const answer found = detail::answered(hlc_store_floor_node, &mine);
-    if (found.code == HLC_NO_NODE) return std::nullopt;
+    if (found.code == HLC_ALL_RETIRED) return std::nullopt;
     detail::check(found.code);
     return static_cast<std::uint16_t>(found.word);
   }

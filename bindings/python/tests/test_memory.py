@@ -159,7 +159,7 @@ def play():
         refuse(hlcstore.NoSnapshot, apart.changes, other, KEY)
     change()
     Store(1)
-    refuse(hlcstore.NoNode, Store, 0)
+    refuse(hlcstore.BadNodeCount, Store, 0)
 
 
 class Memory(unittest.TestCase):

@@ -12,7 +12,8 @@ import hlcstore
 from hlcstore import Error, Item, Node, Store, stamp
 
 # Handles, buffers and outputs are the package's own, so it never meets these.
-WITHOUT_CLASS = {"HLC_OK", "HLC_IS_OPEN", "HLC_OUTSIDE", "HLC_MORE", "HLC_HAS_BYTES"}
+WITHOUT_CLASS = {"HLC_OK", "HLC_IS_OPEN", "HLC_OUTSIDE", "HLC_MORE", "HLC_HAS_BYTES", "HLC_AFTER_LAST"}
+WITHOUT_CLASS |= {"HLC_NOT_UNDER_WAY", "HLC_IS_UNDER_WAY"}
 FULL = stamp(5, 65535)
 
 
@@ -45,6 +46,13 @@ def retired():
     node = Node(0)
     node.retire(1)
     return node
+
+
+def all_retired():
+    """Returns a store whose only node has retired."""
+    store = Store(1)
+    store.accept_retire(0, 0, stamp(2))
+    return store
 
 
 def certificate():
@@ -90,7 +98,7 @@ def increment():
 
 # For each class, but NoMemory: a call that raises it, and its word.
 REFUSED = {
-    hlcstore.NoNode: (lambda: Store(0), 0),
+    hlcstore.NoNode: (lambda: Store(1).link(1), 0),
     hlcstore.ReadingTooLarge: (lambda: Node(0).report(2**48), 0),
     hlcstore.CounterFull: (lambda: Node(0, FULL).report(5), FULL),
     hlcstore.NotNext: (lambda: fed().accept_report(0, 5, stamp(3)), 1),
@@ -116,6 +124,9 @@ REFUSED = {
     hlcstore.NotLater: (lambda: hlcstore.apply_increment(Store(2).checkpoint(), increment()[1]), 0),
     hlcstore.Changed: (saved_in_vain, 0),
     hlcstore.NotParts: (lambda: hlcstore.merge_checkpoints(fed().checkpoint(), fed().checkpoint()), 4),
+    hlcstore.BadNodeCount: (lambda: Store(0), 0),
+    hlcstore.AllRetired: (lambda: all_retired().floor_node(), 0),
+    hlcstore.BelowFloor: (lambda: fed().join(stamp(1)), stamp(2)),
 }
 # How the text of a refusal has its word.
 WORDS = {
@@ -124,6 +135,7 @@ WORDS = {
     hlcstore.StampNotRising: "2.0",
     hlcstore.AboveFloor: "2.0",
     hlcstore.BelowHorizon: "2.0",
+    hlcstore.BelowFloor: "2.0",
     # Of these it is another number.
     hlcstore.NotNext: "1",
     hlcstore.BadLine: "2",

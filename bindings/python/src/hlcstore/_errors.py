@@ -148,6 +148,19 @@ class NotParts(Error):
     code = _native.HLC_NOT_PARTS
 
 
+class BadNodeCount(Error):
+    code = _native.HLC_BAD_NODE_COUNT
+
+
+class AllRetired(Error):
+    code = _native.HLC_ALL_RETIRED
+
+
+class BelowFloor(Error):
+    code = _native.HLC_BELOW_FLOOR
+    _word_is_stamp = True
+
+
 REFUSALS: dict[int, type[Error]] = {refusal.code: refusal for refusal in Error.__subclasses__()}
 
 # In tracebacks and pickles they have the name by which a program knows them.

@@ -1,8 +1,9 @@
 /* Refusals and results, whose classes are in Python. */
 #include "native.h"
 
-/* The numbers of the refusals, for hlcstore/_errors.py. It has no class for HLC_IS_OPEN, HLC_OUTSIDE, HLC_MORE and
- * HLC_HAS_BYTES, since handles, buffers and outputs are this extension's own. */
+/* The numbers of the refusals, for hlcstore/_errors.py. It has no class for HLC_IS_OPEN, HLC_OUTSIDE, HLC_MORE,
+ * HLC_HAS_BYTES, HLC_AFTER_LAST, HLC_NOT_UNDER_WAY and HLC_IS_UNDER_WAY, since handles, buffers and outputs are this
+ * extension's own. */
 static const struct {
     const char *name;
     uint32_t code;
@@ -35,6 +36,9 @@ static const struct {
     REFUSAL(HLC_NOT_LATER),
     REFUSAL(HLC_CHANGED),
     REFUSAL(HLC_NOT_PARTS),
+    REFUSAL(HLC_BAD_NODE_COUNT),
+    REFUSAL(HLC_ALL_RETIRED),
+    REFUSAL(HLC_BELOW_FLOOR),
 #undef REFUSAL
 };
 

@@ -97,7 +97,7 @@ static uint32_t list_opened(Store *store, Opened *opened, Py_ssize_t *many)
     for (*many = 0; code == HLC_OK && *many < MOST_OPEN; *many += code == HLC_OK)
         code = hlc_snapshot_at_place(&mine, (uint64_t)*many, &opened[*many].id, &opened[*many].stamp);
     unlock(store, thread);
-    return code == HLC_NO_SNAPSHOT ? HLC_OK : code;
+    return code == HLC_AFTER_LAST ? HLC_OK : code;
 }
 
 /* An object of a snapshot that is open, and stays so where the object is dropped. */

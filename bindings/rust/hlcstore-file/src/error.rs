@@ -102,9 +102,9 @@ impl Error {
 
     /// Returns the stamp that is the word, where the word is one.
     pub fn stamp(self) -> Option<Stamp> {
-        use hlcstore::ErrorKind::{AboveFloor, BelowHorizon, CounterFull, StampNotRising};
+        use hlcstore::ErrorKind::{AboveFloor, BelowFloor, BelowHorizon, CounterFull, StampNotRising};
         match self.kind() {
-            ErrorKind::Store(AboveFloor | BelowHorizon | CounterFull | StampNotRising) => {
+            ErrorKind::Store(AboveFloor | BelowFloor | BelowHorizon | CounterFull | StampNotRising) => {
                 Some(Stamp::from_bits(self.word))
             }
             _ => None,

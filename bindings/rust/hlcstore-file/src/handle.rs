@@ -351,7 +351,7 @@ impl Handle {
         match self.ask(|lent, node| unsafe { store::hlc_store_floor_node(lent, node) }) {
             // A node's number is below 1,024.
             Ok(node) => Ok(Some(node as u16)),
-            Err(error) if error.code() == store::HLC_NO_NODE => Ok(None),
+            Err(error) if error.code() == store::HLC_ALL_RETIRED => Ok(None),
             Err(error) => Err(error),
         }
     }

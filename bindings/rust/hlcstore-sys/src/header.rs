@@ -56,6 +56,12 @@ pub const HLC_NO_INCREMENT: u32 = 110;
 pub const HLC_NOT_LATER: u32 = 111;
 pub const HLC_CHANGED: u32 = 112;
 pub const HLC_NOT_PARTS: u32 = 113;
+pub const HLC_BAD_NODE_COUNT: u32 = 114;
+pub const HLC_ALL_RETIRED: u32 = 115;
+pub const HLC_BELOW_FLOOR: u32 = 116;
+pub const HLC_AFTER_LAST: u32 = 117;
+pub const HLC_NOT_UNDER_WAY: u32 = 118;
+pub const HLC_IS_UNDER_WAY: u32 = 119;
 
 #[repr(C)]
 #[derive(Clone, Copy, Debug, PartialEq, Eq)]

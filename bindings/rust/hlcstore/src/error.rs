@@ -28,7 +28,7 @@ pub struct Error {
 #[derive(Clone, Copy, Debug, PartialEq, Eq, Hash)]
 #[non_exhaustive]
 pub enum ErrorKind {
-    /// No node has this number. When a store is opened: the number of nodes is not 1 to 64.
+    /// No node has this number.
     NoNode,
     /// The reading is 2^48 or more.
     ReadingTooLarge,
@@ -41,8 +41,7 @@ pub enum ErrorKind {
     /// The stamp is above the floor, which is the word. Of an increment: above the floor of the older checkpoint, which
     /// is the word.
     AboveFloor,
-    /// The stamp is below the horizon, which is the word. When a node joins: the start is below the floor, which is the
-    /// word.
+    /// The stamp is below the horizon, which is the word.
     BelowHorizon,
     /// The snapshot is not open.
     NoSnapshot,
@@ -85,6 +84,10 @@ pub enum ErrorKind {
     Changed,
     /// Two checkpoints are no neighbouring parts of one store. The word is the number of the first thing that differs.
     NotParts,
+    /// A store is opened, and the number of nodes is not 1 to 64.
+    BadNodeCount,
+    /// A node joins, and its start is below the floor, which is the word.
+    BelowFloor,
     /// An answer that this version of the crate does not know.
     Other,
 }
@@ -139,6 +142,8 @@ impl Error {
             sys::HLC_NOT_LATER => ErrorKind::NotLater,
             sys::HLC_CHANGED => ErrorKind::Changed,
             sys::HLC_NOT_PARTS => ErrorKind::NotParts,
+            sys::HLC_BAD_NODE_COUNT => ErrorKind::BadNodeCount,
+            sys::HLC_BELOW_FLOOR => ErrorKind::BelowFloor,
             _ => ErrorKind::Other,
         }
     }
@@ -155,9 +160,11 @@ impl fmt::Display for Error {
     fn fmt(&self, f: &mut fmt::Formatter<'_>) -> fmt::Result {
         f.write_str(Words::of(sys::hlc_error_text, self.code).as_str())?;
         match self.kind() {
-            ErrorKind::CounterFull | ErrorKind::StampNotRising | ErrorKind::AboveFloor | ErrorKind::BelowHorizon => {
-                write!(f, " ({})", Stamp::from_bits(self.word))
-            }
+            ErrorKind::CounterFull
+            | ErrorKind::StampNotRising
+            | ErrorKind::AboveFloor
+            | ErrorKind::BelowHorizon
+            | ErrorKind::BelowFloor => write!(f, " ({})", Stamp::from_bits(self.word)),
             ErrorKind::NotNext
             | ErrorKind::BadLine
             | ErrorKind::NotShown

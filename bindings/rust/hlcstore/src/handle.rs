@@ -195,7 +195,7 @@ impl Handle {
         let mut stamp = 0;
         match self.ask(|store, id| unsafe { sys::hlc_snapshot_at_place(store, place, id, &mut stamp) }) {
             Ok(id) => Ok(Some(OpenSnapshot { id, stamp: Stamp::from_bits(stamp) })),
-            Err(error) if error.code() == sys::HLC_NO_SNAPSHOT => Ok(None),
+            Err(error) if error.code() == sys::HLC_AFTER_LAST => Ok(None),
             Err(error) => Err(error),
         }
     }
@@ -326,7 +326,7 @@ impl Handle {
         match self.ask(|store, node| unsafe { sys::hlc_store_floor_node(store, node) }) {
             // A node's number is below 1,024.
             Ok(node) => Ok(Some(node as u16)),
-            Err(error) if error.code() == sys::HLC_NO_NODE => Ok(None),
+            Err(error) if error.code() == sys::HLC_ALL_RETIRED => Ok(None),
             Err(error) => Err(error),
         }
     }

@@ -60,7 +60,7 @@ pub struct Sizes {
 impl Store {
     /// Opens a store of so many nodes, 1 to 64, numbered from 0, in which nothing took place.
     ///
-    /// Refusals: `NoNode`, `NoMemory`.
+    /// Refusals: `BadNodeCount`, `NoMemory`.
     pub fn open(nodes: u16) -> Result<Store> {
         let store = Store::closed();
         store.reopen(nodes)?;
@@ -85,7 +85,7 @@ impl Store {
 
     /// Opens this closed store as [`open`](Store::open) does.
     ///
-    /// Refusals: `IsOpen`, `NoNode`, `NoMemory`.
+    /// Refusals: `IsOpen`, `BadNodeCount`, `NoMemory`.
     pub fn reopen(&self, nodes: u16) -> Result<()> {
         self.write().open(nodes)
     }
@@ -137,7 +137,7 @@ impl Store {
     /// retention threshold changes nothing here; the greatest is returned, and the caller may vacuum to it.
     ///
     /// Refusals, of each item those of [`accept_items`](Store::accept_items); of each join in this order: `NotNext`,
-    /// with the number of the next node; `TooManyNodes`; `BelowHorizon`, with the floor; `NoMemory`.
+    /// with the number of the next node; `TooManyNodes`; `BelowFloor`, with the floor; `NoMemory`.
     pub fn apply_records(&self, log: &[u8]) -> std::result::Result<Applied, Stopped> {
         self.write().apply_records(log)
     }
@@ -152,7 +152,7 @@ impl Store {
     /// Lets a node join that starts at this stamp, at or above the floor, and returns it. Stores that accept the same
     /// items agree on a join if each gets the same start, whatever their floors are then.
     ///
-    /// Refusals, in this order: `TooManyNodes`; `BelowHorizon`, with the floor; `NoMemory`.
+    /// Refusals, in this order: `TooManyNodes`; `BelowFloor`, with the floor; `NoMemory`.
     pub fn join_at(&self, start: Stamp) -> Result<Node> {
         self.write().join_at(start)
     }
