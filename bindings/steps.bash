@@ -3,6 +3,13 @@ bindings=$(cd "$(dirname "${BASH_SOURCE[0]}")" && pwd)
 top=$(dirname "$bindings")
 header=$top/include/hlcstore.h
 version=$(sed -n 's/^#define HLC_VERSION "\(.*\)"$/\1/p' "$header")
+# abi_of VERSION: prints the part of a version that an ABI has: its first number, or before 1.0 the first two.
+abi_of() {
+    case $1 in
+        0.*) echo "${1%.*}" ;;
+        *) echo "${1%%.*}" ;;
+    esac
+}
 scratch=$(mktemp -d)
 trap 'rm -rf "$scratch"' EXIT
 prefix=$scratch/prefix

@@ -253,8 +253,8 @@ typedef char hlc_answer_has_32_bits[sizeof(hlc_answer) == sizeof(uint32_t) ? 1 :
 
 /* ---- The library ---- */
 
-#define HLC_VERSION "0.1.0"
-#define HLC_VERSION_NUMBER 100
+#define HLC_VERSION "0.2.0"
+#define HLC_VERSION_NUMBER 200
 
 /* Returns the version of the library: 10,000 times its first number, 100 times the second, and the third. It is
  * HLC_VERSION_NUMBER if the library is that of this header. PREFIX/share/hlcstore/verdict.txt, which is installed with

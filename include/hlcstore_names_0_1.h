@@ -1,5 +1,6 @@
 /* The first names of the calls of hlcstore.h and hlcstore_inline.h, before each was hlc_NOUN_VERB, for programs
- * that still have them: include this header in place of those. */
+ * that still have them: include this header in place of those. Some answers have had numbers of their own since then,
+ * which CHANGELOG.md lists: a program that compares with the old ones must be changed. */
 #ifndef HLCSTORE_NAMES_0_1_H
 #define HLCSTORE_NAMES_0_1_H
 #include "hlcstore_inline.h"

@@ -14,7 +14,8 @@ from raw_calls import PLACE, Handle, Library
 
 ROUNDS = 300
 OK, NOT_NEXT, ABOVE_FLOOR, BELOW_HORIZON, NO_SNAPSHOT, NO_MEMORY = 0, 6, 8, 9, 10, 15
-CLOSED, IS_OPEN, MORE, BAD_BYTES, NO_CHECKPOINT, HAS_BYTES, NOT_FEWEST = 100, 101, 104, 106, 107, 108, 109
+MORE, BAD_BYTES, NO_CHECKPOINT, HAS_BYTES, NOT_FEWEST = 104, 106, 107, 108, 109
+CLOSED, AFTER_LAST, NOT_UNDER_WAY, IS_UNDER_WAY = 100, 117, 118, 119
 NO_INCREMENT, NOT_LATER, CHANGED = 110, 111, 112
 TOP = 2**64 - 1
 
@@ -414,7 +415,7 @@ def open_snapshots(store):
     found = []
     while True:
         code, id, stamp = library.call("snapshot_at_place", store, len(found))
-        if code == NO_SNAPSHOT:
+        if code == AFTER_LAST:
             return found
         found.append((id, stamp))
 
@@ -482,10 +483,10 @@ def save_in_pieces(pick, store, word):
     """Saves a store in pieces, and returns the bytes."""
     saving = Handle()
     length = ok("saving_start", saving, store, word)
-    assert library.call("saving_start", saving, store, word) == (IS_OPEN, 0)
+    assert library.call("saving_start", saving, store, word) == (IS_UNDER_WAY, 0)
     saved = read_saving(pick, saving, store)
     assert len(saved) == length
-    assert library.call("saving_read", saving, store, 9) == (CLOSED, 0, b"")
+    assert library.call("saving_read", saving, store, 9) == (NOT_UNDER_WAY, 0, b"")
     return saved
 
 
@@ -500,7 +501,7 @@ def change_while_saved(pick, saved):
     ok("snapshot_close", store, id)
     assert library.call("saving_read", saving, store, 9) == (CHANGED, 0, b"")
     library.call("saving_drop", saving)
-    assert library.call("saving_read", saving, store, 9) == (CLOSED, 0, b"")
+    assert library.call("saving_read", saving, store, 9) == (NOT_UNDER_WAY, 0, b"")
     library.call("store_close", store)
 
 

@@ -198,11 +198,13 @@ def count_reads(calls, store):
     words = {"snapshot_list": whole[2:], "snapshot_count": whole[:2], "snapshot_digest": whole}
     words |= {"snapshot_scan": whole, "snapshot_scan_keys": whole, "snapshot_scan_back": whole}
     words |= {"snapshot_changes": (1, *whole)}
-    words |= {"snapshot_read": (KEY % 1, PLENTY), "snapshot_read_all": (places, texts, PLENTY), "snapshot_at_place": ()}
+    words |= {"snapshot_read": (KEY % 1, PLENTY), "snapshot_read_all": (places, texts, PLENTY)}
     for name, args in words.items():
         calls.count(10, name, store, 9, *args)
         calls.count(CLOSED, name, Handle(), 1, *args)
     calls.count(10, "snapshot_changes", store, 1, 9, *whole)
+    calls.count(117, "snapshot_at_place", store, 9)
+    calls.count(CLOSED, "snapshot_at_place", Handle(), 0)
 
 
 def count_questions(calls, store, floor, retired):
@@ -215,7 +217,7 @@ def count_questions(calls, store, floor, retired):
             for room in 0, PLENTY:
                 calls.count(answer, "store_versions", each, key, 0, TOP, room)
         calls.count(answer, "store_check_vacuum", each, floor)
-    calls.count(1, "store_floor_node", retired)
+    calls.count(115, "store_floor_node", retired)
     calls.count(1, "store_link", store, 2)
     calls.count(8, "store_check_vacuum", store, floor + 1)
     calls.count(9, "store_check_vacuum", store, floor - 1)
@@ -319,13 +321,13 @@ def count_opening(calls, store, floor, spent):
     calls.ok("store_open", snapshots, 1)
     for _ in range(1024):
         calls.ok("snapshot_open_at_floor", snapshots)
-    calls.count(1, "store_open", Handle(), 65)
+    calls.count(114, "store_open", Handle(), 65)
     calls.count(101, "store_open", store, 1)
     for answer, each in (26, nodes), (CLOSED, Handle()):
         calls.count(answer, "store_join", each)
         calls.count(answer, "store_join_at", each, TOP)
-    calls.count(9, "store_join_at", store, floor - 1)
-    for answer, each, join in (26, nodes, (1024, TOP)), (9, store, (2, floor - 1)), (6, store, (3, TOP)):
+    calls.count(116, "store_join_at", store, floor - 1)
+    for answer, each, join in (26, nodes, (1024, TOP)), (116, store, (2, floor - 1)), (6, store, (3, TOP)):
         calls.count(answer, "store_apply_records", each, calls.ok("record_encode_join", *join, PLENTY)[1])
     for answer, each in (11, snapshots), (14, spent), (CLOSED, Handle()):
         calls.count(answer, "snapshot_open", each, 0)
@@ -388,10 +390,10 @@ def count_restores(calls, store):
     damaged, no_nodes = bytes(60), checkpoint_of(0, 0, 0)
     calls.count(101, "store_restore", store, no_nodes)
     calls.count(106, "store_restore", Handle(), damaged)
-    calls.count(100, "restoring_feed", Handle(), KEY)
-    calls.count(100, "restoring_finish", Handle(), Handle())
+    calls.count(118, "restoring_feed", Handle(), KEY)
+    calls.count(118, "restoring_finish", Handle(), Handle())
     restoring = restoring_of(calls, damaged)
-    calls.count(101, "restoring_start", restoring)
+    calls.count(119, "restoring_start", restoring)
     calls.count(101, "restoring_finish", restoring, store)
     calls.count(106, "restoring_finish", restoring, Handle())
 
@@ -400,9 +402,9 @@ def count_savings(calls, store, other):
     """Counts the refusals of savings, and their end."""
     saving = Handle()
     calls.count(CLOSED, "saving_start", saving, Handle(), 5)
-    calls.count(CLOSED, "saving_read", saving, store, 5)
+    calls.count(118, "saving_read", saving, store, 5)
     calls.ok("saving_start", saving, store, 5)
-    calls.count(101, "saving_start", saving, store, 5)
+    calls.count(119, "saving_start", saving, store, 5)
     calls.count(CLOSED, "saving_read", saving, Handle(), 5)
     calls.count(112, "saving_read", saving, other, 5)
     for _ in range(2):

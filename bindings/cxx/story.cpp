@@ -219,7 +219,7 @@ void opened(const store& store, std::size_t place) {
   if (place < open.size()) {
     print("opened", HLC_OK, open[place].id, open[place].stamp.word);
   } else {
-    print("opened", HLC_NO_SNAPSHOT, 0, 0);
+    print("opened", HLC_AFTER_LAST, 0, 0);
   }
 }
 

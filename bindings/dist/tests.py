@@ -28,10 +28,10 @@ DYNAMIC = """
 Dynamic Section:
   NEEDED               libz.so.1
   NEEDED               libc.so.6
-  SONAME               libhlcstore-file.so.0
+  SONAME               libhlcstore-file.so.0.2
 
 Version definitions:
-1 0x01 0x0acd1bf0 libhlcstore-file.so.0
+1 0x01 0x0acd1bf0 libhlcstore-file.so.0.2
 2 0x00 0x0c8a5ac0 GLIBC_9.9
 
 Version References:

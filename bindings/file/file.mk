@@ -2,7 +2,7 @@
 
 FILE_HEADER  := file/hlcstore_file.h
 FILE_VERSION := $(shell sed -n 's/^.define HLC_FILE_VERSION "\(.*\)"$$/\1/p' $(FILE_HEADER))
-FILE_SONAME  := libhlcstore-file.so.$(firstword $(subst ., ,$(FILE_VERSION)))
+FILE_SONAME  := libhlcstore-file.so.$(call abi_of,$(FILE_VERSION))
 FILE_SHARED  := libhlcstore-file.so.$(FILE_VERSION)
 FILE_FLAGS   := -std=c11 -O2 -g -Wall -Wextra -fPIC -pthread
 FILE_NEEDS   := -lsqlite3 -lz -pthread

@@ -32,7 +32,7 @@
 extern "C" {
 #endif
 
-#define HLC_FILE_VERSION "0.1.0"
+#define HLC_FILE_VERSION "0.2.0"
 
 /* An open file. */
 typedef struct hlc_file hlc_file;

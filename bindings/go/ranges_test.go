@@ -433,7 +433,7 @@ func TestNoStoreJoinsWhereOneIsFull(t *testing.T) {
 	_, err := r.Join()
 	refused(t, err, hlcstore.ErrTooManyNodes, 0)
 	equal(t, must(r.Nodes()), 1024)
-	refused(t, second(hlcstore.OpenRanges(byLetters, 65)), hlcstore.ErrNoNode, 0)
+	refused(t, second(hlcstore.OpenRanges(byLetters, 65)), hlcstore.ErrBadNodeCount, 0)
 }
 
 func TestRestoredMachineGoesOn(t *testing.T) {

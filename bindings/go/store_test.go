@@ -13,7 +13,7 @@ import (
 func TestOpenTakes1To64Nodes(t *testing.T) {
 	for _, nodes := range []uint16{0, 65, 65535} {
 		store, err := hlcstore.Open(nodes)
-		refused(t, err, hlcstore.ErrNoNode, 0)
+		refused(t, err, hlcstore.ErrBadNodeCount, 0)
 		if store != nil {
 			t.Error(store)
 		}
@@ -281,7 +281,7 @@ func TestRecordsJoinNodesAndRaiseTheThreshold(t *testing.T) {
 	refused(t, err, hlcstore.ErrNotNext, 2)
 	equal(t, applied, hlcstore.Applied{Records: 1, Bytes: 9, Threshold: at(1)})
 	_, err = store.ApplyRecords(hlcstore.AppendJoin(nil, 2, at(5)))
-	refused(t, err, hlcstore.ErrBelowHorizon, uint64(at(6)))
+	refused(t, err, hlcstore.ErrBelowFloor, uint64(at(6)))
 }
 
 func TestJoins(t *testing.T) {
@@ -294,7 +294,7 @@ func TestJoins(t *testing.T) {
 	ok(t, err)
 	equal(t, *node, *hlcstore.NewNode(2, at(8)))
 	_, err = store.JoinAt(at(4))
-	refused(t, err, hlcstore.ErrBelowHorizon, uint64(at(5)))
+	refused(t, err, hlcstore.ErrBelowFloor, uint64(at(5)))
 	for i := 3; i < 1024; i++ {
 		must(store.Join())
 	}
@@ -319,7 +319,7 @@ func TestFloorWaitsForTheSlowestNode(t *testing.T) {
 	ok(t, store.Accept(must(a.Retire(10))))
 	ok(t, store.Accept(must(b.Retire(10))))
 	_, err = store.FloorNode()
-	refused(t, err, hlcstore.ErrNoNode, 0)
+	refused(t, err, hlcstore.ErrAllRetired, 0)
 }
 
 func TestSizesAndVersions(t *testing.T) {

@@ -212,7 +212,7 @@ def print_sizes(store):
 def print_opened(store):
     for snapshot in store.snapshots():
         put("opened", 0, snapshot.id, snapshot.stamp)
-    put("opened", 10, 0, 0)
+    put("opened", 117, 0, 0)
 
 
 def save(store):

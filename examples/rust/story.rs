@@ -190,7 +190,7 @@ fn print_sizes(store: &Store) {
 fn opened(store: &Store, place: usize) {
     match store.snapshots().unwrap().get(place) {
         Some(open) => println!("opened 0 {} {}", open.id, open.stamp.to_bits()),
-        None => println!("opened 10 0 0"),
+        None => println!("opened 117 0 0"),
     }
 }
 

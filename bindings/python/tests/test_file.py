@@ -299,7 +299,7 @@ class Reads(InFolder):
         self.assertEqual(file.link(0), (901, stamp(901), True))
         with self.assertRaises(hlcstore.NoNode):
             file.link(1)
-        with self.assertRaises(hlcstore.NoNode):
+        with self.assertRaises(hlcstore.AllRetired):
             file.floor_node()
 
     def test_versions(self):

@@ -13,8 +13,8 @@ import unittest
 from unittest import mock
 
 import hlcstore
-from hlcstore import AboveFloor, BadKey, BelowHorizon, Closed, CounterFull, Error, Item, Link, NoNode, NoSnapshot
-from hlcstore import NotNext, Retired, Stamp, Store, TooManyNodes, TooManySnapshots, Vacuum, ranges
+from hlcstore import AboveFloor, BadKey, BadNodeCount, BelowHorizon, Closed, CounterFull, Error, Item, Link, NoNode
+from hlcstore import NoSnapshot, NotNext, Retired, Stamp, Store, TooManyNodes, TooManySnapshots, Vacuum, ranges
 from hlcstore.ranges import BadDivision, Division, Machine, NotOneCut, Ranges, RangesSnapshot, WrongStore
 
 LETTERS = Division.by_keys([b"g", b"n", b"t"])
@@ -307,7 +307,7 @@ class Stores(unittest.TestCase):
         with self.assertRaises(TooManyNodes):
             stores.join()
         self.assertEqual(stores.nodes, 1024)
-        with self.assertRaises(NoNode):
+        with self.assertRaises(BadNodeCount):
             Ranges(LETTERS, 65)
 
     def test_restored_stores_answer_alike(self):

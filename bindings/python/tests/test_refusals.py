@@ -126,7 +126,7 @@ REFUSED = {
     hlcstore.NotParts: (lambda: hlcstore.merge_checkpoints(fed().checkpoint(), fed().checkpoint()), 4),
     hlcstore.BadNodeCount: (lambda: Store(0), 0),
     hlcstore.AllRetired: (lambda: all_retired().floor_node(), 0),
-    hlcstore.BelowFloor: (lambda: fed().join(stamp(1)), stamp(2)),
+    hlcstore.BelowFloor: (lambda: fed().join_at(stamp(1)), stamp(2)),
 }
 # How the text of a refusal has its word.
 WORDS = {

@@ -9,9 +9,9 @@ use hlc_calls::open_store::fill;
 /// Returns the version of the library: 10,000 times its first number, 100 times the second, and the third.
 #[unsafe(no_mangle)]
 pub extern "C" fn hlc_version() -> u32
-    ensures { result ≡ 100 }
+    ensures { result ≡ 200 }
 {
-    100
+    200
 }
 
 /// Writes the name of an answer in the header: its length, 0 for no answer, and, where they fit, its bytes.

@@ -15,9 +15,12 @@ below `Error`. A number that is negative or has too many bits is an OverflowErro
 
 from ._errors import (
     AboveFloor,
+    AllRetired,
     BadBytes,
     BadKey,
     BadLine,
+    BadNodeCount,
+    BelowFloor,
     BelowHorizon,
     Changed,
     Closed,
@@ -64,10 +67,13 @@ from ._stamp import Stamp
 
 __all__ = [
     "AboveFloor",
+    "AllRetired",
     "Applied",
     "BadBytes",
     "BadKey",
     "BadLine",
+    "BadNodeCount",
+    "BelowFloor",
     "BelowHorizon",
     "Certified",
     "Changed",

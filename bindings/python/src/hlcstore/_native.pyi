@@ -43,6 +43,9 @@ HLC_NO_INCREMENT: Final[int]
 HLC_NOT_LATER: Final[int]
 HLC_CHANGED: Final[int]
 HLC_NOT_PARTS: Final[int]
+HLC_BAD_NODE_COUNT: Final[int]
+HLC_ALL_RETIRED: Final[int]
+HLC_BELOW_FLOOR: Final[int]
 
 def apply_increment(older: ReadableBuffer, increment: ReadableBuffer) -> bytes: ...
 def check(certificate: ReadableBuffer, /) -> Checked: ...

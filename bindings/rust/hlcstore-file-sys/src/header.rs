@@ -3,7 +3,7 @@
 use core::ffi::c_char;
 use hlcstore_sys::{hlc_output, hlc_store};
 
-pub const HLC_FILE_VERSION: &str = "0.1.0";
+pub const HLC_FILE_VERSION: &str = "0.2.0";
 pub const HLC_FILE_BATCH_BYTES: usize = 64 << 20;
 pub const HLC_FILE_NOW: u64 = u64::MAX;
 

@@ -21,8 +21,8 @@ pub const HLC_JOIN_LEN: u32 = 11;
 pub const HLC_THRESHOLD_LEN: u32 = 9;
 pub const HLC_DIGEST_LEN: u32 = 32;
 pub const HLC_ROW_COST: u32 = 10;
-pub const HLC_VERSION: &str = "0.1.0";
-pub const HLC_VERSION_NUMBER: u32 = 100;
+pub const HLC_VERSION: &str = "0.2.0";
+pub const HLC_VERSION_NUMBER: u32 = 200;
 
 pub const HLC_OK: u32 = 0;
 pub const HLC_NO_NODE: u32 = 1;

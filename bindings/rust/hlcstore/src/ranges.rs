@@ -49,7 +49,7 @@ pub struct Ranges {
 impl Ranges {
     /// Opens the stores of a division, each with so many nodes, 1 to 64: node n of each store is that of machine n.
     ///
-    /// Refusals, of a store: `NoNode`, `NoMemory`.
+    /// Refusals, of a store: `BadNodeCount`, `NoMemory`.
     pub fn open(division: &Division, machines: u16) -> Result<Ranges> {
         let open = |store| SharedStore::open(machines).map_err(RangesError::of_store(store));
         let stores = (0..division.stores()).map(open).collect::<Result<_>>()?;

@@ -22,8 +22,8 @@ fn item(number: u64, reading: u64) -> Item<'static> {
 fn store_is_closed_or_open() {
     let store = Store::closed();
     assert_eq!(refused(store.floor()), (ErrorKind::Closed, 0));
-    assert_eq!(refused(store.reopen(0)), (ErrorKind::NoNode, 0));
-    assert_eq!(refused(store.reopen(65)), (ErrorKind::NoNode, 0));
+    assert_eq!(refused(store.reopen(0)), (ErrorKind::BadNodeCount, 0));
+    assert_eq!(refused(store.reopen(65)), (ErrorKind::BadNodeCount, 0));
     store.reopen(64).unwrap();
     assert_eq!(refused(store.reopen(1)), (ErrorKind::IsOpen, 0));
     let saved = store.checkpoint(0).unwrap();
@@ -116,7 +116,7 @@ fn snapshots_and_vacuums_are_refused() {
     assert_eq!(refused(store.certificate(at(4))), (ErrorKind::BelowHorizon, floor));
     assert_eq!(refused(store.vacuum_part(at(4), b"", 1)), (ErrorKind::BelowHorizon, floor));
     assert_eq!(refused(store.check_vacuum(at(4))), (ErrorKind::BelowHorizon, floor));
-    assert_eq!(refused(store.join_at(at(4))), (ErrorKind::BelowHorizon, at(6).to_bits()));
+    assert_eq!(refused(store.join_at(at(4))), (ErrorKind::BelowFloor, at(6).to_bits()));
     assert_eq!(refused(store.snapshot_by_id(1)), (ErrorKind::NoSnapshot, 0));
 
     let mut open: Vec<_> = (0..1024).map(|_| store.snapshot().unwrap()).collect();
@@ -264,7 +264,7 @@ fn texts_are_those_of_the_library() {
     let error = store.snapshot_at(Stamp::new(5, 1)).unwrap_err();
     assert_eq!(error.to_string(), "the stamp is above the floor (5.0)");
     let error = store.join_at(Stamp::new(4, 1)).unwrap_err();
-    assert_eq!(error.to_string(), "the stamp is below the horizon, or the start below the floor (5.0)");
+    assert_eq!(error.to_string(), "the start is below the floor (5.0)");
     let error = store.accept(item(1, 5)).unwrap_err();
     assert_eq!(error.to_string(), "the stamp is not above that of the last accepted item of the node (5.0)");
     let error = Node::new(0, Stamp::new(5, u16::MAX)).send(5).unwrap_err();

@@ -430,7 +430,7 @@ fn checkpoints_beside_joins_have_the_same_nodes() {
 #[test]
 fn stores_are_opened_as_stores() {
     for machines in [0, 65] {
-        assert_eq!(refusal(Ranges::open(&by_keys(), machines)), (0, ErrorKind::NoNode));
+        assert_eq!(refusal(Ranges::open(&by_keys(), machines)), (0, ErrorKind::BadNodeCount));
         assert!(Store::open(machines).is_err());
     }
 }

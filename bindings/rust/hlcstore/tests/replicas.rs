@@ -240,6 +240,6 @@ fn records_are_applied_and_passed_over() {
     let error = store.apply_records(&gap).unwrap_err().error;
     assert_eq!((error.kind(), error.word()), (ErrorKind::NotNext, 2));
     let early = Record::Join { node: 2, start: Stamp::new(4, 0) }.encode().unwrap();
-    assert_eq!(store.apply_records(&early).unwrap_err().error.kind(), ErrorKind::BelowHorizon);
+    assert_eq!(store.apply_records(&early).unwrap_err().error.kind(), ErrorKind::BelowFloor);
     assert_eq!(store.nodes(), Ok(2));
 }
