@@ -238,6 +238,19 @@ impl Handle {
         }
     }
 
+    /// Writes the value of a key to the start of a buffer, if it fits, and returns its length; or none.
+    pub(crate) fn read_to(&self, id: u64, key: &[u8], out: &mut [u8]) -> Result<Option<usize>> {
+        let (mut copy, mut len) = (self.raw, 0);
+        let code = unsafe {
+            sys::hlc_snapshot_read(&mut copy, id, key.as_ptr(), key.len(), out.as_mut_ptr(), out.len(), &mut len)
+        };
+        match code {
+            sys::HLC_OK => Ok(Some(len)),
+            sys::HLC_NO_VALUE => Ok(None),
+            _ => Err(Error::new(code, 0)),
+        }
+    }
+
     /// Lists the entries of a range that fit in so many bytes. Returns how many these are, and whether more are left.
     pub(crate) fn scan(
         &self,

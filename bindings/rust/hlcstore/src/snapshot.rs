@@ -144,6 +144,29 @@ impl<S: Access> Snapshot<S> {
         self.handle()?.read(self.id(), key, value)
     }
 
+    /// Lends the value of a key to a function, and returns what that returned; or none, if the key has no value. The
+    /// value is a copy, so that a shared store is not locked meanwhile: one of at most 512 bytes takes no memory.
+    ///
+    /// ```
+    /// use hlcstore::{Node, Stamp, Store};
+    ///
+    /// let store = Store::open(1)?;
+    /// store.accept(Node::new(0, Stamp::ZERO).write(5, b"size", &7u32.to_le_bytes())?)?;
+    /// let size = store.snapshot()?.get_with("size", |value| value.first_chunk().map(|four| u32::from_le_bytes(*four)))?;
+    /// assert_eq!(size, Some(Some(7)));
+    /// # Ok::<(), hlcstore::Error>(())
+    /// ```
+    pub fn get_with<T>(&self, key: impl AsRef<[u8]>, read: impl FnOnce(&[u8]) -> T) -> Result<Option<T>> {
+        let (key, mut short) = (key.as_ref(), [0; 512]);
+        let found = self.handle()?.read_to(self.id(), key, &mut short)?;
+        let Some(len) = found else { return Ok(None) };
+        if let Some(value) = short.get(..len) {
+            return Ok(Some(read(value)));
+        }
+        let mut long = Vec::new();
+        Ok(self.get_into(key, &mut long)?.then(|| read(&long)))
+    }
+
     /// Returns the values of keys, in the same order. A shared store is locked once for all of them.
     pub fn get_many(&self, keys: &[&[u8]]) -> Result<Vec<Option<Vec<u8>>>> {
         let mut values = Vec::new();

@@ -210,7 +210,7 @@ fn iterator_ends_after_an_error() {
 
 #[test]
 fn values_of_all_lengths_are_read() {
-    let lengths = [0, 1, 22, 23, 63, 64, 65, 4096, 65_535];
+    let lengths = [0, 1, 22, 23, 63, 64, 65, 511, 512, 513, 4096, 65_535];
     let pairs: Pairs = lengths.iter().map(|len| (format!("{len}").into_bytes(), vec![b'v'; *len])).collect();
     let store = store_of(&pairs);
     let snapshot = store.snapshot().unwrap();
@@ -219,10 +219,12 @@ fn values_of_all_lengths_are_read() {
         assert_eq!(snapshot.get(key).unwrap().as_ref(), Some(expected));
         assert!(snapshot.get_into(key, &mut value).unwrap());
         assert_eq!(&value, expected);
+        assert_eq!(snapshot.get_with(key, <[u8]>::to_vec).unwrap().as_ref(), Some(expected));
     }
     assert!(!snapshot.get_into(b"none", &mut value).unwrap());
     assert_eq!(value, b"");
     assert_eq!(snapshot.get(b""), Ok(None));
+    assert_eq!(snapshot.get_with(b"none", |_| ()), Ok(None));
     let many = snapshot.get_many(&[b"1", b"none", b"23"]).unwrap();
     assert_eq!(many, [Some(vec![b'v'; 1]), None, Some(vec![b'v'; 23])]);
 }

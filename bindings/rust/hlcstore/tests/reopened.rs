@@ -22,6 +22,7 @@ macro_rules! refusal_of {
         let snapshot = &$snapshot;
         let refused = kind(snapshot.get(b"key"));
         assert_eq!(kind(snapshot.get_into(b"key", &mut Vec::new())), refused);
+        assert_eq!(kind(snapshot.get_with(b"key", |_| ())), refused);
         assert_eq!(kind(snapshot.get_many(&[b"key"])), refused);
         assert_eq!(kind(snapshot.scan(.., 100)), refused);
         assert_eq!(kind(snapshot.scan_keys(.., 100)), refused);
