@@ -84,7 +84,7 @@ static void print_texts(void)
         hlc_error_name(number, NULL, 0, &len);
         answers += len > 0;
     }
-    EXPECT(answers, 32);
+    EXPECT(answers, 38);
     EXPECT(has_text(UINT32_MAX), true);
     EXPECT(strcmp(hlc_strerror(HLC_NO_MEMORY), "out of memory"), 0);
 }

@@ -471,7 +471,7 @@ func keepInParts(store *hlcstore.Store, b, c *hlcstore.Node) {
 
 // begin opens the store of the story, as late as the C program does.
 func begin() *hlcstore.Store {
-	fmt.Println("version", hlcstore.LibraryVersion()-100)
+	fmt.Println("version", hlcstore.LibraryVersion()-200)
 	for _, code := range []hlcstore.Code{0, 6, 4, 107, 108} {
 		fmt.Printf("answer %d %s: %s\n", uint32(code), code.Name(), code.Text())
 	}

@@ -362,7 +362,7 @@ def keep_in_parts(store, b, c):
 
 def begin():
     """Opens the store of the story, as late as the C program does."""
-    put("version", hlcstore.version() - 100)
+    put("version", hlcstore.version() - 200)
     for answer in 0, 6, 4, 107, 108:
         print(f"answer {answer} {hlcstore.error_name(answer)}: {hlcstore.error_text(answer)}")
     with Store(1) as closed:

@@ -387,7 +387,7 @@ fn certify(store: &Store) {
 }
 
 fn main() {
-    println!("version {}", hlcstore::version() - 100);
+    println!("version {}", hlcstore::version() - 200);
     for answer in [0, 6, 4, 107, 108] {
         println!("answer {answer} {}: {}", hlcstore::error_name(answer), hlcstore::error_text(answer));
     }
