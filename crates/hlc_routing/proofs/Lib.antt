@@ -9,3 +9,7 @@ pub mod Vacuuming
 pub mod Joining
 pub mod Copying
 pub mod Machines
+pub mod Closing
+pub mod Gathered
+pub mod Apart
+pub mod Newcomer

@@ -42,7 +42,8 @@ get-push_here (x ∷ xs) y (suc i) e = get-push_here xs y i (omega arith)
 pub some-same : {X : Type 0} (x y : X) → Some x ≡ Some y → x ≡ y
 some-same x y e = cc
 
-pub past-same : (s t : ℕ) (step : Step) (run : List Turn) → t ≡ s → past_of s (Stepped t step ∷ run) ≡ step ∷ past_of s run
+pub past-same : (s t : ℕ) (step : Step) (run : List Turn) → t ≡ s
+    → past_of s (Stepped t step ∷ run) ≡ step ∷ past_of s run
 past-same s t step run e = cond-true _ _ _ (eq-eqb _ _ e)
 
 pub past-other : (s t : ℕ) (step : Step) (run : List Turn) → (t ≡ s → ⊥)

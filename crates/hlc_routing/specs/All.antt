@@ -85,6 +85,17 @@ abbrev pub OpensAll : Layout → RangesView → RangesView → ℕ → List Turn
 OpensAll layout old new stamp run (Ok snapshot) = HaveOpened layout new stamp run snapshot
 OpensAll layout old new stamp run (Err fault) = HaveNoMemory old new fault ⊎ HaveClosedAgain layout new stamp run fault
 
+-- the run after a store closed the snapshot with an id, if it is open there, at this stamp
+abbrev pub closed_at : Option ℕ → ℕ → ℕ → List Turn → List Turn
+closed_at None s id run = run
+closed_at (Some stamp) s id run = Stepped s (Closed id) ∷ run
+
+-- the run after each of the first stores closed the snapshot with its id, where it is open
+abbrev pub each_closed : List ℕ → ℕ → List Turn → List Turn
+each_closed ids zero run = run
+each_closed ids (suc n) run =
+    closed_at (stamp_of (get_or ids n 0) (past_of n (each_closed ids n run))) n (get_or ids n 0) (each_closed ids n run)
+
 -- the snapshot was closed in all stores
 abbrev pub ClosesAll : Layout → RangesView → SnapshotView → List Turn → Type 0
 ClosesAll layout new snapshot run =
@@ -180,10 +191,21 @@ pub record HasOpenedSome (layout : Layout) (kept : RangesView) (stamp : ℕ) (ru
   pub opened : HasOpenedTo layout kept stamp run ids at
   pub why : IsStoreRefusal (open_refusals layout run stamp at) fault
 
--- a snapshot with each of these ids is open in its store, the first store's first
+-- a snapshot with the id is open in the store
+abbrev pub IsOpenIn : List Turn → ℕ → ℕ → Type 0
+IsOpenIn run s id = (stamp : ℕ) × (stamp_of id (past_of s run) ≡ Some stamp)
+
+-- a snapshot with each of the first ids is open in its store, the first store's first
+abbrev pub AreOpenUpto : List Turn → List ℕ → ℕ → Type 0
+AreOpenUpto run ids n = (s : ℕ) → s < n → IsOpenIn run s (get_or ids s 0)
+
+-- with each of these ids
 abbrev pub AreOpenTo : List Turn → List ℕ → Type 0
-AreOpenTo run ids =
-    (s : ℕ) → s < length ids → (stamp : ℕ) × (stamp_of (get_or ids s 0) (past_of s run) ≡ Some stamp)
+AreOpenTo run ids = AreOpenUpto run ids (length ids)
+
+-- each store has a snapshot with its id open
+abbrev pub AreOpenIn : Layout → List Turn → List ℕ → Type 0
+AreOpenIn layout run ids = (length ids ≡ layout.stores) × AreOpenTo run ids
 
 -- each checkpoint is that of its store
 pub record AreCheckpoints (stores made : List StoreView) : Type 0 where

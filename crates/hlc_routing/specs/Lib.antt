@@ -1,5 +1,6 @@
 pub mod Division
 pub mod Ranges
 pub mod All
+pub mod Listing
 pub mod Faults
 pub mod Machine

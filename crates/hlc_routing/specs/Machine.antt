@@ -1,6 +1,6 @@
 -- A machine that writes to several stores: one clock, and a node in each store.
 use Rattle.std.specs.Prelude.{◌≡◌, ℕ, ◌+◌, ◌<◌, ◌≤◌, List, [], ◌∷◌, ◌++◌, length, max, set, Option, Some, None, slice_get}
-use Rattle.std.specs.Prelude.{Ok, Err}
+use Rattle.std.specs.Prelude.{Ok, Err, false}
 use Rattle.std.specs.Option.{option_map}
 use Rattle.hlc_node.specs.Node.{NodeView, stamped, next_item, after_issue, expected_issue}
 use Rattle.hlc_node.specs.declared.item.Item.{Item}
@@ -77,3 +77,16 @@ IsDividedBy layout division = (key : List ℕ) → layout.store_of key ≡ store
 abbrev pub issued_from : ℕ → List Item → List Turn → List Turn
 issued_from s [] run = run
 issued_from s (item ∷ items) run = issued_from (s + 1) items (Issued s item ∷ run)
+
+-- a node that has issued nothing, with this number
+pub record IsNewNode (number : ℕ) (node : NodeView) : Type 0 where
+  pub id : node.id ≡ number
+  pub next : node.next ≡ 0
+  pub retired : node.retired ≡ false
+
+-- a machine of new nodes, which joined the stores with these numbers, at these starts: its clock is not below them
+pub record IsNewMachine (made : List (ℕ × ℕ)) (machine : MachineView) : Type 0 where
+  pub many : length machine.nodes ≡ length made
+  pub fresh : (s : ℕ) (node : NodeView) → slice_get machine.nodes s ≡ Some node
+      → (joined : ℕ × ℕ) × (slice_get made s ≡ Some joined) × IsNewNode joined.0 node
+  pub clock : (s : ℕ) (joined : ℕ × ℕ) → slice_get made s ≡ Some joined → joined.1 ≤ machine.last

@@ -2,14 +2,15 @@
 ghost use Rattle.std.specs.Prelude.{◌≡◌, ◌≤◌, ◌<◌, ◌↔◌, ℕ, List, [], Some, length, vec_len, vec_capacity, get_or};
 ghost use Rattle.std.specs.Prelude.{IsTrue, IfOk, IfErr, OnOk, OnErr, IsOkAnd, MatchResult, option_copied};
 ghost use Rattle.hlc_node.specs.Rows.{answer};
-ghost use Rattle.hlc_core.specs.Past.{Closed, Vacuumed};
-ghost use Rattle.hlc_ranges.specs.Run.{Layout, Turn, issued_writes};
+ghost use Rattle.hlc_core.specs.Past.{Vacuumed, stamp_of};
+ghost use Rattle.hlc_ranges.specs.Run.{Layout, Turn, issued_writes, past_of};
 ghost use Rattle.hlc_ranges.specs.Cut.{IsConsistent};
 ghost use Rattle.hlc_routing.specs.Ranges.{RangesView, Represents, IsLeastFloor};
 ghost use Rattle.hlc_routing.specs.All.{each_stepped, IsOpenAll, OpensAll, ClosesAll, HaveStepped, HaveStopped};
 ghost use Rattle.hlc_routing.specs.All.{AreVacuumed, AreVacuumedSome, HaveJoined, HaveJoinedSome, next_id};
 ghost use Rattle.hlc_routing.specs.All.{open_refusals, vacuum_refusals, join_refusals, join_step, AreJoins, AreReports};
-ghost use Rattle.hlc_routing.specs.All.{HasOpenedTo, HasOpenedSome, AreOpenTo, AreCheckpoints};
+ghost use Rattle.hlc_routing.specs.All.{HasOpenedTo, HasOpenedSome, AreCheckpoints, each_closed, closed_at};
+ghost use Rattle.hlc_routing.specs.All.{AreOpenTo, AreOpenIn, IsOpenIn};
 
 use crate::fault::RangesFault;
 use crate::ranges::Ranges;
@@ -61,13 +62,27 @@ impl Ranges {
         }
     }
 
-    /// Closes a snapshot that is open in all stores. It needs no memory. A store in which it is not open stays as it is.
-    pub fn close_all(&mut self, snapshot: &RangesSnapshot)
+    /// Closes a snapshot of all stores: in each store in which it is open. It needs no memory.
+    ///
+    /// Refused if it was not open in a store; then it is closed in the others.
+    pub fn close_all(&mut self, snapshot: &RangesSnapshot) -> Result<(), NoSnapshot>
         ensures represents { (layout : Layout) (run : List Turn) → Represents layout self.old run
+            → Represents layout self.new
+            (each_closed snapshot.now.ids (length snapshot.now.ids) run) }
+        ensures ok { (layout : Layout) (run : List Turn) → Represents layout self.old run
+            → OnOk result (AreOpenIn layout run snapshot.now.ids) }
+        ensures err { (layout : Layout) (run : List Turn) → Represents layout self.old run
+            → OnErr result (AreOpenIn layout run snapshot.now.ids → ⊥) }
+        ensures all { (layout : Layout) (run : List Turn) → Represents layout self.old run
             → IsOpenAll layout snapshot.now run → ClosesAll layout self.new snapshot.now run }
         ensures division { self.new.division ≡ self.old.division }
     {
-        self.close_each(snapshot.ids());
+        let many = self.stores().len();
+        let open = self.close_each(snapshot.ids());
+        if snapshot.ids().len() != many {
+            return Err(NoSnapshot);
+        }
+        if open { Ok(()) } else { Err(NoSnapshot) }
     }
 
     /// Returns the value of a key, or none, in a snapshot of all stores: the newest write of all that were issued at or
@@ -173,18 +188,33 @@ impl Ranges {
         Ok(())
     }
 
-    /// Closes the snapshots with these ids, one in each of the first stores.
-    fn close_each(&mut self, ids: &[u64])
+    /// Closes the snapshots with these ids, one in each of the first stores, where they are open, and returns whether
+    /// all were.
+    fn close_each(&mut self, ids: &[u64]) -> bool
         ensures represents { (layout : Layout) (run : List Turn) → Represents layout self.old run
-            → length ids.now ≤ layout.stores → AreOpenTo run ids.now
-            → Represents layout self.new
-            (each_stepped (λ s. Closed (get_or ids.now s 0)) (length ids.now) run) }
+            → Represents layout self.new (each_closed ids.now (length ids.now) run) }
+        ensures open { (layout : Layout) (run : List Turn) → Represents layout self.old run
+            → IsTrue result ↔ AreOpenTo run ids.now }
         ensures division { self.new.division ≡ self.old.division }
     {
+        let mut open = true;
         for store in 0..ids.len() {
-            // Each of them is open.
-            let _closed = self.close(store, ids[store]);
+            if !self.close_open(store, ids[store]) {
+                open = false;
+            }
         }
+        open
+    }
+
+    /// Closes the snapshot of one store with this id, if it is open there, and returns whether it was.
+    fn close_open(&mut self, store: usize, id: u64) -> bool
+        ensures represents { (layout : Layout) (run : List Turn) → Represents layout self.old run
+            → Represents layout self.new (closed_at (stamp_of id (past_of store run)) store id run) }
+        ensures open { (layout : Layout) (run : List Turn) → Represents layout self.old run
+            → IsTrue result ↔ IsOpenIn run store id }
+        ensures division { self.new.division ≡ self.old.division }
+    {
+        self.close(store, id).is_ok()
     }
 
     /// Vacuums one store after another, up to the first that refuses, and appends their reports.

@@ -5,6 +5,7 @@ mod all;
 mod division;
 mod fault;
 mod laws;
+mod listing;
 mod machine;
 mod ranges;
 mod snapshot;
@@ -12,7 +13,9 @@ mod snapshot;
 pub use division::{Division, MOST_STORES};
 pub use fault::RangesFault;
 pub use hlc_core::{Accepted, Checkpoint, Core, CoreFault, Item, Report, Stamp};
-pub use laws::{events_keep_stores, steps_keep_machines};
+pub use laws::{
+    events_keep_machines, events_keep_stores, joins_make_machines, steps_keep_machines,
+};
 pub use machine::{Machine, MachineFault, RefusedRouting};
 pub use ranges::Ranges;
 pub use snapshot::RangesSnapshot;

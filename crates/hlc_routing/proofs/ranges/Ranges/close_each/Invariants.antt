@@ -1,15 +1,16 @@
--- Each snapshot so far was closed.
-use Rattle.std.proofs.Common.{◌≡◌, ◌≤◌, List, length, get_or}
-use Rattle.hlc_core.specs.Past.{Closed}
+-- Each snapshot so far was closed where it was open, and all were or not.
+use Rattle.std.proofs.Common.{◌≡◌, List}
+use Rattle.std.specs.Prelude.{IsTrue, ◌↔◌}
 use Rattle.hlc_ranges.specs.Run.{Layout, Turn}
 use Rattle.hlc_routing.specs.Ranges.{Represents}
-use Rattle.hlc_routing.specs.All.{each_stepped, AreOpenTo}
+use Rattle.hlc_routing.specs.All.{each_closed, AreOpenUpto}
 use Rattle.hlc_routing.proofs.ranges.Ranges.close_each.Given as goal
 
 abbrev pub invariant-loop-store : goal.invariant-loop-store
 invariant-loop-store l = record {
   division : l.self.division ≡ l.initial.self.division;
   closed : (layout : Layout) (run : List Turn) → Represents layout l.initial.self run
-      → length l.ids ≤ layout.stores → AreOpenTo run l.ids
-      → Represents layout l.self (each_stepped (λ s. Closed (get_or l.ids s 0)) l.store run);
+      → Represents layout l.self (each_closed l.ids l.store run);
+  open' : (layout : Layout) (run : List Turn) → Represents layout l.initial.self run
+      → IsTrue l.open ↔ AreOpenUpto run l.ids l.store;
 }

@@ -2,6 +2,7 @@
 use Rattle.std.proofs.Common.{inr, sym, subst}
 use Rattle.hlc_routing.specs.All.{HasOpenedSome}
 use Rattle.hlc_routing.proofs.Opening.{opening, all-opened, opened-cut, few-opened}
+use Rattle.hlc_routing.proofs.Closing.{closed-each}
 use Rattle.hlc_routing.proofs.ranges.Ranges.open_at.Goals as goal
 
 pub returns-in-Ok-open_each-clause-represents : goal.returns-in-Ok-open_each-clause-represents
@@ -20,4 +21,5 @@ returns-in-Err-open_each-clause-represents c = λ layout run h.
     c.as_slice.result.now c.in-Err-open_each.fault h
     (subst (λ xs. HasOpenedSome layout c.open_each.new.self c.args.stamp run xs c.in-Err-open_each.fault)
     (sym c.as_slice.ensures.value) (c.in-Err-open_each.ensures.err layout run h))
-    (c.close_each.ensures.represents layout))
+    (λ later kept few open'. closed-each layout c.close_each.new.self later c.as_slice.result.now open'
+    (c.close_each.ensures.represents layout later kept)))

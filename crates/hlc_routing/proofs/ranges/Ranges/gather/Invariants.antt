@@ -1,0 +1,13 @@
+-- The pairs of the stores so far.
+use Rattle.std.proofs.Common.{◌≡◌, List}
+use Rattle.std.specs.Prelude.{option_copied}
+use Rattle.hlc_ranges.specs.Run.{Layout, Turn}
+use Rattle.hlc_routing.specs.Ranges.{Represents}
+use Rattle.hlc_routing.specs.All.{IsOpenAll}
+use Rattle.hlc_routing.specs.Listing.{ArePairsOf}
+use Rattle.hlc_routing.proofs.ranges.Ranges.gather.Given as goal
+
+abbrev pub invariant-loop-store : goal.invariant-loop-store
+invariant-loop-store l =
+    (layout : Layout) (run : List Turn) → Represents layout l.self run → IsOpenAll layout l.snapshot run
+    → ArePairsOf layout run l.snapshot.stamp l.from (option_copied l.to) l.store l.pairs.items
