@@ -1,4 +1,5 @@
 pub mod Certificate
 pub mod Node
+pub mod Ranges
 pub mod Store
 pub mod Text

@@ -3,12 +3,13 @@
 //!
 //! Here are the store (`Core`), what it takes and returns, and the nodes that write to it (`NodeCore`). `certificate`
 //! prints and checks what a vacuum left, `bytes` has items and checkpoints as bytes, `log` a log that replicas share,
-//! and `threads` a store that several threads share.
+//! `ranges` several stores with one key space, and `threads` a store that several threads share.
 #![tactic(auto)]
 
 pub mod bytes;
 pub mod certificate;
 pub mod log;
+pub mod ranges;
 pub mod threads;
 
 pub use hlc_clock::{ClockFault, ReadingTooLarge};

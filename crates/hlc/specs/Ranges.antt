@@ -1,0 +1,16 @@
+-- The words in which contracts speak of several stores with one key space, and of machines that write to them.
+pub use Rattle.hlc_ranges.specs.Run.{Layout, Turn, Issued, Sent, Received, Observed, Stepped, past_of, issued, turn_at}
+pub use Rattle.hlc_ranges.specs.Run.{last_stamp, start_of, issued_writes, accepted_writes, IsIssuedStep, IsLegal}
+pub use Rattle.hlc_ranges.specs.Before.{HappenedBefore, IsStamped}
+pub use Rattle.hlc_ranges.specs.Calls.{IsNodeOf, HasClock, Extends}
+pub use Rattle.hlc_ranges.specs.Cut.{IsCut, IsConsistent}
+pub use Rattle.hlc_routing.specs.Division.{DivisionView, ByKeys, ByHash, stores_of, store_of}
+pub use Rattle.hlc_routing.specs.Faults.{ranges_code, machine_code}
+pub use Rattle.hlc_routing.specs.Ranges.{RangesView, Represents, IsLeastFloor, IsOfStore}
+pub use Rattle.hlc_routing.specs.All.{SnapshotView, IsOpenAll, OpensAll, ClosesAll, AreOpenIn, AreVacuumed, HaveJoined}
+pub use Rattle.hlc_routing.specs.All.{each_stepped, each_closed, join_step, next_join, AreJoins}
+pub use Rattle.hlc_routing.specs.Listing.{IsListingBetween}
+pub use Rattle.hlc_routing.specs.Machine.{MachineView, Issues, IsMachineOf, GoesOn, IsDividedBy}
+pub use Rattle.hlc_routing.specs.Machine.{IsNewMachine}
+pub use Rattle.hlc_routing.specs.declared.fault.RangesFault.{RangesFault}
+pub use Rattle.hlc_routing.specs.declared.machine.MachineFault.{MachineFault}

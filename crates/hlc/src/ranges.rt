@@ -1,0 +1,13 @@
+//! Several stores with one key space: which store has a key, their consistent cut, a snapshot of all of them, and
+//! machines that write to them; and a checkpoint divided at a key, or joined of two.
+
+pub use hlc_ranges::{
+    cuts_are_consistent, cuts_are_final, events_extend_runs, items_extend_runs,
+    keys_stay_in_their_store, stamps_follow_events, steps_extend_runs,
+};
+pub use hlc_routing::{
+    Division, MOST_STORES, Machine, MachineFault, Ranges, RangesFault, RangesSnapshot,
+    RefusedRouting, events_keep_machines, events_keep_stores, joins_make_machines,
+    steps_keep_machines,
+};
+pub use hlc_split::{MergeFault, merge, split};
