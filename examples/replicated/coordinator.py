@@ -2,9 +2,9 @@
 
     coordinator.py --retention-ms 60000 --members HOST:PORT .. --listen HOST:PORT
 
-It lets nodes join, says from which stamp on reads are possible, retires nodes whose writers are lost, and cuts the log.
-Others ask it by keys: `ask/join/NAME` for a node for this name, and `ask/lost/NAME` to retire the node of a name. Where
-no node can join, a text that says so replaces the request. Over HTTP it answers how all others are. Another coordinator
+It lets nodes join, says from which stamp on reads are possible, retires nodes whose writers are lost, cuts the log, and
+splits, merges and moves ranges (reshape.py). Others ask it by keys: `ask/join/NAME` for a node for this name, and
+`ask/lost/NAME` to retire the node of a name. Where no node can join, a text that says so replaces the request. Over HTTP it answers how all others are. Another coordinator
 may be started at any time: it takes over, and this one ends with status 3. A first SIGTERM or SIGINT ends it; the floor
 waits for the next one. With --piped it ends with its standard input, of which the line `retire` ends it after it has
 retired its own node: then no other one can be started. The line `clock MS` sets its clock off by so many milliseconds.
@@ -23,7 +23,10 @@ import hlcstore
 import life
 import log
 import logs
+import machine
 import metrics
+import ranges
+import reshape
 import serve
 import settings
 import sight
@@ -52,18 +55,53 @@ class Coordinator(serve.Answerer):
         self.life = process or life.Life()
         self.pages = {"/": serve.page, "/metrics": self.metrics}
         self.counters = metrics.Counters()
-        self.etcd = Etcd(members)
-        self.etcd.ending = self.life.asked
+        self.etcd = self.connect(members)
         self.members, self.sight = Members(members), sight.Sight(self.links)
         self.offset, self.appended, self.cut = 0, time.monotonic(), 0
-        self.link = log.Link(self.etcd, NUMBER)
-        try:
-            self.head = self.link.claim(NEW)
-        except log.Retired:
-            raise life.Never("the coordinator's node retired: no coordinator can be started for this log") from None
-        self.node = Node.restore(NUMBER, self.head["last"], self.head["next"])
+        self.done = set()  # ranges whose logs were cut as a whole
+        self.lock = log.Link(self.etcd, NUMBER, b"coordinator/")  # for what is of no range
+        self.lock.claim({})
+        self.machine = machine.Machine(NUMBER, self.etcd, self.connect)
+        self.take_over()
         self.report("node", NUMBER)
         self.retires = False
+
+    def connect(self, members):
+        etcd = Etcd(members)
+        etcd.ending = self.life.asked
+        return etcd
+
+    def take_over(self):
+        """Takes its links over, and finishes what another coordinator has begun."""
+        try:
+            while not self.machine.take_over(NEW):
+                reshape.finish(self)
+            if self.etcd.get(self.machine.retires_key()):
+                self.machine.retire(self.machine.decide_to_retire(0))
+                raise log.Retired
+        except log.Retired:
+            raise life.Never("the coordinator's node retired: no coordinator can be started for this log") from None
+
+    @property
+    def first(self):
+        return self.machine.first()
+
+    @property
+    def link(self):
+        return self.first.link
+
+    @property
+    def head(self):
+        return self.first.state
+
+    @property
+    def node(self):
+        """Its node in the first range."""
+        return self.first.node
+
+    @node.setter
+    def node(self, node):
+        self.first.node = node
 
     def report(self, *words):
         """Says on its output, to the program that started it, how far it is."""
@@ -72,41 +110,66 @@ class Coordinator(serve.Answerer):
 
     # ---- Appending ----
 
-    def append(self, key, value, also=(), **changed):
-        state = {"next": self.node.next, "last": self.node.last, "retired": self.node.retired}
-        self.head = self.head | state | changed
-        self.link.append(key, value, self.head, also)
+    def append(self, part, *words, **changed):
+        part.append(*words, **changed)
         self.appended = time.monotonic()
         self.counters.add("appends")
 
-    def append_item(self, issue):
-        number = self.node.next
-        self.append(log.batch_key(NUMBER, number), bytes(issue(reading(self.node, self.offset))))
+    def append_item(self, issue, part=None):
+        """Appends what `issue`, a call of the node in a range, returns for a reading of the clock."""
+        part = part or self.first
+        node = self.machine.acting(part)
+        number = node.next
+        item = bytes(issue(reading(node, self.offset)))
+        self.machine.acted(part)
+        self.append(part, log.batch_key(NUMBER, number, part.range.prefix), item)
 
-    def append_plan(self, record, also=(), **changed):
+    def append_plan(self, record, also=(), part=None, **changed):
         """Appends a record that is no item, together with what changes by it."""
-        number = self.head["plans"]
-        self.append(log.plan_key(number), record, also, plans=number + 1, **changed)
+        part = part or self.first
+        number = part.state["plans"]
+        key = log.plan_key(number, part.range.prefix)
+        self.append(part, key, record, also, plans=number + 1, **changed)
 
     # ---- Nodes that come and go ----
 
     def let_join(self, name):
-        """Puts a join into the log, and makes the link of the new node. The name belongs to the node from then on."""
-        if self.etcd.get(b"node/" + name):
-            self.etcd.transact([self.link.is_mine()], [delete(JOIN + name)])
+        """Puts a join into each log, and makes the link of the new node. The name belongs to the node from then on."""
+        found = self.etcd.get(b"node/" + name)
+        if self.machine.is_simple():
+            if found:
+                self.etcd.transact([self.link.is_mine()], [delete(JOIN + name)])
+            elif self.can_join(name, self.head["nodes"]):
+                also = [put(b"node/" + name, log.to_json(self.head["nodes"])), delete(JOIN + name)]
+                self.let_join_in(self.first, name, self.head["nodes"], also)
+                self.counters.add("joins")
             return
-        number, start = self.head["nodes"], self.node.last
+        number = json.loads(found.value) if found else max(part.state["nodes"] for part in self.machine.parts.values())
+        if not found:
+            if not self.can_join(name, number):
+                return
+            self.decide([put(b"node/" + name, log.to_json(number))])
+            self.counters.add("joins")
+        for part in self.machine.parts.values():
+            if part.state["nodes"] == number:
+                self.let_join_in(part, name, number)
+        self.decide([delete(JOIN + name)])
+
+    def let_join_in(self, part, name, number, also=()):
+        start, key = part.node.last, log.link_key(number, part.range.prefix)
+        link = put(key, log.to_json({"owner": "", "next": 0, "last": start}))
+        self.append_plan(join_record(number, start), [link, *also], part, nodes=number + 1)
+        logs.info("a node joins", node=number, name=name.decode(errors="replace"), start=sight.stamp_text(start))
+
+    def decide(self, changes):
+        """Changes what is of no range, unless another coordinator has taken over."""
+        if not self.etcd.transact([self.lock.is_mine()], changes).get("succeeded"):
+            raise log.Fenced("another coordinator decides")
+
+    def can_join(self, name, number):
         if number == MOST_NODES:
             self.refuse_join(name, f"all {MOST_NODES} node numbers are assigned")
-            return
-        also = [
-            put(log.link_key(number), log.to_json({"owner": "", "next": 0, "last": start})),
-            put(b"node/" + name, log.to_json(number)),
-            delete(JOIN + name),
-        ]
-        self.append_plan(join_record(number, start), also, nodes=number + 1)
-        self.counters.add("joins")
-        logs.info("a node joins", node=number, name=name.decode(errors="replace"), start=sight.stamp_text(start))
+        return number < MOST_NODES
 
     def refuse_join(self, name, text):
         """Replaces a request by its answer, for the writer that asked."""
@@ -118,23 +181,22 @@ class Coordinator(serve.Answerer):
     def retire_lost(self, name):
         """Retires the node of a writer that does not come back: without this it would stop the floor for good.
 
-        The coordinator takes the link over, so the writer can append nothing more if it is alive after all. All this
+        The coordinator takes the links over, so the writer can append nothing more if it is alive after all. All this
         takes place only while no other coordinator has taken over, as that one has the same request.
         """
-        request, mine = LOST + name, [self.link.is_mine()]
+        request, simple = LOST + name, self.machine.is_simple()
+        mine = [self.link.is_mine() if simple else self.lock.is_mine()]
         found = self.etcd.get(b"node/" + name)
         if not found:
             self.etcd.transact(mine, [delete(request)])
             return
         number = json.loads(found.value)
-        link = log.Link(self.etcd, number)
+        also = [delete(request), delete(b"node/" + name)]
         try:
-            state = link.claim(None, mine)
-            node = Node.restore(number, state["last"], state["next"])
-            item = bytes(node.retire(reading(node)))
-            state |= {"next": node.next, "last": node.last, "retired": True}
-            also = [delete(request), delete(b"node/" + name)]
-            link.append(log.batch_key(number, node.next - 1), item, state, also, mine)
+            if simple:
+                self.retire_in_one(number, mine, also)
+            else:
+                self.retire_in_all(number, mine, also)
             self.counters.add("lost")
             logs.warning("retires the node of a lost writer", node=number, name=name.decode(errors="replace"))
         except log.Retired:  # the writer has retired it just now
@@ -142,12 +204,33 @@ class Coordinator(serve.Answerer):
         except log.Fenced:  # the writer has come back just now; the request stays, for the next round
             pass
 
+    def retire_in_one(self, number, mine, also):
+        link = log.Link(self.etcd, number, self.first.range.prefix)
+        first = ranges.state_of(self.machine.connect, self.machine.map, self.first.range, number)
+        state = link.claim(first, mine)
+        node = Node.restore(number, state["last"], state["next"])
+        item = bytes(node.retire(reading(node)))
+        state |= {"next": node.next, "last": node.last, "retired": True}
+        link.append(log.batch_key(number, node.next - 1, link.prefix), item, state, also, mine)
+
+    def retire_in_all(self, number, mine, also):
+        lost = machine.Machine(number, self.etcd, self.connect, self.is_mine_in)
+        if lost.take_over():
+            lost.retire(lost.decide_to_retire(reading(lost.first().node), mine))
+            self.decide([*also, delete(lost.retires_key())])
+
+    def is_mine_in(self, found):
+        """The conditions that no other coordinator has taken over in a range."""
+        return [self.machine.parts[found.id].link.is_mine()]
+
     def answer(self):
         for pair in self.etcd.list(b"ask/"):
             if pair.key.startswith(JOIN) and not pair.value:  # a value is the answer
                 self.let_join(pair.key.removeprefix(JOIN))
             elif pair.key.startswith(LOST):
                 self.retire_lost(pair.key.removeprefix(LOST))
+            else:
+                reshape.answer(self, pair)
 
     # ---- Retention and the log's length ----
 
@@ -157,24 +240,34 @@ class Coordinator(serve.Answerer):
         if not replicas:
             return
         threshold = min(words["floor"] for words in replicas) - (self.retention << 16)
-        if threshold > self.head["threshold"]:
-            self.append_plan(threshold_record(threshold), threshold=threshold)
-        revision = min(words["checkpoint"] for words in replicas)
-        if revision:
-            self.cut = log.cut(self.etcd, self.link, revision)
+        for part in self.machine.parts.values():
+            if threshold > part.state["threshold"]:
+                self.append_plan(threshold_record(threshold), part=part, threshold=threshold)
+        for number in self.machine.map.ranges:
+            reshape.cut(self, number, replicas)
+
+    def report_all(self):
+        for part in self.machine.parts.values():
+            self.append_item(part.node.report, part)
 
     def work(self):
         kept_up = time.monotonic()
         while not self.retires and not self.life.asked.is_set():
-            self.append_item(self.node.report)
+            self.report_all()
             self.answer()
             if time.monotonic() - kept_up >= UPKEEP:
                 self.keep_up()
                 kept_up = time.monotonic()
             time.sleep(PERIOD)
         if self.retires:
-            self.append_item(self.node.retire)
+            self.retire()
             logs.warning("its node retired: no coordinator can be started for this log any more")
+
+    def retire(self):
+        if self.machine.is_simple():
+            self.append_item(self.node.retire)
+        else:
+            self.machine.retire(self.machine.decide_to_retire(reading(self.node, self.offset), [self.lock.is_mine()]))
 
     def command(self, words):
         """Carries a line of standard input out, and returns whether it knows it."""

@@ -91,15 +91,17 @@ class Faults:
         if self.member_down is not None or self.later:
             return None
         programs = self.programs
-        for member in list(programs.cluster.running):
-            programs.cluster.kill(member)
+        for cluster in programs.clusters:
+            for member in list(cluster.running):
+                cluster.kill(member)
         names, writers = list(programs.replicas), list(programs.writers)
         for name in names:
             programs.kill_replica(name)
         for name in writers:
             programs.kill_writer(name)
         programs.coordinator.kill()
-        programs.cluster.start_all("existing")
+        for cluster in programs.clusters:
+            cluster.start_all("existing")
         programs.coordinator = programs.start_coordinator()
         for name in names:
             programs.start_replica(name)
@@ -124,7 +126,7 @@ class Faults:
             return None
         name = self.chance.choice(list(self.programs.replicas))
         self.programs.kill_replica(name)
-        for path in sorted((self.programs.folder / name).glob("*.checkpoint"))[-1:]:
+        for path in sorted((self.programs.folder / name).rglob("*.checkpoint"))[-1:]:
             content = bytearray(path.read_bytes())
             content[self.chance.randrange(len(content))] ^= 1
             path.write_bytes(content)

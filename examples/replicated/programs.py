@@ -94,13 +94,18 @@ def ask(address, path, **words):
 
 
 class Programs:
-    """All that runs: the cluster, the coordinator, the model, replicas and writers."""
+    """All that runs: the clusters, the coordinator, the model, replicas and writers."""
 
-    def __init__(self, folder, retention, checkpoint, writing):
+    def __init__(self, folder, retention, checkpoint, writing, replicas=3, clusters=1):
         self.folder, self.retention, self.checkpoint = folder, retention, checkpoint
         batch, rate, keys = writing
         self.writing = ["--batch", batch, "--rate", rate, "--keys", keys]
         self.cluster = Cluster(folder / "etcd")
+        more = [Cluster(folder / f"etcd{number}", members=1) for number in range(2, clusters + 1)]
+        self.clusters = [self.cluster, *more]
+        self.replica_names = [f"r{number}" for number in range(1, replicas + 1)]
+        self.histories = folder / "histories"
+        self.histories.mkdir(parents=True, exist_ok=True)
         self.model = self.coordinator = None
         self.replicas, self.writers = {}, {}  # those that should run, by name
         self.ending = []  # programs that should end, with the expected status, and until when
@@ -111,12 +116,14 @@ class Programs:
         return Program(self.folder, name, file, *words, "--members", *self.cluster.addresses)
 
     def start(self):
-        """Starts all: three members, three replicas and three writers."""
-        self.cluster.start_all()
+        """Starts all: the members, the replicas and three writers."""
+        for cluster in self.clusters:
+            cluster.start_all()
         self.coordinator = self.start_coordinator()
         self.model = self.program("model", "model.py")
+        for name in self.replica_names:
+            self.start_replica(name)
         for number in (1, 2, 3):
-            self.start_replica(f"r{number}")
             self.start_writer(f"w{number}")
         self.model.wait_for_address()
 
@@ -125,7 +132,8 @@ class Programs:
         for program in [*self.running(), *(program for program, _, _ in self.ending)]:
             if program.status() is None:
                 program.kill()
-        self.cluster.stop()
+        for cluster in self.clusters:
+            cluster.stop()
 
     def running(self):
         programs = [self.coordinator, self.model, *self.replicas.values(), *self.writers.values()]
@@ -136,7 +144,7 @@ class Programs:
         for program in self.running():
             if program.status() is not None:
                 raise Difference(f"{program.name} ended with status {program.status()}")
-        for member, process in self.cluster.running.items():
+        for member, process in ((member, each.running[member]) for each in self.clusters for member in each.running):
             if process.poll() is not None:
                 raise Difference(f"member {member} ended with status {process.poll()}")
         for program, status, end in list(self.ending):
@@ -164,7 +172,8 @@ class Programs:
         self.killed.append(replica)
 
     def start_writer(self, name):
-        self.writers[name] = self.program(name, "writer.py", "--name", name, *self.writing)
+        words = ["--name", name, *self.writing, "--history", self.histories / name]
+        self.writers[name] = self.program(name, "writer.py", *words)
 
     def kill_writer(self, name):
         writer = self.writers.pop(name)

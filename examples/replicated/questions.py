@@ -10,6 +10,7 @@ from programs import Difference, ask
 
 KEYS = 20_000
 KEYS_READ = 20
+TIMES = 10  # for which certificates are asked that differ
 
 
 class Questions:
@@ -82,14 +83,19 @@ class Questions:
         states = self.states()
         if not stamp or any(state["floor"] < stamp for state in states.values()):
             return
-        answers = self.ask_all("/certificate", stamp=stamp)
-        texts = [text for name, (status, text) in answers.items() if status == 200]
-        self.refused += len(answers) - 1 - len(texts)  # the model makes none
-        self.certificates += len(texts)
-        for text in set(texts):
-            self.check(text)
-        if len(set(texts)) > 1:
-            raise Difference(f"the certificates at {stamp} differ")
+        self.compare_certificates_of(stamp=stamp)
+
+    def compare_certificates_of(self, **words):
+        """A replica in which another client reads just now keeps rows for it: then the certificates are asked again."""
+        for _ in range(TIMES):
+            answers = self.ask_all("/certificate", **words)
+            texts = [text for name, (status, text) in answers.items() if status == 200]
+            self.certificates += len(texts)
+            for text in set(texts):
+                self.check(text)
+            if len(set(texts)) <= 1:
+                return
+        raise Difference(f"the certificates differ: {words}")
 
     def check(self, certificate):
         if not self.checker:

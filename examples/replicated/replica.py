@@ -4,34 +4,36 @@
 
 It makes a checkpoint in the folder every so many seconds, with the revision up to which it applied the log as the word.
 After a restart it goes on from the newest checkpoint and the log behind it. Where it has none that the log still
-continues, it takes one from another replica. A first SIGTERM or SIGINT ends it with a last checkpoint. With --piped it
+continues, it takes one from another replica. Each range that the map lets it have is a store of its own (part.py), and
+reads are over all of them at one stamp (cover.py). A first SIGTERM or SIGINT ends it with a last checkpoint. With --piped it
 says in JSON on its output where it began and its address, and ends with its standard input.
 """
 
 import contextlib
-import http.client
 import json
+import pathlib
 import threading
 import time
 
 import alarms
+import cover
 import exported
 import hlcstore
 import life
 import log
 import logs
 import metrics
+import part
+import ranges
 import serve
 import settings
 import sight
-from checkpoints import Checkpoints
 from etcd import Etcd, Refused, put
 
-FIRST_NODES = 1  # the coordinator's node; all others join
 LEASE = 10  # seconds after which the cluster forgets a replica that is gone
 PAUSE = 0.5  # seconds between two rounds of upkeep
+LOOK = 0.2  # seconds between two looks at the map
 GRACE = 3.0  # seconds for answers that are under way when it ends
-DAMAGED = (hlcstore.BadBytes, hlcstore.NoCheckpoint)
 SETTINGS = [
     settings.Setting("name", settings.name, "its name, under which it publishes where it is"),
     settings.Setting("folder", settings.path, "the folder of its checkpoints, which is made if it is not there"),
@@ -45,124 +47,147 @@ class Replica(serve.Answerer):
     def __init__(self, name, folder, seconds, members, process=None, piped=False):
         super().__init__()
         self.name, self.members, self.piped = name, members, piped
+        self.folder, self.seconds = pathlib.Path(folder), seconds
         self.life = process or life.Life()
-        self.checkpoints, self.seconds = Checkpoints(folder), seconds
-        self.between = threading.Lock()  # whoever has it sees the store between two entries of the log
-        self.saving = threading.Lock()
-        self.store, self.revision, self.threshold = None, 0, 0
+        self.map = ranges.Map()
+        self.parts = {}  # of each range that it has; and of those from which these came, for as long as they are needed
+        self.clean = set()  # ranges of which nothing is left on the disk
         self.others = {"/certificate": self.certificate, "/checkpoint": self.newest}
         self.pages = {"/": serve.page, "/metrics": self.metrics}
         self.counters = metrics.Counters()
         self.sight = sight.Sight(self.links)
-        self.eyes = self.etcd()
-        self.opened = {}  # when each snapshot was opened, by its id
-        self.failure, self.vacuum_seconds = "", 0.0
-        self.started = time.time()
+        self.eyes, self.more_eyes = self.connect(()), {}
+        self.opened = {}  # when each snapshot was opened, by its range and its id
+        self.started, self.printing = time.time(), threading.Lock()
 
-    def etcd(self):
-        """Returns a connection of a thread's own."""
-        return Etcd(self.members, self.life.asked)
+    def connect(self, members):
+        """Returns a connection of a thread's own. No members are those of the first cluster."""
+        return Etcd(list(members) or self.members, self.life.asked)
 
     def report(self, **words):
         """Says on its output, to the program that started it, what its log says to people."""
         if self.piped:
-            print(json.dumps(words), flush=True)
+            with self.printing:
+                print(json.dumps(words), flush=True)
 
-    # ---- Applying the log ----
+    # ---- The ranges that it has ----
 
-    def apply(self, entry):
-        """Accepts items, and lets nodes join: all replicas do so at the same place of the log, with the same start.
-        What was applied before is passed over."""
-        with self.between:
-            applied = self.store.apply_records(entry.records)
-            self.threshold = max(self.threshold, applied.threshold)
-            self.revision = entry.revision
+    def begun(self):
+        """Returns the parts that have a store."""
+        return {number: each for number, each in sorted(self.parts.items()) if each.store is not None}
 
-    def follow(self):
-        etcd = self.etcd()
+    def wanted(self):
+        return [found for found in self.map.all_live() if found.is_of(self.name)]
+
+    def look_at_map(self, etcd):
+        """Begins the ranges that the map lets it have, and drops those that nobody here needs any more."""
+        self.map.read(etcd)
+        for found in self.wanted():
+            self.have(found)
+        for each in list(self.parts.values()):
+            if each.store is None and each.lacks_parents():
+                self.have_parents(etcd, each)
+        for each in list(self.parts.values()):
+            if not self.needs(etcd, each.range):
+                del self.parts[each.range.id]
+                each.drop()
+                logs.info("has a range no more", range=each.range.id)
+        for found in self.map.ranges.values():
+            if found.id not in self.parts and found.id not in self.clean and not self.needs(etcd, found):
+                part.remove_files(self, found)
+                self.clean.add(found.id)
+
+    def have(self, found):
+        if found.id not in self.parts:
+            self.clean.discard(found.id)
+            self.parts[found.id] = part.Part(self, found)
+            part.start(self.parts[found.id])
+
+    def have_parents(self, etcd, child):
+        """Begins the ranges from which one came: where they are on this disk, or no other replica has that one."""
+        others = [words for words in part.published(etcd, child.range.id) if words["name"] != self.name]
+        for number in child.range.parents:
+            if number not in self.parts and (not others or part.has_files(self, self.map.ranges[number])):
+                self.have(self.map.ranges[number])
+
+    def needs(self, etcd, found):
+        """Returns whether this replica has a range by the map, or needs it for one that came from it."""
+        if found.id not in self.map.live:
+            return any(self.is_unsafe(child) for child in self.map.children(found.id))
+        if found.is_of(self.name):
+            return True
+        others = {words["name"] for words in part.published(etcd, found.id) if words["checkpoint"]}
+        return not others & set(found.replicas)
+
+    def is_unsafe(self, child):
+        """Returns whether a range is to begin here, or has begun, and has not enough checkpoints of its own."""
+        if child.id in self.parts:
+            return not self.parts[child.id].is_safe()
+        return child.id in self.map.live and child.is_of(self.name)
+
+    def keep_map(self):
+        etcd = self.connect(())
         while True:
-            try:
-                for entry in log.follow(etcd, self.revision):
-                    self.apply(entry)
-            except log.Cut as cut:
-                logs.warning(f"begins from another replica: {cut}")
-                self.begin_from_another(etcd)
-
-    # ---- Beginning ----
-
-    def begin_from_disk(self):
-        """Begins with the newest checkpoint that is whole, or with an empty store before the first entry."""
-        for path in self.checkpoints.paths():
-            try:
-                return self.begin("disk", path.read_bytes)
-            except DAMAGED as refused:
-                self.count_refusal(refused)
-                logs.warning("removes a damaged checkpoint", file=path.name, text=refused)
-                self.report(damaged=path.name, text=str(refused))
-                path.unlink()
-        self.begin("empty", None)
-
-    def begin(self, origin, read):
-        start = time.monotonic()
-        store = hlcstore.Store.restore(read()) if read else hlcstore.Store(FIRST_NODES)
-        store.close_all()  # a checkpoint has the snapshots that were open; their readers are gone
-        with self.between:
-            self.store, self.revision = store, store.word
-        seconds = round(time.monotonic() - start, 3)
-        self.counters.add("begins", origin=origin)
-        words = {"revision": store.word, "rows": store.rows, "seconds": seconds}
-        logs.info(f"begins from {origin}", **words)
-        self.report(begins=origin, **words)
-
-    def begin_from_another(self, etcd):
-        """Begins with the checkpoint of another replica, as soon as one has a newer one."""
-        while True:
-            for pair in etcd.list(b"replica/"):
-                words = json.loads(pair.value)
-                if words["checkpoint"] > self.revision:
-                    try:
-                        return self.begin(words["name"], lambda: serve.fetch(words["address"], "/checkpoint"))
-                    except (OSError, http.client.HTTPException, *DAMAGED) as failure:
-                        # that one was killed, or its disk is damaged
-                        logs.warning("no checkpoint of another replica", name=words["name"], text=failure)
-            time.sleep(0.2)
+            self.look_at_map(etcd)
+            time.sleep(LOOK)
 
     # ---- Answers ----
 
     def links(self):
-        """Returns of each node, between two entries: the next number, the head, and whether it retired."""
-        with self.between:
-            return links_of(self.store)
+        """Returns of each node, over all ranges that go on: the next number, the head, and whether it retired."""
+        links = [each.links() for each in self.current()]
+        return links[0] if len(links) == 1 else sight.links_together(links)
+
+    def current(self):
+        """Returns the parts of the ranges that it has; of those that have not begun, the ones from which they come."""
+        return list(dict.fromkeys(each for _, _, each in cover.pieces(self)))
 
     def state(self):
-        with self.between:
-            store, revision, links, floor = self.store, self.revision, links_of(self.store), self.store.floor
-        now = time.time()
+        now, parts = time.time(), self.current()
+        stores = [each.store for each in parts]
+        horizon = max((store.horizon for store in stores), default=hlcstore.Stamp(0))
         state = {
-            "program": "replica", "name": self.name, "revision": revision, "horizon": store.horizon,
-            "horizon_text": str(store.horizon), "horizon_age_seconds": round(now - sight.physical(store.horizon), 3),
-            "rows": store.rows, "threshold": self.threshold, "checkpoint": self.checkpoints.oldest(), "links": links,
-            "sizes": store.sizes._asdict(), "snapshots": self.snapshots(store, now),
-            "checkpoints": self.saved(now), "vacuum": {"seconds": self.vacuum_seconds},
+            "program": "replica", "name": self.name, "revision": max((each.revision for each in parts), default=0),
+            "horizon": horizon, "horizon_text": str(horizon),
+            "horizon_age_seconds": round(now - sight.physical(horizon), 3),
+            "rows": sum(store.rows for store in stores), "threshold": max((each.threshold for each in parts), default=0),
+            "checkpoint": min((each.checkpoints.oldest() for each in parts), default=0), "links": self.links(),
+            "sizes": cover.sizes(stores), "snapshots": self.snapshots(parts, now), "checkpoints": self.saved(parts, now),
+            "vacuum": {"seconds": max((each.vacuum_seconds for each in parts), default=0.0)},
+            "ranges": [self.range_words(each, now) for each in self.begun().values()],
         }  # fmt: skip
-        state |= sight.state(self.sight, links, floor, now, self.eyes.trouble)
+        floor = min((store.floor for store in stores), default=hlcstore.Stamp(0))
+        state |= sight.state(self.sight, state["links"], floor, now, self.eyes.trouble)
         return state | {"alarms": alarms.alarms_of(state, alarms.OF_A_REPLICA)}
 
-    def snapshots(self, store, now):
+    def range_words(self, each, now):
+        with each.between:
+            store, revision, links = each.store, each.revision, part.links_of(each.store)
+        return {
+            "range": each.range.id, "from": each.range.start.hex(), "to": each.range.end.hex(),
+            "live": each.range.id in self.map.live, "sealed": each.seal is not None, "revision": revision,
+            "floor": store.floor, "floor_age_seconds": round(now - sight.physical(store.floor), 3),
+            "horizon": store.horizon, "rows": store.rows, "checkpoint": each.checkpoints.oldest(), "links": links,
+        }  # fmt: skip
+
+    def snapshots(self, parts, now):
         """Returns the stamps of open snapshots, and for how long each has been open."""
         before, listed = time.monotonic(), []
-        for snapshot in store.snapshots():
-            opened = self.opened.get(snapshot.id, before)
-            listed.append({"id": snapshot.id, "stamp": snapshot.stamp, "open_seconds": round(before - opened, 3),
-                           "age_seconds": round(now - sight.physical(snapshot.stamp), 3)})  # fmt: skip
+        for each in parts:
+            for snapshot in each.store.snapshots():
+                opened = self.opened.get((each.range.id, snapshot.id), before)
+                listed.append({"id": snapshot.id, "stamp": snapshot.stamp, "open_seconds": round(before - opened, 3),
+                               "age_seconds": round(now - sight.physical(snapshot.stamp), 3)})  # fmt: skip
         return listed
 
-    def saved(self, now):
-        """Returns how old the newest checkpoint is: or the process, until there is one."""
-        newest = self.checkpoints.newest()
-        since, size = (newest.st_mtime, newest.st_size) if newest else (self.started, 0)
-        return {"age_seconds": round(now - since, 3), "bytes": size, "every_seconds": self.seconds,
-                "failure": self.failure}  # fmt: skip
+    def saved(self, parts, now):
+        """Returns how old the newest checkpoint is: or the process, until there is one. Of several ranges, the oldest
+        of their newest ones counts."""
+        newest = [each.checkpoints.newest() for each in parts]
+        since = min((found.st_mtime if found else self.started for found in newest), default=self.started)
+        failures = [each.failure for each in parts if each.failure]
+        return {"age_seconds": round(now - since, 3), "bytes": sum(found.st_size for found in newest if found),
+                "every_seconds": self.seconds, "failure": failures[0] if failures else ""}  # fmt: skip
 
     def metrics(self):
         return serve.metrics(metrics.text_of(exported.of_a_replica(self.state(), self.counters, alarms.OF_A_REPLICA)))
@@ -175,29 +200,49 @@ class Replica(serve.Answerer):
 
     @contextlib.contextmanager
     def snapshot(self, stamp):
+        """Opens a snapshot at a stamp, or at the floor, in all ranges that this replica has, or in none."""
+        pieces = cover.pieces(self)
+        if not pieces:
+            raise serve.Refused(503, "no range has begun here")
+        with contextlib.ExitStack() as opened:
+            if stamp is None:
+                stamp = min(each.store.floor for _, _, each in pieces)
+            of_parts = {each: opened.enter_context(self.snapshot_of(each, stamp)) for _, _, each in pieces}
+            yield cover.over([(start, end, of_parts[each]) for start, end, each in pieces])
+
+    @contextlib.contextmanager
+    def snapshot_of(self, each, stamp):
         with self.refusals():
-            snapshot = self.store.snapshot(stamp)
-        self.opened[snapshot.id] = time.monotonic()
+            snapshot = each.store.snapshot(stamp)
+        key = each.range.id, snapshot.id
+        self.opened[key] = time.monotonic()
         try:
             with snapshot:
                 yield snapshot
         finally:
-            self.opened.pop(snapshot.id, None)
+            self.opened.pop(key, None)
 
-    def certificate(self, stamp):
+    def part_of(self, number):
+        """Returns the part of a range, or the only one."""
+        parts = self.begun() if number is not None else {each.range.id: each for each in self.current()}
+        if number is None and len(parts) == 1:
+            return next(iter(parts.values()))
+        if number not in parts:
+            raise serve.Refused(404, "there is no such range here" if number is not None else "a range is missing")
+        return parts[number]
+
+    def certificate(self, stamp, number=None):
         if stamp is None:
             raise serve.Refused(400, "a stamp is missing")
+        each = self.part_of(number)
         with self.refusals():
             while True:
-                self.make_vacuum(self.store, stamp)
+                each.make_vacuum(stamp)
                 with contextlib.suppress(hlcstore.NotFewest):  # a snapshot was closed just now
-                    return self.store.certificate(stamp).certificate
+                    return each.store.certificate(stamp).certificate
 
-    def newest(self, _):
-        paths = self.checkpoints.paths()
-        if not paths:
-            raise serve.Refused(404, "there is no checkpoint yet")
-        return paths[0].read_bytes()
+    def newest(self, _, number=None):
+        return self.part_of(number).newest()
 
     @contextlib.contextmanager
     def refusals(self):
@@ -214,77 +259,62 @@ class Replica(serve.Answerer):
 
     def keep_up(self, address):
         """Publishes the floor and the oldest checkpoint, vacuums to the threshold, and makes checkpoints."""
-        etcd, lease, saved = self.etcd(), None, time.monotonic()
+        etcd, lease, saved = self.connect(()), None, time.monotonic()
         while True:
             lease = self.publish(etcd, lease, address)
-            self.vacuum(self.store, self.threshold)
+            for each in self.current():
+                each.vacuum()
             if time.monotonic() - saved >= self.seconds:
-                self.try_to_save()
+                self.save_all()
                 saved = time.monotonic()
             time.sleep(PAUSE)
 
-    def vacuum(self, store, threshold):
-        if store.horizon < threshold <= store.floor:
-            with contextlib.suppress(hlcstore.BelowHorizon):  # a certificate at a later stamp was asked for just now
-                self.make_vacuum(store, threshold)
-
-    def make_vacuum(self, store, stamp):
-        start = time.monotonic()
-        made = store.vacuum_to(stamp)
-        self.vacuum_seconds = time.monotonic() - start
-        for name, amount in ("s", 1), ("_seconds", self.vacuum_seconds), ("_rows_dropped", made.dropped):
-            self.counters.add("vacuum" + name, amount)
-        logs.debug("vacuumed", stamp=stamp, kept=made.kept, dropped=made.dropped, seconds=self.vacuum_seconds)
-
-    def try_to_save(self):
-        """Makes a checkpoint. Where that fails, the replica goes on with those that it has, and tries again later."""
-        start = time.monotonic()
-        try:
-            revision, size = self.save()
-        except (OSError, hlcstore.NoMemory) as failure:
-            self.failure = str(failure)
-            self.counters.add("checkpoints_failed")
-            logs.error("a checkpoint was not saved", text=failure)
-            return
-        seconds, self.failure = time.monotonic() - start, ""
-        self.counters.add("checkpoints")
-        self.counters.add("checkpoint_seconds", seconds)
-        logs.info("saved a checkpoint", revision=revision, bytes=size, seconds=seconds)
-
-    def save(self):
-        """Saves a checkpoint, and returns its revision and its size."""
-        with self.saving:
-            with self.between:
-                revision, saved = self.revision, self.store.checkpoint(self.revision)
-            self.checkpoints.save(revision, saved)
-            return revision, len(saved)
-
-    def work(self, listen):
-        """Starts all parts, and waits until the process is asked to end."""
-        self.begin_from_disk()
-        server = serve.start(self, listen)
-        logs.info("answers over HTTP", address=server.address, members=",".join(self.members))
-        life.essential(self.follow)
-        life.essential(self.keep_up, server.address)
-        life.essential(self.sight.go_on, self.eyes)
-        self.report(address=server.address)
-        if self.piped:
-            self.life.start_to_obey(lambda _: False)
-        self.life.wait()
-        server.finish(GRACE)
-        self.try_to_save()
+    def save_all(self):
+        for each in list(self.begun().values()):
+            if not each.dropped.is_set():
+                each.try_to_save()
 
     def publish(self, etcd, lease, address):
         """Puts where this replica is, for as long as the lease is kept alive, and returns the lease."""
         if lease is None or not etcd.keep_alive(lease):
             lease = etcd.lease(LEASE)
-        words = {"name": self.name, "address": address, "floor": self.store.floor}
-        words["checkpoint"] = self.checkpoints.oldest()
+        parts, words = self.current(), {"name": self.name, "address": address}
+        if not parts:
+            return lease
+        words["floor"] = min(each.store.floor for each in parts)
+        words["checkpoint"] = min(each.checkpoints.oldest() for each in parts)
+        if list(self.begun()) != [0]:
+            words["ranges"] = {str(number): each.words() for number, each in self.begun().items()}
         try:
             etcd.transact([], [put(b"replica/" + self.name.encode(), log.to_json(words), lease=lease)])
         except Refused:  # the lease ended just now
             lease = None
         return lease
+
+    def others_and_links(self):
+        """Returns where the links of its ranges are, for its sight."""
+        return [(self.sights(each.range.members), each.range.prefix) for each in self.current()]
+
+    def sights(self, members):
+        """Returns the connection with which its sight looks at a cluster, or None for the first one."""
+        if members and members not in self.more_eyes:
+            self.more_eyes[members] = self.connect(members)
+        return self.more_eyes.get(members)
+
+    def work(self, listen):
+        """Starts all parts, and waits until the process is asked to end."""
+        self.look_at_map(self.connect(()))
+        server = serve.start(self, listen)
+        logs.info("answers over HTTP", address=server.address, members=",".join(self.members))
+        life.essential(self.keep_map)
+        life.essential(self.keep_up, server.address)
+        life.essential(self.sight.go_on, self.eyes, self.others_and_links)
+        self.report(address=server.address)
+        if self.piped:
+            self.life.start_to_obey(lambda _: False)
+        self.life.wait()
+        server.finish(GRACE)
+        self.save_all()
 
 
 STATUSES = {
@@ -293,10 +323,6 @@ STATUSES = {
     hlcstore.TooManySnapshots: 503,
     hlcstore.NoMemory: 503,
 }
-
-
-def links_of(store):
-    return [list(store.link(node)) for node in range(store.nodes)]
 
 
 def main():

@@ -6,10 +6,10 @@
     GET /read?stamp=S&key=K&key=..             the values of keys
     GET /range?stamp=S&from=K&to=K             the pairs of a range of keys
     GET /digest?stamp=S&from=K&to=K            the SHA-256 of such a range, and how many keys it has
-    GET /certificate?stamp=S                   vacuums to a stamp, and returns the certificate as text
-    GET /checkpoint                            the newest checkpoint, as bytes
+    GET /certificate?stamp=S&range=ID          vacuums a range to a stamp, and returns the certificate as text
+    GET /checkpoint?range=ID                   the newest checkpoint of a range, as bytes
 
-Without a stamp a read is at the floor. Keys are percent-encoded, and bytes are in hexadecimal digits in an answer. The
+Without a stamp a read is at the floor, of all ranges that are here. Where there is one, it need not be named. Keys are percent-encoded, and bytes are in hexadecimal digits in an answer. The
 status is 425 for a stamp above the floor, 410 for one below the horizon, 404 for what is not there, 400 for a request
 that makes no sense, and 503 for one that may be answered later. With it comes a text, as `refused`.
 
@@ -47,7 +47,8 @@ class Content(NamedTuple):
 
 
 class Answerer:
-    """Whoever answers. `others` has calls of a stamp for further paths, and `pages` those without parameters."""
+    """Whoever answers. `others` has calls of a stamp, and of a range where one is given, for further paths, and `pages`
+    those without parameters."""
 
     def __init__(self):
         self.others, self.pages = {}, {}
@@ -120,8 +121,8 @@ def answer(answerer, path, words):
         refuse_unknown(words)
         return answerer.pages[path]()
     if path in answerer.others:
-        refuse_unknown(words, "stamp")
-        return answerer.others[path](stamp_of(words))
+        refuse_unknown(words, "stamp", "range")
+        return answerer.others[path](stamp_of(words), *range_of(words))
     if path not in READS:
         raise Refused(404, "there is no such path")
     read, *names = READS[path]
@@ -172,6 +173,16 @@ def stamp_of(words):
     if not re.fullmatch("[0-9]{1,20}", text) or int(text) >= STAMPS:
         raise Refused(400, f"stamp: expected a decimal number below 2^64, got {text!r}")
     return int(text)
+
+
+def range_of(words):
+    """Returns the number of a range, or nothing."""
+    text = only(words, "range")
+    if text is None:
+        return []
+    if not re.fullmatch("[0-9]{1,10}", text):
+        raise Refused(400, f"range: expected a number, got {text!r}")
+    return [int(text)]
 
 
 def ends(words):

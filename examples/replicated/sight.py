@@ -19,7 +19,8 @@ EACH = 1.0  # seconds from one look to the next
 HELD = 1.0  # seconds: nothing holds back a floor that is younger
 SILENT = 2.0  # seconds without an item after which a node is silent: it reports every 50 ms
 APART = 5.0  # seconds: the head of a node that appends is not as old, unless its clock is behind
-PREFIXES = [b"link/", b"node/", b"replica/", b"ask/"]
+LINKS = b"link/"
+PREFIXES = [b"node/", b"replica/", b"ask/"]
 FAILURES = (OSError, http.client.HTTPException, Unavailable, Refused, ValueError, KeyError)
 
 
@@ -32,7 +33,8 @@ class Head(NamedTuple):
 
 
 class Look(NamedTuple):
-    """What etcd has at one moment: heads and names of nodes, by their numbers; what replicas publish; open requests."""
+    """What etcd has at one moment: heads and names of nodes, by their numbers; what replicas publish; open requests.
+    The head of a node in several ranges has the least last stamp, and the sum of the numbers."""
 
     heads: dict
     names: dict
@@ -74,17 +76,36 @@ def physical(stamp):
 # ---- Looking ----
 
 
-def look(etcd):
+def look(etcd, ranges=((None, b""),)):
+    """`ranges` has, of each range, a connection to the cluster of its log, where that is another one, and its prefix."""
     answer = etcd.transact([], [get(prefix, prefix_end(prefix)) for prefix in PREFIXES])
-    links, nodes, replicas, requests = (pairs_of(part["response_range"]) for part in answer["responses"])
+    nodes, replicas, requests = (pairs_of(part["response_range"]) for part in answer["responses"])
     heads = {}
-    for pair in links:
-        state = json.loads(pair.value)
-        heads[int(pair.key.removeprefix(b"link/"), 16)] = Head(state["next"], state["last"], bool(state.get("retired")))
+    for other, prefix in ranges:
+        links = prefix + LINKS
+        for pair in (other or etcd).list(links):
+            node, state = int(pair.key.removeprefix(links), 16), json.loads(pair.value)
+            head = Head(state["next"], state["last"], bool(state.get("retired")))
+            heads[node] = together(heads[node], head) if node in heads else head
     names = {json.loads(pair.value): pair.key.removeprefix(b"node/").decode(errors="replace") for pair in nodes}
     names[log.COORDINATOR] = "coordinator"
     texts = [pair.key.removeprefix(b"ask/").decode(errors="replace") for pair in requests]
     return Look(heads, names, [json.loads(pair.value) for pair in replicas], texts)
+
+
+def together(one, other):
+    """Returns the head of a node in two ranges: the floor waits for the lower one, unless that has retired."""
+    last = min((head.last for head in (one, other) if not head.retired), default=max(one.last, other.last))
+    return Head(one.next + other.next, last, one.retired and other.retired)
+
+
+def links_together(links):
+    """Returns the links of nodes in several ranges, of which each has a list."""
+    nodes = {}
+    for of_range in links:
+        for node, link in enumerate(of_range):
+            nodes[node] = together(nodes[node], Head(*link)) if node in nodes else Head(*link)
+    return [list(nodes[node]) for node in sorted(nodes)]
 
 
 class Sight:
@@ -108,11 +129,11 @@ class Sight:
         self.rate.note(sum(link[0] for link in links))
         self.behind(links)
 
-    def go_on(self, etcd):
+    def go_on(self, etcd, ranges=lambda: ((None, b""),)):
         """Looks again and again. Where etcd does not answer, what was seen before gets older."""
         while True:
             try:
-                self.note(look(etcd))
+                self.note(look(etcd, ranges()))
             except FAILURES:
                 pass
             time.sleep(EACH)

@@ -1,8 +1,9 @@
-"""A writer: issues writes and deletions as a node, and appends them to the node's link in batches.
+"""A writer: issues writes and deletions as a node, and appends them to the node's links in batches.
 
     writer.py --name w1 --members HOST:PORT ..
 
-The coordinator has a node for each name. A writer that comes again under its name goes on behind the last item of the
+Each write goes to the range that has its key. Where the log of that range has ended, nothing of the batch is in it: its
+writes are issued again, for the ranges that the map has instead. The coordinator has a node for each name. A writer that comes again under its name goes on behind the last item of the
 log. If no node can join for its name, it ends with status 5. Where another process of its name takes over, it ends with
 status 3. A first SIGTERM or SIGINT ends it without a retirement: the floor waits until it comes again, or is lost. With
 --piped its output has its node, and after each append the next number: what is below is in the log for good. It ends
@@ -19,9 +20,11 @@ import hlcstore
 import life
 import log
 import logs
+import machine
 import settings
-from etcd import Etcd, Stopped, delete, put
-from hlcstore import Node, split
+from etcd import Etcd, Stopped, delete, put, unchanged
+from history import History
+from hlcstore import split
 
 MOST_BYTES = 1_000_000  # in a batch: etcd takes transactions of at most 1.5 MiB
 AHEAD = 10_000  # milliseconds: stamps that are further ahead of this node come from a wrong clock
@@ -32,27 +35,59 @@ SETTINGS = [
     settings.Setting("batch", settings.number(1), "the most items in a batch", 512),
     settings.Setting("rate", settings.number(0), "items a second; 0: as many as there is time for", 1000),
     settings.Setting("keys", settings.number(1), "the number of keys", 20_000),
+    settings.Setting("history", settings.path, "a file that gets what it writes, for checker.py", None),
     settings.MEMBERS, settings.LOG_LEVEL,
 ]  # fmt: skip
 
 
 class Writer:
-    def __init__(self, name, batch, rate, keys, members, process=None, piped=False):
+    def __init__(self, name, batch, rate, keys, members, process=None, piped=False, history=None):
         self.name, self.batch, self.rate, self.keys = name, batch, rate, keys
         self.life, self.piped = process or life.Life(), piped
-        self.etcd = Etcd(members)
-        self.etcd.ending = self.life.asked
+        self.etcd = self.connect(members)
         self.offset, self.retires = 0, False
+        self.history = History(history)
         self.chance = random.Random(name)
+        self.waiting = []  # writes that no log has yet: those of a batch that was refused come again
         self.number = self.find_node()
-        self.link = log.Link(self.etcd, self.number)
-        try:
-            state = self.link.claim(None)
-        except log.Retired:
-            raise life.Never(f"node {self.number} of {name} retired") from None
-        self.node = Node.restore(self.number, state["last"], state["next"])
-        logs.info("has its node", node=self.number, next=self.node.next)
+        self.machine = machine.Machine(self.number, self.etcd, self.connect)
+        self.take_over()
+        if self.etcd.get(self.machine.retires_key()):
+            self.retires = True  # this was decided before, and is not done
+        logs.info("has its node", node=self.number, next=self.items())
         self.report("node", self.number)
+
+    def connect(self, members):
+        etcd = Etcd(members)
+        etcd.ending = self.life.asked
+        return etcd
+
+    def take_over(self):
+        """Takes the node's links over, in all ranges that there are now."""
+        try:
+            while not self.machine.take_over():
+                self.pause()
+        except log.Retired:
+            self.forget()
+            raise life.Never(f"node {self.number} of {self.name} retired") from None
+
+    def pause(self):
+        if self.life.asked.is_set():
+            raise Stopped
+        time.sleep(0.02)
+
+    @property
+    def node(self):
+        """The node in the first range."""
+        return self.machine.first().node
+
+    @node.setter
+    def node(self, node):
+        self.machine.first().node = node
+
+    def items(self):
+        """Returns how many items the node has issued, in all ranges."""
+        return sum(part.node.next for part in self.machine.parts.values())
 
     def report(self, *words):
         """Says on its output, to the program that started it, how far it is."""
@@ -64,9 +99,7 @@ class Writer:
         name = self.name.encode()
         while not (found := self.etcd.get(b"node/" + name)):
             self.ask(b"ask/join/" + name)
-            if self.life.asked.is_set():
-                raise Stopped
-            time.sleep(0.02)
+            self.pause()
         return json.loads(found.value)
 
     def ask(self, request):
@@ -86,7 +119,9 @@ class Writer:
     # ---- The clock ----
 
     def reading(self):
-        return clock.reading(self.node, self.offset)
+        """The reading of its clock, for the next item in whatever range."""
+        node = self.machine.acting(self.machine.first())
+        return clock.reading(node, self.offset)
 
     def listen(self):
         """Receives the last stamp of another writer's link, as a message would bring it.
@@ -94,34 +129,79 @@ class Writer:
         So a node whose clock stands still or was set back is carried along. A stamp far ahead is not taken over: one
         wrong clock must not set all others wrong.
         """
-        other = self.chance.choice(self.etcd.list(b"link/"))
-        last = json.loads(other.value)["last"]
-        if split(last)[0] - max(self.reading(), split(self.node.last)[0]) < AHEAD:
-            self.node.receive(last, self.reading())
+        part = self.chance.choice(list(self.machine.parts.values()))
+        links = self.machine.connect(part.range.members).list(part.range.prefix + b"link/")
+        last = json.loads(self.chance.choice(links).value)["last"]
+        self.observe(last)
+
+    def observe(self, stamp):
+        """What it writes later is above this stamp, unless that is far ahead."""
+        reading, part = self.reading(), self.machine.first()
+        if split(stamp)[0] - max(reading, split(part.node.last)[0]) < AHEAD:
+            part.node.receive(stamp, reading)
+            self.machine.acted(part)
 
     # ---- Items ----
 
-    def issue(self):
-        """Returns a next item. Its value names its node and number, so that the model sees whether it is in place."""
+    def next_write(self):
+        """Returns a key, and what follows in its value; or None, where it is to be deleted."""
         key = b"key%07d" % int(self.keys * self.chance.random() ** 4)
-        if self.chance.random() < 0.1:
-            return bytes(self.node.delete(self.reading(), key))
-        value = b"%d.%d." % (self.number, self.node.next) + b"x" * self.chance.randrange(80)
-        return bytes(self.node.write(self.reading(), key, value))
+        return key, None if self.chance.random() < 0.1 else b"x" * self.chance.randrange(80)
+
+    def issue(self, part, key, value):
+        """Returns a next item. Its value names its node and number, so that the model sees whether it is in place."""
+        reading, node = self.reading(), self.machine.acting(part)
+        if value is not None:
+            value = b"%d.%d." % (self.number, node.next) + value
+        item = bytes(node.delete(reading, key) if value is None else node.write(reading, key, value))
+        self.machine.acted(part)
+        self.history.issue(key, node.last, value)
+        return item
+
+    def routed(self, writes):
+        """Returns the writes for each range, in their order: each goes to the range of its key."""
+        by_range = {}
+        for write in writes:
+            by_range.setdefault(self.machine.map.at(write[0]).id, []).append(write)
+        return by_range
 
     def issue_batch(self, most):
-        items, size = [], 0
-        while len(items) < most and size < MOST_BYTES - 70_000:
-            items.append(self.issue())
-            size += len(items[-1])
-        return b"".join(items)
+        """Returns the bytes of items for the first range, which are not appended yet."""
+        return b"".join(self.issue(self.machine.first(), *self.next_write()) for _ in range(most))
 
-    def append(self, number, items, also=()):
+    def append(self, number, items, also=(), part=None):
         """Appends items, of which the first has this number. Only afterwards further ones are issued."""
-        state = {"next": self.node.next, "last": self.node.last, "retired": self.node.retired}
-        self.link.append(log.batch_key(self.number, number), items, state, also)
-        logs.debug("appended", next=self.node.next)
-        self.report("next", self.node.next)
+        (part or self.machine.first()).append_items(number, items, also)
+        logs.debug("appended", next=self.items())
+        self.report("next", self.items())
+
+    def append_writes(self, writes):
+        """Appends each write in the range of its key. Those of a range whose log has ended wait for the next round."""
+        for number, of_range in self.routed(writes).items():
+            part = self.machine.parts[number]
+            while of_range:
+                first, items, size = part.node.next, [], 0
+                while len(items) < len(of_range) and size < MOST_BYTES - 70_000:
+                    items.append(self.issue(part, *of_range[len(items)]))
+                    size += len(items[-1])
+                self.history.sends()
+                try:
+                    self.append(first, b"".join(items), part=part)
+                except log.Sealed:
+                    self.history.done(False)
+                    self.waiting += of_range
+                    break
+                self.history.done(True)
+                del of_range[: len(items)]
+
+    def report_idle(self, now):
+        """Reports in each range for which there was nothing, so that no floor waits for this writer."""
+        for part in self.machine.parts.values():
+            if now - part.appended > IDLE:
+                first, node = part.node.next, self.machine.acting(part)
+                item = bytes(node.report(self.reading()))
+                self.machine.acted(part)
+                self.append(first, item, part=part)
 
     def write(self):
         rounds, allowed, before, appended = 0, 0.0, time.monotonic(), time.monotonic()
@@ -130,30 +210,53 @@ class Writer:
             allowed = min(allowed + (now - before) * self.rate, self.rate)  # those of a second at most
             before = now
             most = min(self.batch, int(allowed)) if self.rate else self.batch
-            first = self.node.next
-            if most == self.batch or most > 0 and now - appended > LINGER:
-                items = self.issue_batch(most)
-                allowed -= self.node.next - first
-            elif now - appended > IDLE:
-                items = bytes(self.node.report(self.reading()))
-            else:
-                time.sleep(0.002)
-                continue
-            self.append(first, items)
-            appended = time.monotonic()
-            rounds += 1
-            if rounds % 10 == 0:
-                self.listen()
+            try:
+                if most == self.batch or most > 0 and now - appended > LINGER:
+                    allowed -= most
+                    self.append_writes([self.next_write() for _ in range(most)])
+                    appended = now
+                elif all(now - part.appended <= IDLE for part in self.machine.parts.values()):
+                    time.sleep(0.002)
+                    continue
+                self.report_idle(now)
+                rounds += 1
+                if rounds % 10 == 0:
+                    self.listen()
+            except log.Sealed:
+                self.take_over()
+            self.append_waiting()
         if self.retires:
             self.retire()
         else:
             logs.warning("the floor waits until this writer comes again, or is lost", node=self.number)
 
+    def append_waiting(self):
+        """Appends the writes of refused batches, in the ranges that have their keys now."""
+        while self.waiting:
+            self.take_over()
+            writes, self.waiting = self.waiting, []
+            self.append_writes(writes)
+
     def retire(self):
         """Appends the last item. With it the name is free again: the next writer of this name joins as another node."""
-        first, name = self.node.next, self.name.encode()
+        name = self.name.encode()
         also = [delete(b"node/" + name), delete(b"ask/lost/" + name)]
-        self.append(first, bytes(self.node.retire(self.reading())), also)
+        if self.machine.is_simple():
+            try:
+                return self.append(self.node.next, bytes(self.node.retire(self.reading())), also)
+            except log.Sealed:
+                self.take_over()
+        self.machine.retire(self.machine.decide_to_retire(self.reading()))
+        self.report("next", self.items())
+        self.forget()
+
+    def forget(self):
+        """Gives the name back, of a node that retired in all ranges, unless that was done before."""
+        name, decided = self.name.encode(), self.machine.retires_key()
+        found = self.etcd.get(b"node/" + name)
+        if found and json.loads(found.value) == self.number and self.etcd.get(decided):
+            also = [delete(found.key), delete(b"ask/lost/" + name), delete(decided)]
+            self.etcd.transact([unchanged(found.key, found.revision)], also)
 
     def command(self, words):
         """Carries a line of standard input out, and returns whether it knows it."""
@@ -173,7 +276,8 @@ def main():
     life.EXPECTED.append(hlcstore.Error)
 
     def work(process):
-        writer = Writer(words.name, words.batch, words.rate, words.keys, words.members, process, words.piped)
+        amounts = words.batch, words.rate, words.keys
+        writer = Writer(words.name, *amounts, words.members, process, words.piped, words.history)
         if words.piped:
             process.start_to_obey(writer.command, lambda: writer.retires)
         writer.write()

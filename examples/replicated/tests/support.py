@@ -21,6 +21,8 @@ import logs
 from cluster import Cluster
 from coordinator import Coordinator
 from etcd import Compacted, Etcd, Pair, delete, encode, put
+from part import Part
+from ranges import Range
 from replica import Replica
 from writer import Writer
 
@@ -161,12 +163,16 @@ class Case(unittest.TestCase):
         return said
 
     def start_coordinator(self):
-        with mock.patch("coordinator.Etcd", lambda _: self.new_etcd()):
+        with mock.patch("coordinator.Etcd", self.etcd_at):
             return Coordinator(RETENTION, ["member"])
 
-    def start_writer(self, name):
-        with mock.patch("writer.Etcd", lambda _: self.new_etcd()):
-            return Writer(name, 10, 0, 100, ["member"])
+    def start_writer(self, name, keys=100):
+        with mock.patch("writer.Etcd", self.etcd_at):
+            return Writer(name, 10, 0, keys, ["member"])
+
+    def etcd_at(self, members):
+        """Returns a connection to the cluster of these members."""
+        return self.new_etcd()
 
     def put(self, key, value=b""):
         self.new_etcd().transact([], [put(key, value)])
@@ -177,18 +183,18 @@ class Case(unittest.TestCase):
         return pair.value if pair else None
 
     def new_replica(self):
-        """Returns a replica with an empty store, which does nothing by itself."""
-        replica = Replica("r1", self.folder / "r1", 1, ["member"])
-        replica.store = hlcstore.Store(1)
-        return replica
+        """Returns range 0 at a replica, with an empty store, which does nothing by itself."""
+        part = Part(Replica("r1", self.folder / "r1", 1, ["member"]), Range(0))
+        part.replica.parts[0], part.store = part, hlcstore.Store(1)
+        return part
 
     def replay(self):
-        """Returns a replica that has applied the whole log. It raises what the store refuses."""
-        replica, etcd = self.new_replica(), self.new_etcd()
-        while entries := log.page(etcd, replica.revision)[0]:
+        """Returns range 0 at a replica that has applied the whole log. It raises what the store refuses."""
+        part, etcd = self.new_replica(), self.new_etcd()
+        while entries := log.page(etcd, part.revision)[0]:
             for entry in entries:
-                replica.apply(entry)
-        return replica
+                part.apply(entry)
+        return part
 
 
 class MemoryCase(Case):

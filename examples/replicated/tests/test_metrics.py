@@ -121,18 +121,19 @@ class OfAReplica(Answers):
         self.last = writer.node.last
         self.coordinator.offset = 1000  # its head is above that of the writer
         self.coordinator.append_item(self.coordinator.node.report)
-        self.replica = self.replay()
+        self.part = self.replay()
+        self.replica = self.part.replica
         self.look(self.replica)
 
     def test_what_is_stored(self):
-        store = self.replica.store
+        store = self.part.store
         read = self.read(self.replica)
         for name in "rows", "keys", "key_bytes", "value_bytes":
             self.assertEqual(number(read, "hlcstore_" + name), getattr(store.sizes, name))
         self.assertGreater(store.rows, 0)
         self.assertEqual(number(read, "hlcstore_items_total"), 7 + 2)
         self.assertEqual(number(read, "hlcstore_nodes"), 2)
-        self.assertEqual(number(read, "hlcstore_log_revision"), self.replica.revision)
+        self.assertEqual(number(read, "hlcstore_log_revision"), self.part.revision)
         self.assertEqual(number(read, "hlcstore_log_behind_items"), 0)
         self.assertEqual(number(read, "hlcstore_floor_seconds"), (self.last >> 16) / 1000)
         self.assertEqual(number(read, "hlcstore_horizon_seconds"), 0)
@@ -158,7 +159,7 @@ class OfAReplica(Answers):
             self.assertEqual(number(read, "hlcstore_alarm", alarm=alarm), alarm in names)
 
     def test_it_is_behind(self):
-        late = self.new_replica()
+        late = self.new_replica().replica
         self.look(late)
         read = self.read(late)
         self.assertEqual(number(read, "hlcstore_log_behind_items"), 7 + 2)
@@ -190,24 +191,24 @@ class OfAReplica(Answers):
 
     def test_checkpoints(self):
         self.assertEqual(number(self.read(self.replica), "hlcstore_checkpoint_bytes"), 0)
-        self.replica.try_to_save()
+        self.part.try_to_save()
         read = self.read(self.replica)
-        size = self.replica.checkpoints.paths()[0].stat().st_size
+        size = self.part.checkpoints.paths()[0].stat().st_size
         self.assertEqual(number(read, "hlcstore_checkpoint_bytes"), size)
         self.assertEqual(number(read, "hlcstore_checkpoints_total"), 1)
         self.assertLess(number(read, "hlcstore_checkpoint_age_seconds"), 120)
 
     def test_a_checkpoint_that_is_not_saved(self):
         """The replica goes on, and says so until one is saved."""
-        self.replica.try_to_save()
-        before = self.replica.checkpoints.paths()
+        self.part.try_to_save()
+        before = self.part.checkpoints.paths()
         with mock.patch("os.fsync", side_effect=OSError(28, "No space left on device")), mock.patch("logs.error"):
-            self.replica.try_to_save()
-        self.assertEqual(list(self.replica.checkpoints.folder.iterdir()), before)
+            self.part.try_to_save()
+        self.assertEqual(list(self.part.checkpoints.folder.iterdir()), before)
         self.assertIn("CheckpointFailed", raised(self.replica))
         self.assertIn("No space left on device", self.replica.state()["checkpoints"]["failure"])
         self.assertEqual(number(self.read(self.replica), "hlcstore_checkpoints_failed_total"), 1)
-        self.replica.try_to_save()
+        self.part.try_to_save()
         self.assertNotIn("CheckpointFailed", raised(self.replica))
 
 

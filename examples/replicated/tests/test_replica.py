@@ -95,7 +95,7 @@ class Applying(MemoryCase):
         self.replica.apply(self.entries[0])
         save.join()
         self.assertEqual(self.store.saved, [(1, 1)])
-        self.assertEqual(hlcstore.Store.restore(self.replica.newest(None)).word, 1)
+        self.assertEqual(hlcstore.Store.restore(self.replica.newest()).word, 1)
 
 
 class Beginning(MemoryCase):
@@ -139,7 +139,7 @@ class Beginning(MemoryCase):
     def test_it_begins_from_another_where_the_log_was_cut(self):
         other = self.replay()
         other.save()
-        words = {"name": "r2", "address": serve.start(other).address, "checkpoint": other.revision}
+        words = {"name": "r2", "address": serve.start(other.replica).address, "checkpoint": other.revision}
         self.put(b"replica/r2", log.to_json(words))
         log.cut(self.new_etcd(), self.coordinator.link, other.revision)
         late = self.new_replica()
@@ -153,7 +153,7 @@ class Beginning(MemoryCase):
         replica.checkpoints.save(3, b"old")
         replica.checkpoints.save(4, b"new")
         with mock.patch.object(etcd, "lease", lambda _: 0):
-            replica.publish(etcd, None, "address")
+            replica.replica.publish(etcd, None, "address")
         words = {"name": "r1", "address": "address", "floor": replica.store.floor, "checkpoint": 3}
         self.assertEqual(json.loads(self.value(b"replica/r1")), words)
 

@@ -99,7 +99,7 @@ class Answers:
 
 class OfAReplica(Answers, MemoryCase):
     def new_answerer(self):
-        return self.fill(self.new_replica())
+        return self.fill(self.new_replica()).replica
 
     def test_certificates(self):
         self.assertEqual(self.refused("/certificate", 400), "a stamp is missing")
@@ -112,13 +112,13 @@ class OfAReplica(Answers, MemoryCase):
 
     def test_checkpoints(self):
         self.assertEqual(self.refused("/checkpoint", 404), "there is no checkpoint yet")
-        self.answerer.save()
+        self.answerer.parts[0].save()
         status, saved = self.ask("/checkpoint")
         self.assertEqual((status, hlcstore.Store.restore(saved).word), (200, 1))
         self.assertIn("unknown parameter", self.refused("/checkpoint?from=a", 400))
 
     def test_too_many_snapshots_are_open(self):
-        snapshots = [self.answerer.store.snapshot() for _ in range(1024)]
+        snapshots = [self.answerer.parts[0].store.snapshot() for _ in range(1024)]
         self.refused("/read?key=key", 503)
         snapshots.pop().close()
         self.assertEqual(self.ask("/read?key=key")[0], 200)

@@ -1,0 +1,42 @@
+"""The history of what a client wrote and read, for checker.py: lines of JSON in a file, which is added to.
+
+    {"sends": [[key, stamp, value], ..]}   writes, before they are appended; a value of null is a deletion
+    {"done": true}                         they are in the log, or with false: they were refused, and are in none
+    {"saw": stamp}                         the stamp of a read of which the client knows before it writes on
+    {"read": stamp, "values": [[key, value], ..], "began": time}    what a read at a stamp answered
+
+Each line has `by`, the process, as another one of the same name may add to the file while the first stands still. Keys
+and values are in hexadecimal digits. Writes without a word on what came of them may be in the log or not.
+"""
+
+import json
+import os
+
+
+class History:
+    """Where no path is given, nothing is kept."""
+
+    def __init__(self, path=None):
+        self.file = open(path, "a", buffering=1) if path else None
+        self.batch = []
+
+    def say(self, **words):
+        if self.file:
+            self.file.write(json.dumps(words | {"by": os.getpid()}) + "\n")
+
+    def issue(self, key, stamp, value):
+        if self.file:
+            self.batch.append([key.hex(), int(stamp), None if value is None else value.hex()])
+
+    def sends(self):
+        self.say(sends=self.batch)
+        self.batch = []
+
+    def done(self, taken):
+        self.say(done=taken)
+
+    def saw(self, stamp):
+        self.say(saw=stamp)
+
+    def read(self, stamp, values, began):
+        self.say(read=stamp, values=values, began=began)
