@@ -144,10 +144,11 @@ class Coordinator(serve.Answerer):
                 self.let_join_in(self.first, name, self.head["nodes"], also)
                 self.counters.add("joins")
             return
-        number = json.loads(found.value) if found else max(part.state["nodes"] for part in self.machine.parts.values())
+        counts = {part.state["nodes"] for part in self.machine.parts.values()}
+        number = json.loads(found.value) if found else max(counts)
         if not found:
-            if not self.can_join(name, number):
-                return
+            if len(counts) > 1 or not self.can_join(name, number):
+                return  # another join is under way, whose name comes first
             self.decide([put(b"node/" + name, log.to_json(number))])
             self.counters.add("joins")
         for part in self.machine.parts.values():

@@ -88,7 +88,7 @@ class Replica(serve.Answerer):
             if each.store is None and each.lacks_parents():
                 self.have_parents(etcd, each)
         for each in list(self.parts.values()):
-            if not self.needs(etcd, each.range):
+            if not self.needs(etcd, self.map.ranges[each.range.id]):
                 del self.parts[each.range.id]
                 each.drop()
                 logs.info("has a range no more", range=each.range.id)
