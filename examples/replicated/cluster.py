@@ -38,17 +38,26 @@ def free_ports(many):
 
 
 class Cluster:
-    def __init__(self, folder, quota=QUOTA, members=MEMBERS):
+    """`place`, where it is given, returns the address of a machine for a name, and the words that start a program
+    there. A member's name is that of the folder, with its number."""
+
+    def __init__(self, folder, quota=QUOTA, members=MEMBERS, place=None):
         self.folder, self.quota = pathlib.Path(folder), quota
         self.folder.mkdir(parents=True, exist_ok=True)
-        ports = [f"127.0.0.1:{port}" for port in free_ports(2 * members)]
-        self.addresses, self.peers = ports[:members], ports[members:]
+        ports = free_ports(2 * members)
+        self.names = [f"{self.folder.name}-m{number}" for number in range(members)]
+        places = [place(name) if place else ("127.0.0.1", []) for name in self.names]
+        self.addresses, self.peers = (
+            [f"{host}:{port}" for (host, _), port in zip(places, some, strict=True)]
+            for some in (ports[:members], ports[members:])
+        )
+        self.inside = [words for _, words in places]
         self.running = {}
 
     def start(self, member, state="new"):
         client, peer = f"http://{self.addresses[member]}", f"http://{self.peers[member]}"
         everyone = ",".join(f"m{number}=http://{address}" for number, address in enumerate(self.peers))
-        words = [*ENDS_WITH_THIS, "etcd", "--name", f"m{member}", "--data-dir", self.folder / f"m{member}"]
+        words = [*self.inside[member], *ENDS_WITH_THIS, "etcd", "--name", f"m{member}", "--data-dir", self.folder / f"m{member}"]
         words += ["--listen-client-urls", client, "--advertise-client-urls", client]
         words += ["--listen-peer-urls", peer, "--initial-advertise-peer-urls", peer]
         words += ["--initial-cluster", everyone, "--initial-cluster-state", state]

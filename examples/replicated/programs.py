@@ -22,12 +22,12 @@ class Difference(Exception):
 class Program:
     """A running program. Its standard error goes to a file, and what it says is kept."""
 
-    def __init__(self, folder, name, file, *words):
+    def __init__(self, folder, name, file, *words, inside=()):
         self.name = name
         self.started = time.monotonic()
         with open(folder / f"{name}.err", "ab") as errors:
             self.process = subprocess.Popen(
-                [sys.executable, "-B", HERE / file, "--piped", *map(str, words)],
+                [*inside, sys.executable, "-B", HERE / file, "--piped", *map(str, words)],
                 stdin=subprocess.PIPE, stdout=subprocess.PIPE, stderr=errors, text=True,
             )  # fmt: skip
         self.numbers = {}  # of each word that began a line: the number behind it, in the last such line
@@ -96,12 +96,14 @@ def ask(address, path, **words):
 class Programs:
     """All that runs: the clusters, the coordinator, the model, replicas and writers."""
 
-    def __init__(self, folder, retention, checkpoint, writing, replicas=3, clusters=1):
+    def __init__(self, folder, retention, checkpoint, writing, replicas=3, clusters=1, net=None):
+        self.net = net
         self.folder, self.retention, self.checkpoint = folder, retention, checkpoint
         batch, rate, keys = writing
         self.writing = ["--batch", batch, "--rate", rate, "--keys", keys]
-        self.cluster = Cluster(folder / "etcd")
-        more = [Cluster(folder / f"etcd{number}", members=1) for number in range(2, clusters + 1)]
+        place = net and net.place
+        self.cluster = Cluster(folder / "etcd", place=place)
+        more = [Cluster(folder / f"etcd{number}", members=1, place=place) for number in range(2, clusters + 1)]
         self.clusters = [self.cluster, *more]
         self.replica_names = [f"r{number}" for number in range(1, replicas + 1)]
         self.histories = folder / "histories"
@@ -113,7 +115,14 @@ class Programs:
         self.killed = []  # replicas
 
     def program(self, name, file, *words):
-        return Program(self.folder, name, file, *words, "--members", *self.cluster.addresses)
+        host, inside = self.net.place(name) if self.net else ("127.0.0.1", [])
+        listen = [] if file == "writer.py" else ["--listen", f"{host}:0"]
+        words = [*words, *listen, "--members", *self.cluster.addresses]
+        return Program(self.folder, name, file, *words, inside=inside)
+
+    def members(self):
+        """Returns the names of the members of all clusters that run."""
+        return [cluster.names[number] for cluster in self.clusters for number in cluster.running]
 
     def start(self):
         """Starts all: the members, the replicas and three writers."""
@@ -134,6 +143,8 @@ class Programs:
                 program.kill()
         for cluster in self.clusters:
             cluster.stop()
+        if self.net:
+            self.net.stop()
 
     def running(self):
         programs = [self.coordinator, self.model, *self.replicas.values(), *self.writers.values()]
