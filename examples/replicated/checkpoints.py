@@ -9,7 +9,9 @@ KEEP = 2  # should the newest one be damaged, the one before is there, and the l
 class Checkpoints:
     def __init__(self, folder):
         self.folder = pathlib.Path(folder)
-        self.folder.mkdir(parents=True, exist_ok=True)
+        if not self.folder.is_dir():
+            self.folder.mkdir(parents=True, exist_ok=True)
+            synchronise(self.folder.parent)
 
     def paths(self):
         """Returns the files, the newest first."""
@@ -50,6 +52,11 @@ def write_durably(path, content):
         part.unlink(missing_ok=True)  # the file system is full: what was written would only fill it
         raise
     part.rename(path)
-    folder = os.open(path.parent, os.O_RDONLY)
-    os.fsync(folder)
-    os.close(folder)
+    synchronise(path.parent)
+
+
+def synchronise(folder):
+    """Writes the names in a folder through to the disk."""
+    opened = os.open(folder, os.O_RDONLY)
+    os.fsync(opened)
+    os.close(opened)

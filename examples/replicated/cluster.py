@@ -75,6 +75,12 @@ class Cluster:
         process.kill()
         process.wait()
 
+    def end(self, member):
+        """Lets a member end by itself."""
+        process = self.running.pop(member)
+        process.terminate()
+        process.wait()
+
     def status(self, member):
         """Returns what a member says of itself, or None."""
         try:

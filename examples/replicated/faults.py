@@ -25,6 +25,7 @@ class Faults:
         self.counts = {}
         self.faults = [self.kill_member, self.freeze_member, self.kill_coordinator, self.replace_coordinator]
         self.faults += [self.kill_replica] * 3 + [self.damage_replica, self.empty_replica, self.kill_all]
+        self.faults += [self.fail_power] * 2
         self.faults += [self.kill_writer] * 2 + [self.replace_writer, self.set_clock, self.set_clock]
         self.faults += [self.add_writer, self.retire_writer, self.lose_writer]
 
@@ -87,7 +88,7 @@ class Faults:
         self.await_member(member)
 
     def kill_all(self):
-        """All at once, as if the current failed; but the kernel still writes what it has."""
+        """All at once, as if the power failed. Of the members, the kernel still writes what it has."""
         if self.member_down is not None or self.later:
             return None
         programs = self.programs
@@ -97,6 +98,8 @@ class Faults:
         names, writers = list(programs.replicas), list(programs.writers)
         for name in names:
             programs.kill_replica(name)
+            if programs.power:
+                programs.fail_power(name)
         for name in writers:
             programs.kill_writer(name)
         programs.coordinator.kill()
@@ -140,8 +143,20 @@ class Faults:
         name = self.chance.choice(list(self.programs.replicas))
         self.programs.kill_replica(name)
         shutil.rmtree(self.programs.folder / name)
+        shutil.rmtree(self.programs.shadow(name), ignore_errors=True)
         self.after(0.2, 2, self.programs.start_replica, name)
         return f"kill -9 replica {name}, and its disk is empty"
+
+    def fail_power(self):
+        """A replica's machine loses its power, and with it what was not synchronised."""
+        ready = self.programs.answering()
+        if len(ready) < 2 or not self.programs.power:
+            return None
+        name = self.chance.choice(list(ready))
+        self.programs.kill_replica(name)
+        lost = self.programs.fail_power(name)
+        self.after(0.2, 5, self.programs.start_replica, name)
+        return f"the power of replica {name} fails, and {lost} files are other than they were"
 
     # ---- The coordinator ----
 

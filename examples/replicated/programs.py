@@ -9,6 +9,7 @@ import threading
 import time
 import urllib.parse
 
+import power
 from cluster import Cluster
 
 HERE = pathlib.Path(__file__).resolve().parent
@@ -96,8 +97,8 @@ def ask(address, path, **words):
 class Programs:
     """All that runs: the clusters, the coordinator, the model, replicas and writers."""
 
-    def __init__(self, folder, retention, checkpoint, writing, replicas=3, clusters=1, net=None):
-        self.net = net
+    def __init__(self, folder, retention, checkpoint, writing, replicas=3, clusters=1, net=None, power_library=None):
+        self.net, self.power = net, power_library
         self.folder, self.retention, self.checkpoint = folder, retention, checkpoint
         batch, rate, keys = writing
         self.writing = ["--batch", batch, "--rate", rate, "--keys", keys]
@@ -116,6 +117,8 @@ class Programs:
 
     def program(self, name, file, *words):
         host, inside = self.net.place(name) if self.net else ("127.0.0.1", [])
+        if self.power and file == "replica.py":
+            inside = [*inside, *power.words_of(self.power, self.folder / name, self.shadow(name))]
         listen = [] if file == "writer.py" else ["--listen", f"{host}:0"]
         words = [*words, *listen, "--members", *self.cluster.addresses]
         return Program(self.folder, name, file, *words, inside=inside)
@@ -181,6 +184,14 @@ class Programs:
         replica = self.replicas.pop(name)
         replica.kill()
         self.killed.append(replica)
+
+    def shadow(self, name):
+        """Returns the folder that has what a replica has synchronised."""
+        return self.folder / "shadows" / name
+
+    def fail_power(self, name):
+        """Leaves of the folder of a replica that was killed what is there when the power has failed."""
+        return power.fail(self.folder / name, self.shadow(name))
 
     def start_writer(self, name):
         words = ["--name", name, *self.writing, "--history", self.histories / name]
