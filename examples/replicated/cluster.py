@@ -84,7 +84,7 @@ class Cluster:
     def status(self, member):
         """Returns what a member says of itself, or None."""
         try:
-            return Etcd([self.addresses[member]]).ask("maintenance/status", "{}")
+            return Etcd([self.addresses[member]]).ask("maintenance/status", {})
         except (OSError, http.client.HTTPException, Unavailable):
             return None
 

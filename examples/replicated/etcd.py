@@ -1,4 +1,5 @@
-"""A client of etcd that needs the standard library alone: it speaks to etcd's HTTP/JSON gateway.
+"""A client of etcd that needs the standard library alone: it speaks to etcd's HTTP/JSON gateway; or by gRPC (rpc.py),
+where Python has that, and ETCD_RPC is not `json` in the environment.
 
 A cluster has several members, and each of them answers for all. Where one does not answer in time, the call goes to the
 next. The first may have carried it out all the same, so that a call can take place twice: `log.py` makes only calls for
@@ -8,15 +9,19 @@ which that is harmless. In the gateway's JSON, bytes are in base64, 64-bit numbe
 import base64
 import http.client
 import json
+import os
+import queue
 import random
 import threading
 import time
 from typing import NamedTuple
 
 import logs
+import rpc
 
 TIMEOUT = 3.0  # seconds without an answer, or without a watched change, after which the next member is asked
 PATIENCE = 120.0  # seconds without any member's answer after which a call fails
+BY_RPC = rpc.grpc is not None and os.environ.get("ETCD_RPC") != "json"
 BUSY = (408, 429, 500, 503, 504)  # no leader, no answer in time, no space: the call can be made again
 
 
@@ -48,10 +53,14 @@ def encode(data):
     return base64.b64encode(data).decode()
 
 
+def plain(data):
+    """Returns bytes of an answer: those of the gateway are in base64."""
+    return base64.b64decode(data) if isinstance(data, str) else data
+
+
 def pair_of(words):
     """Returns what a key-value of the gateway says."""
-    value = base64.b64decode(words.get("value", ""))
-    return Pair(base64.b64decode(words["key"]), value, int(words["mod_revision"]))
+    return Pair(plain(words["key"]), plain(words.get("value", b"")), int(words["mod_revision"]))
 
 
 def pairs_of(answer):
@@ -81,7 +90,7 @@ def trouble_text(failure):
 
 def range_of(key, end=b"", **more):
     """Asks for a key; or for the keys from `key` on and below `end`."""
-    return {"key": encode(key), "range_end": encode(end), **more}
+    return {"key": key, "range_end": end, **more}
 
 
 def prefix_of(prefix, **more):
@@ -89,7 +98,7 @@ def prefix_of(prefix, **more):
 
 
 def put(key, value, **more):
-    return {"request_put": {"key": encode(key), "value": encode(value), **more}}
+    return {"request_put": {"key": key, "value": value, **more}}
 
 
 def get(key, end=b"", **more):
@@ -102,7 +111,7 @@ def delete(key, end=b""):
 
 def unchanged(key, revision):
     """A condition: the key was last changed at this revision, which is 0 where there is no such key."""
-    return {"key": encode(key), "target": "MOD", "result": "EQUAL", "mod_revision": str(revision)}
+    return {"key": key, "target": "MOD", "result": "EQUAL", "mod_revision": str(revision)}
 
 
 class Etcd:
@@ -116,7 +125,8 @@ class Etcd:
         self.members = members
         self.ending = ending or threading.Event()
         self.at = random.randrange(len(members))
-        self.connection = None
+        self.connection = self.channel = None
+        self.by_rpc = BY_RPC
         self.trouble = ""
 
     def connect(self):
@@ -125,18 +135,22 @@ class Etcd:
 
     def next_member(self):
         """Turns to the next member, after a short while."""
-        if self.connection:
-            self.connection.close()
-        self.connection = None
+        self.close()
         self.at = (self.at + 1) % len(self.members)
         time.sleep(0.05)
+
+    def close(self):
+        for connection in self.connection, self.channel:
+            if connection:
+                connection.close()
+        self.connection = self.channel = None
 
     def call(self, path, request):
         """Returns the answer of the first member that answers."""
         end = time.monotonic() + PATIENCE
         while True:
             try:
-                answer = self.ask(path, json.dumps(request))
+                answer = self.ask(path, request)
                 self.note("")
                 return answer
             except (OSError, http.client.HTTPException, Unavailable) as failure:
@@ -156,8 +170,10 @@ class Etcd:
         self.trouble = trouble
 
     def ask(self, path, request):
+        if self.by_rpc and path in rpc.CALLS:
+            return self.ask_by_rpc(path, request)
         self.connection = self.connection or self.connect()
-        self.connection.request("POST", "/v3/" + path, request)
+        self.connection.request("POST", "/v3/" + path, json.dumps(request, default=encode))
         answer = self.connection.getresponse()
         text = answer.read()
         if answer.status == 200:
@@ -167,6 +183,13 @@ class Etcd:
         if b"has been compacted" in text:
             raise Compacted(text.decode())
         raise Refused(f"{path}: {text.decode()}")
+
+    def ask_by_rpc(self, path, request):
+        self.channel = self.channel or rpc.Connection(self.members[self.at], TIMEOUT)
+        try:
+            return self.channel.ask(path, request)
+        except rpc.grpc.RpcError as failure:
+            raise of_rpc(failure) from None
 
     # ---- Calls ----
 
@@ -198,9 +221,11 @@ class Etcd:
         answering: then a watch from behind the last pair goes on.
         """
         wish = {"start_revision": str(revision), "fragment": True, "filters": ["NODELETE"]}
+        if self.by_rpc:
+            yield from self.watch_by_rpc(prefix_of(prefix, **wish))
         connection = self.connect()
         try:
-            connection.request("POST", "/v3/watch", json.dumps({"create_request": prefix_of(prefix, **wish)}))
+            connection.request("POST", "/v3/watch", json.dumps({"create_request": prefix_of(prefix, **wish)}, default=encode))
             for line in connection.getresponse():
                 answer = json.loads(line)
                 if "error" in answer:
@@ -213,3 +238,28 @@ class Etcd:
             raise Unavailable("the member ended the watch")
         finally:
             connection.close()
+
+    def watch_by_rpc(self, wish):
+        channel = rpc.Connection(self.members[self.at], TIMEOUT)
+        try:
+            for answer in channel.watch({"create_request": wish}):
+                if answer.get("compact_revision"):
+                    raise Compacted(f"revisions below {answer['compact_revision']}")
+                if answer.get("canceled"):
+                    raise Unavailable("the member ended the watch")
+                yield [pair_of(event["kv"]) for event in answer.get("events", [])]
+        except rpc.grpc.RpcError as failure:
+            raise of_rpc(failure) from None
+        except (queue.Empty, EOFError):
+            raise Unavailable("the watch has ended, or nothing came in time") from None
+        finally:
+            channel.close()
+
+
+def of_rpc(failure):
+    """Returns the exception for a failure of gRPC: the same as for one of the gateway."""
+    text, code = failure.details() or "", failure.code()
+    if "has been compacted" in text:
+        return Compacted(text)
+    refused = rpc.grpc.StatusCode.INVALID_ARGUMENT, rpc.grpc.StatusCode.NOT_FOUND, rpc.grpc.StatusCode.OUT_OF_RANGE
+    return Refused(text) if code in refused else Unavailable(text or code.name)

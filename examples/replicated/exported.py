@@ -44,6 +44,10 @@ def of_a_replica(state, counters, known):
     yield gauge("hlcstore_horizon_seconds", "The horizon (GC threshold), in Unix time.", seconds(state["horizon"]))
     yield gauge("hlcstore_horizon_age_seconds", "How old the horizon is.", state["horizon_age_seconds"])
     yield from stored(state)
+    ranges = [(each, {"range": each["range"]}) for each in state["ranges"] if each["live"]]
+    yield gauges("hlcstore_range_floor_age_seconds", "How old the floor of each range is that is here.",
+                 [(labels, each["floor_age_seconds"]) for each, labels in ranges])  # fmt: skip
+    yield gauges("hlcstore_range_rows", "Stored rows of each range.", [(labels, each["rows"]) for each, labels in ranges])
     log = state["log"]
     yield gauge("hlcstore_log_revision", "The revision of etcd up to which the log is applied.", state["revision"])
     yield gauge("hlcstore_log_behind_items", "Items of the log that are not applied.", log["items_behind"])

@@ -20,7 +20,7 @@ def status_of(address):
     """Returns the status of a member, or None where it does not answer."""
     client = Etcd([address])
     try:
-        return client.ask("maintenance/status", "{}")
+        return client.ask("maintenance/status", {})
     except FAILURES:
         return None
     finally:

@@ -203,7 +203,7 @@ class Replica(serve.Answerer):
         """Opens a snapshot at a stamp, or at the floor, in all ranges that this replica has, or in none."""
         pieces = cover.pieces(self)
         if not pieces:
-            raise serve.Refused(503, "no range has begun here")
+            raise serve.Refused(503 if self.wanted() else 404, "no range is here yet")
         with contextlib.ExitStack() as opened:
             if stamp is None:
                 stamp = min(each.store.floor for _, _, each in pieces)

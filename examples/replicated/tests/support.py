@@ -1,7 +1,6 @@
 """What the tests share: an etcd in memory, a member of etcd, and interleavings of transactions."""
 
 import atexit
-import base64
 import contextlib
 import functools
 import io
@@ -15,12 +14,13 @@ from unittest import mock
 
 sys.path.insert(0, str(pathlib.Path(__file__).resolve().parent.parent))
 
+import etcd
 import hlcstore
 import log
 import logs
 from cluster import Cluster
 from coordinator import Coordinator
-from etcd import Compacted, Etcd, Pair, delete, encode, put
+from etcd import Compacted, Etcd, Pair, delete, put
 from part import Part
 from ranges import Range
 from replica import Replica
@@ -68,7 +68,7 @@ class Memory:
         for operation in request["success" if succeeded else "failure"]:
             ((kind, words),) = operation.items()
             if kind == "request_put":
-                self.put(Pair(decode(words["key"]), decode(words["value"]), revision))
+                self.put(Pair(words["key"], words["value"], revision))
             elif kind == "request_delete_range":
                 self.delete(self.keys(words), revision)
             responses.append({"response_range": self.range(words)} if kind == "request_range" else {})
@@ -76,7 +76,7 @@ class Memory:
 
     def is_true(self, condition):
         assert (condition["target"], condition["result"]) == ("MOD", "EQUAL")
-        pair = self.pairs.get(decode(condition["key"]))
+        pair = self.pairs.get(condition["key"])
         return int(condition["mod_revision"]) == (pair.revision if pair else 0)
 
     def put(self, pair):
@@ -90,7 +90,7 @@ class Memory:
             del self.pairs[key]
 
     def keys(self, words):
-        first, end = decode(words["key"]), decode(words.get("range_end", ""))
+        first, end = words["key"], words.get("range_end", b"")
         return sorted(key for key in self.pairs if (first <= key < end if end else key == first))
 
     def range(self, words):
@@ -110,12 +110,8 @@ class Memory:
         return {}
 
 
-def decode(text):
-    return base64.b64decode(text)
-
-
 def texts(pair):
-    return {"key": encode(pair.key), "value": encode(pair.value), "mod_revision": str(pair.revision)}
+    return {"key": pair.key, "value": pair.value, "mod_revision": str(pair.revision)}
 
 
 class MemoryEtcd(Interleaved):
@@ -219,11 +215,16 @@ def started_member():
 
 @unittest.skipUnless(shutil.which("etcd"), "no etcd")
 class MemberCase(Case):
+    """`by_rpc` says whether its connections are those of gRPC: where Python has it, unless a case says other."""
+
+    by_rpc = etcd.BY_RPC
+
     def setUp(self):
         super().setUp()
         self.new_etcd().transact([], [delete(b"\0", b"\0")])
 
     def new_etcd(self):
-        etcd = Interleaved(started_member())
-        self.addCleanup(lambda: etcd.connection and etcd.connection.close())
-        return etcd
+        client = Interleaved(started_member())
+        client.by_rpc = self.by_rpc
+        self.addCleanup(client.close)
+        return client

@@ -304,5 +304,9 @@ class OfAMember(CoordinatorCases, MemberCase):
     pass
 
 
+class ByTheGateway(CoordinatorCases, MemberCase):
+    by_rpc = False
+
+
 if __name__ == "__main__":
     unittest.main()

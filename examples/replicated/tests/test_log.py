@@ -161,5 +161,9 @@ class OfAMember(LogCases, MemberCase):
     pass
 
 
+class ByTheGateway(LogCases, MemberCase):
+    by_rpc = False
+
+
 if __name__ == "__main__":
     unittest.main()

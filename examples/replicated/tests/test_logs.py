@@ -109,10 +109,12 @@ class Lines(unittest.TestCase):
 
     def test_a_call_that_failed_leaves_no_connection(self):
         """The next one would find it in the middle of a request."""
-        client = etcd.Etcd(["127.0.0.1:1"])
-        with mock.patch("etcd.PATIENCE", -1), self.assertRaises(OSError):
-            client.get(b"key")
-        self.assertIsNone(client.connection)
+        for by_rpc in {False, etcd.BY_RPC}:
+            client = etcd.Etcd(["127.0.0.1:1"])
+            client.by_rpc = by_rpc
+            with mock.patch("etcd.PATIENCE", -1), self.assertRaises((OSError, etcd.Unavailable)):
+                client.get(b"key")
+            self.assertIsNone(client.connection or client.channel)
 
     def test_troubles(self):
         client = etcd.Etcd(["a:1"])

@@ -55,6 +55,11 @@ STATE = {
     "log": {"items": 1_000_000, "items_per_second": 3012.2, "items_behind": 12},
     "alarms": [{"alarm": "FloorOld", "text": "the floor is 7 s old: <reason>", "cure": "start it again"}],
 }  # fmt: skip
+RANGES = [
+    {"range": 3, "from": "", "to": "6d<b>".encode().hex(), "floor_age_seconds": 7.33, "rows": 12_000, "revision": 5,
+     "live": True},
+    {"range": 4, "from": "ff00", "to": "", "floor_age_seconds": 0.4, "rows": 8_411, "revision": 6, "live": False},
+]  # fmt: skip
 COORDINATOR = {
     "append_age_seconds": 0.02, "numbers_assigned": 5, "requests": [],
     "members": [{"address": "127.0.0.1:2379", "answers": False, "bytes": 0, "no_space": False}],
@@ -123,7 +128,7 @@ def coordinator():
 class InABrowser(unittest.TestCase):
     @classmethod
     def setUpClass(cls):
-        states = {"replica": STATE, "coordinator": coordinator(), "empty": empty(), "failing": "no state"}
+        states = {"replica": STATE, "ranged": STATE | {"ranges": RANGES}, "coordinator": coordinator(), "empty": empty(), "failing": "no state"}
         cls.root = f"http://{serve.start(Drawn(states)).address}/"
         drawn = ask_browser(cls.root + "frames", "--dump-dom")
         cls.pages = {name: html.unescape(text) for name, text in re.findall(r'<pre id="of-(\w+)">([^<]*)</pre>', drawn)}
@@ -161,6 +166,14 @@ class InABrowser(unittest.TestCase):
         self.assertIn("5 of 1,024", page)
         self.assertRegex(page, 'class="holds"><td>127.0.0.1:2379</td><td>no</td>')
         self.assertNotIn('class="horizon"', page)
+
+    def test_ranges(self):
+        page = self.pages["ranged"]
+        self.assertEqual(len(re.findall('class="range"', page)), 2)
+        self.assertIn(f"<td>the first</td><td>{html.escape('6d<b>')}</td><td>7.3 s</td><td>12,000</td>", page)
+        self.assertIn("<td>0xff00</td><td>no end</td><td>400 ms</td>", page)
+        self.assertIn("has ended", page)
+        self.assertNotIn("Ranges", self.pages["replica"][: self.pages["replica"].index("<script>")])
 
     def test_an_empty_store(self):
         page = self.pages["empty"]
