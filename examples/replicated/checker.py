@@ -9,7 +9,7 @@ Each file of the folder has what one client wrote and read (history.py). Of what
     a read at a cut has each write at or below it that was acknowledged: its value is that of the newest such write, or
       of a newer one at or below the cut that nobody heard of, which was sent
     what was refused is in no read
-    the stamps of a client rise, also over its restarts, so a cut that has one of its writes has all that it wrote before
+    the stamps of a client rise, also over its restarts: a cut that has one of its writes has all that it wrote before
     what a client wrote after it saw a read is above the stamp of that read
 """
 
@@ -113,8 +113,8 @@ def judge(folder):
     checker.check()
     values = sum(len(read["values"]) for read in checker.reads)
     stamps = len({read["read"] for read in checker.reads})
-    yield (f"the history: {checker.many} writes, {len(checker.refused)} refused; {len(checker.reads)} reads of {values} "
-           f"values at {stamps} cuts")  # fmt: skip
+    said = f"the history: {checker.many} writes, {len(checker.refused)} refused"
+    yield f"{said}; {len(checker.reads)} reads of {values} values at {stamps} cuts"
 
 
 def main():

@@ -57,7 +57,8 @@ class Cluster:
     def start(self, member, state="new"):
         client, peer = f"http://{self.addresses[member]}", f"http://{self.peers[member]}"
         everyone = ",".join(f"m{number}=http://{address}" for number, address in enumerate(self.peers))
-        words = [*self.inside[member], *ENDS_WITH_THIS, "etcd", "--name", f"m{member}", "--data-dir", self.folder / f"m{member}"]
+        words = [*self.inside[member], *ENDS_WITH_THIS, "etcd", "--name", f"m{member}"]
+        words += ["--data-dir", self.folder / f"m{member}"]
         words += ["--listen-client-urls", client, "--advertise-client-urls", client]
         words += ["--listen-peer-urls", peer, "--initial-advertise-peer-urls", peer]
         words += ["--initial-cluster", everyone, "--initial-cluster-state", state]

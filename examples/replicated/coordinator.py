@@ -4,10 +4,11 @@
 
 It lets nodes join, says from which stamp on reads are possible, retires nodes whose writers are lost, cuts the log, and
 splits, merges and moves ranges (reshape.py). Others ask it by keys: `ask/join/NAME` for a node for this name, and
-`ask/lost/NAME` to retire the node of a name. Where no node can join, a text that says so replaces the request. Over HTTP it answers how all others are. Another coordinator
-may be started at any time: it takes over, and this one ends with status 3. A first SIGTERM or SIGINT ends it; the floor
-waits for the next one. With --piped it ends with its standard input, of which the line `retire` ends it after it has
-retired its own node: then no other one can be started. The line `clock MS` sets its clock off by so many milliseconds.
+`ask/lost/NAME` to retire the node of a name. Where no node can join, a text that says so replaces the request. Over
+HTTP it answers how all others are. Another coordinator may be started at any time: it takes over, and this one ends
+with status 3. A first SIGTERM or SIGINT ends it; the floor waits for the next one. With --piped it ends with its
+standard input, of which the line `retire` ends it after it has retired its own node: then no other one can be started.
+The line `clock MS` sets its clock off by so many milliseconds.
 
 The coordinator is a node itself, number 0, which only reports. So no replica's floor is above the coordinator's last
 stamp when a replica comes to an entry that the coordinator appended behind it: a node that joins starts there.

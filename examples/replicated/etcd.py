@@ -225,7 +225,8 @@ class Etcd:
             yield from self.watch_by_rpc(prefix_of(prefix, **wish))
         connection = self.connect()
         try:
-            connection.request("POST", "/v3/watch", json.dumps({"create_request": prefix_of(prefix, **wish)}, default=encode))
+            text = json.dumps({"create_request": prefix_of(prefix, **wish)}, default=encode)
+            connection.request("POST", "/v3/watch", text)
             for line in connection.getresponse():
                 answer = json.loads(line)
                 if "error" in answer:

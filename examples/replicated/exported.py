@@ -47,7 +47,8 @@ def of_a_replica(state, counters, known):
     ranges = [(each, {"range": each["range"]}) for each in state["ranges"] if each["live"]]
     yield gauges("hlcstore_range_floor_age_seconds", "How old the floor of each range is that is here.",
                  [(labels, each["floor_age_seconds"]) for each, labels in ranges])  # fmt: skip
-    yield gauges("hlcstore_range_rows", "Stored rows of each range.", [(labels, each["rows"]) for each, labels in ranges])
+    yield gauges("hlcstore_range_rows", "Stored rows of each range.",
+                 [(labels, each["rows"]) for each, labels in ranges])  # fmt: skip
     log = state["log"]
     yield gauge("hlcstore_log_revision", "The revision of etcd up to which the log is applied.", state["revision"])
     yield gauge("hlcstore_log_behind_items", "Items of the log that are not applied.", log["items_behind"])

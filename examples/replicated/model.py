@@ -188,7 +188,8 @@ class Model(serve.Answerer):
             return {
                 "name": "model", "revision": max(each.revision for each in self.logs.values()), "floor": self.floor(),
                 "threshold": max(each.threshold for each in self.logs.values()), "items": self.items,
-                "links": [list(link) for link in live[0].links] if live else [], "ranges": [each.words() for each in live],
+                "links": [list(link) for link in live[0].links] if live else [],
+                "ranges": [each.words() for each in live],
             }  # fmt: skip
 
     def snapshot(self, stamp):

@@ -63,7 +63,8 @@ class Net:
 
     def slow(self, name):
         self.slowed.add(name)
-        subprocess.run(["tc", "-n", self.space(name), "qdisc", "replace", "dev", "eth0", "root", "tbf", *SLOW], check=True)
+        words = ["tc", "-n", self.space(name), "qdisc", "replace", "dev", "eth0", "root", "tbf", *SLOW]
+        subprocess.run(words, check=True)
 
     def hasten(self, name):
         self.slowed.discard(name)

@@ -51,7 +51,7 @@ class RangeQuestions(Questions):
         return good["model"] if len(good) > 1 else None
 
     def compare_certificates(self, stamp):
-        """Lets the replicas of each range vacuum to a stamp, compares the certificates, and checks one of each range."""
+        """Lets the replicas of each range vacuum to a stamp, compares the certificates, and checks one of each."""
         states = self.states()
         live = states.pop("model")["ranges"]
         floors = [each["floor"] for state in states.values() for each in state["ranges"] if each["live"]]

@@ -5,8 +5,8 @@
 It makes a checkpoint in the folder every so many seconds, with the revision up to which it applied the log as the word.
 After a restart it goes on from the newest checkpoint and the log behind it. Where it has none that the log still
 continues, it takes one from another replica. Each range that the map lets it have is a store of its own (part.py), and
-reads are over all of them at one stamp (cover.py). A first SIGTERM or SIGINT ends it with a last checkpoint. With --piped it
-says in JSON on its output where it began and its address, and ends with its standard input.
+reads are over all of them at one stamp (cover.py). A first SIGTERM or SIGINT ends it with a last checkpoint. With
+--piped it says in JSON on its output where it began and its address, and ends with its standard input.
 """
 
 import contextlib
@@ -150,9 +150,11 @@ class Replica(serve.Answerer):
             "program": "replica", "name": self.name, "revision": max((each.revision for each in parts), default=0),
             "horizon": horizon, "horizon_text": str(horizon),
             "horizon_age_seconds": round(now - sight.physical(horizon), 3),
-            "rows": sum(store.rows for store in stores), "threshold": max((each.threshold for each in parts), default=0),
+            "rows": sum(store.rows for store in stores),
+            "threshold": max((each.threshold for each in parts), default=0),
             "checkpoint": min((each.checkpoints.oldest() for each in parts), default=0), "links": self.links(),
-            "sizes": cover.sizes(stores), "snapshots": self.snapshots(parts, now), "checkpoints": self.saved(parts, now),
+            "sizes": cover.sizes(stores), "snapshots": self.snapshots(parts, now),
+            "checkpoints": self.saved(parts, now),
             "vacuum": {"seconds": max((each.vacuum_seconds for each in parts), default=0.0)},
             "ranges": [self.range_words(each, now) for each in self.begun().values()],
         }  # fmt: skip

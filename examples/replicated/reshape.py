@@ -7,8 +7,9 @@
 
 Keys are in hexadecimal digits. What makes no sense is replaced by a text that says so, as `refused`.
 
-A range ends with a seal in its log, which says what comes in its place. The map comes afterwards: whoever starts between
-finds the seal, and does the rest. So a seal is a promise, and no reader of the map sees a range whose parents go on.
+A range ends with a seal in its log, which says what comes in its place. The map comes afterwards: whoever starts
+between finds the seal, and does the rest. So a seal is a promise, and no reader of the map sees a range whose parents
+go on.
 """
 
 import json
@@ -151,7 +152,7 @@ def published(replicas, number):
 
 
 def cut(coordinator, number, replicas):
-    """Cuts the log of a range up to what all its replicas have; one that ended as a whole, when others have the rest."""
+    """Cuts the log of a range up to what all its replicas have; one that ended as a whole, when nobody needs it."""
     machine = coordinator.machine
     found, checkpoints = machine.map.ranges[number], published(replicas, number)
     etcd = machine.connect(found.members)
@@ -165,6 +166,6 @@ def cut(coordinator, number, replicas):
     end = Ended(etcd, found.prefix, seal.revision)
     if checkpoints and min(checkpoints):
         log.cut(etcd, end, min(checkpoints))
-    elif not checkpoints and all(max(published(replicas, child.id), default=0) for child in machine.map.children(number)):
+    elif not checkpoints and all(max(published(replicas, each.id), default=0) for each in machine.map.children(number)):
         log.cut(etcd, end, seal.revision)
         coordinator.done.add(number)

@@ -38,7 +38,9 @@ OPERATION = {1: ("request_range", RANGE), 2: ("request_put", PUT), 3: ("request_
 DONE = {1: ("response_range", RANGED)}
 TRANSACTION = {1: ("compare", [COMPARE]), 2: ("success", [OPERATION]), 3: ("failure", [OPERATION])}
 TRANSACTED = {1: ("header", HEADER), 2: ("succeeded", int), 3: ("responses", [DONE])}
-CREATE = {1: ("key", bytes), 2: ("range_end", bytes), 3: ("start_revision", int), 5: ("filters", int), 8: ("fragment", int)}
+CREATE = {
+    1: ("key", bytes), 2: ("range_end", bytes), 3: ("start_revision", int), 5: ("filters", int), 8: ("fragment", int),
+}  # fmt: skip
 WATCH = {1: ("create_request", CREATE)}
 EVENT = {2: ("kv", PAIR)}
 WATCHED = {1: ("header", HEADER), 4: ("canceled", int), 5: ("compact_revision", int), 11: ("events", [EVENT])}

@@ -9,9 +9,10 @@
     GET /certificate?stamp=S&range=ID          vacuums a range to a stamp, and returns the certificate as text
     GET /checkpoint?range=ID                   the newest checkpoint of a range, as bytes
 
-Without a stamp a read is at the floor, of all ranges that are here. Where there is one, it need not be named. Keys are percent-encoded, and bytes are in hexadecimal digits in an answer. The
-status is 425 for a stamp above the floor, 410 for one below the horizon, 404 for what is not there, 400 for a request
-that makes no sense, and 503 for one that may be answered later. With it comes a text, as `refused`.
+Without a stamp a read is at the floor, of all ranges that are here. Where there is one, it need not be named. Keys are
+percent-encoded, and bytes are in hexadecimal digits in an answer. The status is 425 for a stamp above the floor, 410
+for one below the horizon, 404 for what is not there, 400 for a request that makes no sense, and 503 for one that may be
+answered later. With it comes a text, as `refused`.
 
 The coordinator has no reads, and the model no page and no metrics.
 """

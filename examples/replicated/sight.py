@@ -77,7 +77,7 @@ def physical(stamp):
 
 
 def look(etcd, ranges=((None, b""),)):
-    """`ranges` has, of each range, a connection to the cluster of its log, where that is another one, and its prefix."""
+    """`ranges` has, of each range, a connection to the cluster of its log, or None for this one, and its prefix."""
     answer = etcd.transact([], [get(prefix, prefix_end(prefix)) for prefix in PREFIXES])
     nodes, replicas, requests = (pairs_of(part["response_range"]) for part in answer["responses"])
     heads = {}

@@ -3,11 +3,12 @@
     writer.py --name w1 --members HOST:PORT ..
 
 Each write goes to the range that has its key. Where the log of that range has ended, nothing of the batch is in it: its
-writes are issued again, for the ranges that the map has instead. The coordinator has a node for each name. A writer that comes again under its name goes on behind the last item of the
-log. If no node can join for its name, it ends with status 5. Where another process of its name takes over, it ends with
-status 3. A first SIGTERM or SIGINT ends it without a retirement: the floor waits until it comes again, or is lost. With
---piped its output has its node, and after each append the next number: what is below is in the log for good. It ends
-with its standard input, of which `clock MS` sets its clock off by so many milliseconds, and `retire` ends it for good.
+writes are issued again, for the ranges that the map has instead. The coordinator has a node for each name. A writer
+that comes again under its name goes on behind the last item of the log. If no node can join for its name, it ends with
+status 5. Where another process of its name takes over, it ends with status 3. A first SIGTERM or SIGINT ends it without
+a retirement: the floor waits until it comes again, or is lost. With --piped its output has its node, and after each
+append the next number: what is below is in the log for good. It ends with its standard input, of which `clock MS` sets
+its clock off by so many milliseconds, and `retire` ends it for good.
 """
 
 import json

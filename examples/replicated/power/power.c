@@ -1,4 +1,6 @@
-/* What would be on a disk after the power failed: LD_PRELOAD=power.so POWER_FOLDER=/folder POWER_SHADOW=/shadow PROGRAM ..
+/* What would be on a disk after the power failed.
+ *
+ *     LD_PRELOAD=power.so POWER_FOLDER=/folder POWER_SHADOW=/shadow PROGRAM ..
  *
  * Whenever the program has synchronised a file below the folder, its bytes are copied to the shadow; whenever it has
  * synchronised a folder there, the list of its names is. What comes after that is lost with the power. power.py makes

@@ -62,8 +62,8 @@ class Power(unittest.TestCase):
 
     def test_names_that_change_later(self):
         """What was renamed or removed comes back, with the bytes that it had."""
-        lines = ('write_durably(folder / "a", b"1")', 'write_durably(folder / "b", b"2")', '(folder / "a").unlink()',
-                 '(folder / "c").write_bytes(b"3")', 'sync(folder / "c")', '(folder / "b").rename(folder / "d")')  # fmt: skip
+        lines = ['write_durably(folder / "a", b"1")', 'write_durably(folder / "b", b"2")', '(folder / "a").unlink()']
+        lines += ['(folder / "c").write_bytes(b"3")', 'sync(folder / "c")', '(folder / "b").rename(folder / "d")']
         self.assertEqual(self.left(*lines), {"a": b"1", "b": b"2"})
 
     def test_folders_in_the_folder(self):

@@ -132,7 +132,7 @@ class Splits(RangeCase):
         self.compare(self.caught_up())
 
     def test_a_writer_that_was_away(self):
-        """Its links in the new ranges begin where those of the old one ended, also over ranges in which it never was."""
+        """Its links in new ranges begin where those of old ones ended, also over ranges in which it never was."""
         self.write(b"b", b"n")
         self.split(b"m")
         self.split(b"t")
@@ -401,7 +401,7 @@ class Coordinators(RangeCase):
         return self.start_coordinator()
 
     def test_it_is_killed_while_it_splits(self):
-        """Before the seal, between the seal and the map, before it takes its links over, and before the request goes."""
+        """Before the seal, between it and the map, before it takes its links over, and before the request goes."""
         self.write(b"a", b"z")
         for place, key in enumerate([b"f", b"g", b"h", b"i", b"j"]):
             with self.subTest(place=place):
