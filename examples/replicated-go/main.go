@@ -1,87 +1,248 @@
-// Replicated-go is a replica of the example in examples/replicated, in Go: it applies the log in etcd to a store of its
-// own, and answers reads at closed timestamps over HTTP. It talks to etcd by gRPC, so no batch becomes JSON on its way.
+// The replica of examples/replicated in Go: it follows the same log, answers the same requests, and can stand beside the
+// others. It has one range.
+//
+//	replicated-go --name r1 --folder /var/lib/hlcstore/r1 --members HOST:PORT .. --listen HOST:PORT
 package main
 
 import (
-	"context"
+	"encoding/hex"
 	"encoding/json"
-	"flag"
+	"errors"
+	"fmt"
 	"io"
-	"log"
 	"net"
 	"net/http"
+	"net/url"
 	"os"
-	"os/signal"
-	"syscall"
+	"strconv"
+	"strings"
+	"sync"
 	"time"
 
-	"go.etcd.io/etcd/clientv3"
-	"google.golang.org/grpc"
+	"hlcstore"
 )
 
-// How long a call of etcd may take, a member may be silent, and an answer may be under way when the program ends.
-const patience = 3 * time.Second
+// refused is a request that has no answer, with a status of HTTP.
+type refused struct {
+	status int
+	text   string
+}
 
-func main() {
-	name := flag.String("name", "", "its name, under which it publishes where it is")
-	folder := flag.String("folder", "", "the folder of its checkpoints, which is made if it is not there")
-	first := flag.String("members", "", "the address of a member of etcd, HOST:PORT; those of others are the last words")
-	listen := flag.String("listen", "127.0.0.1:0", "the address at which it answers")
-	seconds := flag.Float64("checkpoint-seconds", 60, "seconds from one checkpoint to the next")
-	piped := flag.Bool("piped", false, "say in JSON on the output where it began, and end with the input")
-	flag.Parse()
-	if *name == "" || *folder == "" || *first == "" || *seconds <= 0 {
-		flag.Usage()
-		os.Exit(2)
+func (r refused) Error() string { return r.text }
+
+// statusOf returns the status for a refusal of the store.
+func statusOf(err error) int {
+	var own refused
+	switch {
+	case errors.As(err, &own):
+		return own.status
+	case errors.Is(err, hlcstore.ErrAboveFloor):
+		return http.StatusTooEarly
+	case errors.Is(err, hlcstore.ErrBelowHorizon):
+		return http.StatusGone
+	case errors.Is(err, hlcstore.ErrTooManySnapshots), errors.Is(err, hlcstore.ErrNoMemory):
+		return http.StatusServiceUnavailable
 	}
-	log.SetPrefix("replica/" + *name + " ")
-	ctx, stop := signal.NotifyContext(context.Background(), syscall.SIGTERM, os.Interrupt)
-	r := &replica{name: *name, checkpoints: checkpoints{*folder}, say: func(any) {}}
-	if *piped {
-		r.say = func(said any) { json.NewEncoder(os.Stdout).Encode(said) }
-		go func() {
-			io.Copy(io.Discard, os.Stdin)
-			stop()
-		}()
-	}
-	members := append([]string{*first}, flag.Args()...)
-	if err := r.work(ctx, members, *listen, time.Duration(*seconds*float64(time.Second))); err != nil {
-		log.Fatal(err)
+	return http.StatusInternalServerError
+}
+
+// handled answers with JSON, or with bytes, or with the text of a refusal.
+func handled(answer func(words url.Values) (any, error)) http.HandlerFunc {
+	return func(out http.ResponseWriter, request *http.Request) {
+		words, err := url.ParseQuery(request.URL.RawQuery)
+		var said any
+		if err == nil {
+			said, err = answer(words)
+		}
+		if content, ok := said.([]byte); ok && err == nil {
+			out.Header().Set("Content-Type", "application/octet-stream")
+			out.Write(content)
+			return
+		}
+		out.Header().Set("Content-Type", "application/json")
+		if err != nil {
+			out.WriteHeader(statusOf(err))
+			said = map[string]string{"refused": err.Error()}
+		}
+		json.NewEncoder(out).Encode(said)
 	}
 }
 
-// Work runs the replica until the context ends, and then makes a last checkpoint. A member of etcd that does not answer
-// is left for the next one.
-func (r *replica) work(ctx context.Context, members []string, listen string, every time.Duration) (err error) {
-	r.etcd, err = clientv3.New(clientv3.Config{
-		Endpoints:            members,
-		DialKeepAliveTime:    patience,
-		DialKeepAliveTimeout: patience,
-		PermitWithoutStream:  true,
-		DialOptions:          []grpc.DialOption{grpc.WithDefaultCallOptions(grpc.MaxCallRecvMsgSize(1 << 30))},
+// read answers with what a call returns for a snapshot at the stamp, or at the floor.
+func (r *replica) read(answer func(*hlcstore.Snapshot, url.Values, map[string]any) error) http.HandlerFunc {
+	return handled(func(words url.Values) (any, error) {
+		r.mu.Lock()
+		store := r.store
+		r.mu.Unlock()
+		var snapshot *hlcstore.Snapshot
+		var err error
+		if text := words.Get("stamp"); text == "" {
+			snapshot, err = store.Snapshot()
+		} else if stamp, failed := strconv.ParseUint(text, 10, 64); failed != nil {
+			err = refused{http.StatusBadRequest, fmt.Sprintf("stamp: expected a decimal number below 2^64, got %q", text)}
+		} else {
+			snapshot, err = store.SnapshotAt(hlcstore.Stamp(stamp))
+		}
+		if err != nil {
+			return nil, err
+		}
+		defer snapshot.Close()
+		said := map[string]any{"stamp": uint64(snapshot.Stamp())}
+		return said, answer(snapshot, words, said)
 	})
-	if err != nil {
-		return err
+}
+
+func readKeys(snapshot *hlcstore.Snapshot, words url.Values, said map[string]any) error {
+	var keys [][]byte
+	for _, key := range words["key"] {
+		keys = append(keys, []byte(key))
 	}
-	defer r.etcd.Close()
-	if err := r.beginFromDisk(); err != nil {
-		return err
+	if keys == nil {
+		return refused{http.StatusBadRequest, "a key is missing"}
+	}
+	values, err := snapshot.GetMany(keys)
+	texts := make([]any, len(values))
+	for place, value := range values {
+		if value != nil {
+			texts[place] = hex.EncodeToString(value)
+		}
+	}
+	said["values"] = texts
+	return err
+}
+
+func readRange(snapshot *hlcstore.Snapshot, words url.Values, said map[string]any) error {
+	pairs := [][2]string{}
+	each := snapshot.Range([]byte(words.Get("from")), []byte(words.Get("to")))
+	defer each.Close()
+	for each.Next() {
+		pairs = append(pairs, [2]string{hex.EncodeToString(each.Key()), hex.EncodeToString(each.Value())})
+	}
+	said["pairs"] = pairs
+	return each.Err()
+}
+
+func readDigest(snapshot *hlcstore.Snapshot, words url.Values, said map[string]any) error {
+	from, to := []byte(words.Get("from")), []byte(words.Get("to"))
+	digest, err := snapshot.Digest(from, to)
+	count, failed := snapshot.Count(from, to)
+	said["digest"], said["keys"] = hex.EncodeToString(digest[:]), count
+	return first(err, failed)
+}
+
+// state returns how far the replica is, as the others of the example say it.
+func (r *replica) state(url.Values) (any, error) {
+	r.mu.Lock()
+	defer r.mu.Unlock()
+	floor, err := r.store.Floor()
+	horizon, failed := r.store.Horizon()
+	rows, failedToo := r.store.Rows()
+	nodes, _ := r.store.Nodes()
+	links := make([][3]any, nodes)
+	for node := range links {
+		link, failed := r.store.Link(uint16(node))
+		links[node], err = [3]any{link.Next, uint64(link.Head), link.Retired}, first(err, failed)
+	}
+	words := map[string]any{
+		"revision": r.revision, "floor": uint64(floor), "horizon": uint64(horizon), "rows": rows, "links": links,
+		"checkpoint": r.oldest(), "from": "", "to": "", "range": 0, "live": true,
+	}
+	state := map[string]any{"program": "replica", "name": r.name, "threshold": uint64(r.threshold), "ranges": []any{words}}
+	for name, word := range words {
+		state[name] = word
+	}
+	return state, first(err, failed, failedToo)
+}
+
+func (r *replica) certificate(words url.Values) (any, error) {
+	number, err := strconv.ParseUint(words.Get("stamp"), 10, 64)
+	if err != nil {
+		return nil, refused{http.StatusBadRequest, "a stamp is missing"}
+	}
+	r.mu.Lock()
+	store := r.store
+	r.mu.Unlock()
+	for {
+		if _, err := store.VacuumTo(hlcstore.Stamp(number)); err != nil {
+			return nil, err
+		}
+		var text strings.Builder
+		if _, err = store.Certificate(&text, hlcstore.Stamp(number)); !errors.Is(err, hlcstore.ErrNotFewest) {
+			return []byte(text.String()), err // else a snapshot was closed just now
+		}
+	}
+}
+
+func (r *replica) newest(url.Values) (any, error) {
+	paths := r.paths()
+	if len(paths) == 0 {
+		return nil, refused{http.StatusNotFound, "there is no checkpoint yet"}
+	}
+	return os.ReadFile(paths[0])
+}
+
+// settings reads words as those of replica.py.
+func settings(words []string) map[string][]string {
+	found, name := map[string][]string{}, ""
+	for _, word := range words {
+		if strings.HasPrefix(word, "--") {
+			name = word[2:]
+			found[name] = []string{}
+		} else if name != "" {
+			found[name] = append(found[name], word)
+		}
+	}
+	for _, name := range []string{"name", "folder", "members"} {
+		if len(found[name]) == 0 {
+			fmt.Fprintln(os.Stderr, "usage: replicated-go --name NAME --folder PATH --members HOST:PORT .. "+
+				"[--listen HOST:PORT] [--checkpoint-seconds N] [--piped]; missing: --"+name)
+			os.Exit(2)
+		}
+	}
+	return found
+}
+
+func main() {
+	words := settings(os.Args[1:])
+	_, piped := words["piped"]
+	listen, seconds := append(words["listen"], "127.0.0.1:0")[0], 60.0
+	if given := words["checkpoint-seconds"]; len(given) > 0 {
+		seconds, _ = strconv.ParseFloat(given[0], 64)
+	}
+	var printing sync.Mutex
+	say := func(said any) {
+		printing.Lock()
+		defer printing.Unlock()
+		if text, err := json.Marshal(said); piped && err == nil {
+			fmt.Printf("%s\n", text)
+		}
+	}
+	every := time.Duration(seconds * float64(time.Second))
+	r := &replica{name: words["name"][0], folder: words["folder"][0], every: every, say: say}
+	client, err := newEtcd(words["members"])
+	if err != nil {
+		fail(err)
 	}
 	listener, err := net.Listen("tcp", listen)
+	if err = first(err, os.MkdirAll(r.folder, 0o755)); err == nil {
+		err = r.beginFromDisk()
+	}
 	if err != nil {
-		return err
+		fail(err)
 	}
-	server, ended := &http.Server{Handler: r}, make(chan error, 3)
-	go func() { ended <- server.Serve(listener) }()
-	go func() { ended <- r.follow(ctx) }()
-	go func() { ended <- r.keepUp(ctx, listener.Addr().String(), every) }()
-	log.Printf("answers over HTTP at %s", listener.Addr())
-	r.say(map[string]any{"address": listener.Addr().String()})
-	if err := <-ended; ctx.Err() == nil {
-		return err
+	http.HandleFunc("/state", handled(r.state))
+	http.HandleFunc("/read", r.read(readKeys))
+	http.HandleFunc("/range", r.read(readRange))
+	http.HandleFunc("/digest", r.read(readDigest))
+	http.HandleFunc("/certificate", handled(r.certificate))
+	http.HandleFunc("/checkpoint", handled(r.newest))
+	go func() { fail(http.Serve(listener, nil)) }()
+	go r.follow(client)
+	go r.keepUp(client, listener.Addr().String())
+	say(map[string]any{"address": listener.Addr().String()})
+	if piped {
+		io.Copy(io.Discard, os.Stdin)
+		os.Exit(4)
 	}
-	finish, cancel := context.WithTimeout(context.Background(), patience)
-	defer cancel()
-	server.Shutdown(finish)
-	return r.save()
+	select {}
 }

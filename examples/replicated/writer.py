@@ -141,6 +141,7 @@ class Writer:
         if split(stamp)[0] - max(reading, split(part.node.last)[0]) < AHEAD:
             part.node.receive(stamp, reading)
             self.machine.acted(part)
+            self.history.saw(stamp)
 
     # ---- Items ----
 
