@@ -8,10 +8,7 @@ import (
 	"go.etcd.io/etcd/clientv3"
 )
 
-const (
-	timeout = 3 * time.Second // without an answer, or without a change that is watched, after which it is asked again
-	page    = 64              // entries in an answer
-)
+const timeout = 3 * time.Second // without an answer, or a change that is watched, after which it is asked again
 
 // entry is a part of the log, with its revision.
 type entry struct {
@@ -35,26 +32,12 @@ func limited() (context.Context, context.CancelFunc) {
 	return context.WithTimeout(context.Background(), timeout)
 }
 
-// list returns the values of all keys with a prefix.
-func (e etcd) list(prefix string) (values [][]byte, err error) {
-	ctx, cancel := limited()
-	defer cancel()
-	answer, err := e.Get(ctx, prefix, clientv3.WithPrefix())
-	if err != nil {
-		return nil, err
-	}
-	for _, pair := range answer.Kvs {
-		values = append(values, pair.Value)
-	}
-	return values, nil
-}
-
 // page returns what `cut` says, or nothing, and the first entries of the log above a revision, at one moment.
 func (e etcd) page(after uint64) (cut string, entries []entry, err error) {
 	ctx, cancel := limited()
 	defer cancel()
 	answer, err := e.Txn(ctx).Then(clientv3.OpGet("cut"), clientv3.OpGet("log/", clientv3.WithPrefix(),
-		clientv3.WithMinModRev(int64(after+1)), clientv3.WithLimit(page),
+		clientv3.WithMinModRev(int64(after+1)), clientv3.WithLimit(64),
 		clientv3.WithSort(clientv3.SortByModRevision, clientv3.SortAscend))).Commit()
 	if err != nil {
 		return "", nil, err

@@ -1,13 +1,14 @@
 // The replica of examples/replicated in Go: it follows the same log, answers the same requests, and can stand beside the
 // others. It has one range.
 //
-//	replicated-go --name r1 --folder /var/lib/hlcstore/r1 --members HOST:PORT .. --listen HOST:PORT
+//	replicated-go --name r1 --folder /var/lib/hlcstore/r1 --members HOST:PORT,.. --listen HOST:PORT
 package main
 
 import (
 	"encoding/hex"
 	"encoding/json"
 	"errors"
+	"flag"
 	"fmt"
 	"io"
 	"net"
@@ -16,7 +17,6 @@ import (
 	"os"
 	"strconv"
 	"strings"
-	"sync"
 	"time"
 
 	"hlcstore"
@@ -30,18 +30,20 @@ type refused struct {
 
 func (r refused) Error() string { return r.text }
 
-// statusOf returns the status for a refusal of the store.
+var statuses = map[hlcstore.Code]int{
+	hlcstore.ErrAboveFloor: http.StatusTooEarly, hlcstore.ErrBelowHorizon: http.StatusGone,
+	hlcstore.ErrTooManySnapshots: http.StatusServiceUnavailable, hlcstore.ErrNoMemory: http.StatusServiceUnavailable,
+}
+
+// statusOf returns the status for a refusal.
 func statusOf(err error) int {
 	var own refused
-	switch {
-	case errors.As(err, &own):
+	var code hlcstore.Code
+	if errors.As(err, &own) {
 		return own.status
-	case errors.Is(err, hlcstore.ErrAboveFloor):
-		return http.StatusTooEarly
-	case errors.Is(err, hlcstore.ErrBelowHorizon):
-		return http.StatusGone
-	case errors.Is(err, hlcstore.ErrTooManySnapshots), errors.Is(err, hlcstore.ErrNoMemory):
-		return http.StatusServiceUnavailable
+	}
+	if errors.As(err, &code) && statuses[code] != 0 {
+		return statuses[code]
 	}
 	return http.StatusInternalServerError
 }
@@ -181,50 +183,22 @@ func (r *replica) newest(url.Values) (any, error) {
 	return os.ReadFile(paths[0])
 }
 
-// settings reads words as those of replica.py.
-func settings(words []string) map[string][]string {
-	found, name := map[string][]string{}, ""
-	for _, word := range words {
-		if strings.HasPrefix(word, "--") {
-			name = word[2:]
-			found[name] = []string{}
-		} else if name != "" {
-			found[name] = append(found[name], word)
-		}
-	}
-	for _, name := range []string{"name", "folder", "members"} {
-		if len(found[name]) == 0 {
-			fmt.Fprintln(os.Stderr, "usage: replicated-go --name NAME --folder PATH --members HOST:PORT .. "+
-				"[--listen HOST:PORT] [--checkpoint-seconds N] [--piped]; missing: --"+name)
-			os.Exit(2)
-		}
-	}
-	return found
-}
-
 func main() {
-	words := settings(os.Args[1:])
-	_, piped := words["piped"]
-	listen, seconds := append(words["listen"], "127.0.0.1:0")[0], 60.0
-	if given := words["checkpoint-seconds"]; len(given) > 0 {
-		seconds, _ = strconv.ParseFloat(given[0], 64)
+	name := flag.String("name", "", "its name, under which it publishes where it is")
+	folder := flag.String("folder", "", "the folder of its checkpoints")
+	members := flag.String("members", "", "the members of etcd, as HOST:PORT,..")
+	listen := flag.String("listen", "127.0.0.1:0", "where it answers over HTTP")
+	seconds := flag.Float64("checkpoint-seconds", 60, "seconds from one checkpoint to the next")
+	piped := flag.Bool("piped", false, "say where it is on standard output, and end with standard input")
+	flag.Parse()
+	if *name == "" || *folder == "" || *members == "" {
+		flag.Usage()
+		os.Exit(2)
 	}
-	var printing sync.Mutex
-	say := func(said any) {
-		printing.Lock()
-		defer printing.Unlock()
-		if text, err := json.Marshal(said); piped && err == nil {
-			fmt.Printf("%s\n", text)
-		}
-	}
-	every := time.Duration(seconds * float64(time.Second))
-	r := &replica{name: words["name"][0], folder: words["folder"][0], every: every, say: say}
-	client, err := newEtcd(words["members"])
-	if err != nil {
-		fail(err)
-	}
-	listener, err := net.Listen("tcp", listen)
-	if err = first(err, os.MkdirAll(r.folder, 0o755)); err == nil {
+	r := &replica{name: *name, folder: *folder, every: time.Duration(*seconds * float64(time.Second)), piped: *piped}
+	client, err := newEtcd(strings.Split(*members, ","))
+	listener, failed := net.Listen("tcp", *listen)
+	if err = first(err, failed, os.MkdirAll(r.folder, 0o755)); err == nil {
 		err = r.beginFromDisk()
 	}
 	if err != nil {
@@ -239,8 +213,8 @@ func main() {
 	go func() { fail(http.Serve(listener, nil)) }()
 	go r.follow(client)
 	go r.keepUp(client, listener.Addr().String())
-	say(map[string]any{"address": listener.Addr().String()})
-	if piped {
+	r.say(map[string]any{"address": listener.Addr().String()})
+	if *piped {
 		io.Copy(io.Discard, os.Stdin)
 		os.Exit(4)
 	}

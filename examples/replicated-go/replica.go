@@ -6,6 +6,7 @@ import (
 	"errors"
 	"fmt"
 	"io"
+	"log"
 	"net/http"
 	"os"
 	"path/filepath"
@@ -40,24 +41,24 @@ const (
 type replica struct {
 	name, folder string
 	every        time.Duration
-	say          func(any) // says something to the program that started this one
+	piped        bool
 
 	mu        sync.Mutex // whoever has it sees the store between two entries of the log
 	store     *hlcstore.Store
 	revision  uint64
 	threshold hlcstore.Stamp
-	saving    sync.Mutex
 }
 
-func logf(level, format string, words ...any) {
-	now := time.Now().UTC().Format("2006-01-02T15:04:05.000Z")
-	fmt.Fprintf(os.Stderr, "%s %s replica-go: %s\n", now, level, fmt.Sprintf(format, words...))
+// say says something to the program that started this one.
+func (r *replica) say(said any) {
+	if text, err := json.Marshal(said); r.piped && err == nil {
+		fmt.Printf("%s\n", text)
+	}
 }
 
 // fail ends the process: a replica that cannot go on begins again.
 func fail(err error) {
-	logf("error", "failed: %v", err)
-	os.Exit(1)
+	log.Fatalf("error: failed: %v", err)
 }
 
 // ---- The log ----
@@ -90,7 +91,7 @@ func (r *replica) follow(e etcd) {
 			failed = r.applyPage(e)
 		}
 		if errors.Is(failed, errCut) {
-			logf("warning", "begins from another replica: %v", failed)
+			log.Printf("warning: begins from another replica: %v", failed)
 			r.beginFromAnother(e)
 		} else if failed != nil {
 			fail(failed)
@@ -131,7 +132,7 @@ func (r *replica) beginFromDisk() error {
 				return nil
 			}
 		}
-		logf("warning", "removes a damaged checkpoint %s: %v", path, err)
+		log.Printf("warning: removes a damaged checkpoint %s: %v", path, err)
 		os.Remove(path)
 	}
 	return r.begin("empty", nil)
@@ -168,20 +169,21 @@ type published struct {
 // beginFromAnother begins with the checkpoint of another replica, as soon as one has a newer one.
 func (r *replica) beginFromAnother(e etcd) {
 	for ; ; time.Sleep(200 * time.Millisecond) {
-		values, _ := e.list("replica/")
-		for _, value := range values {
+		ctx, cancel := limited()
+		answer, err := e.Get(ctx, "replica/", clientv3.WithPrefix())
+		cancel()
+		for err == nil && len(answer.Kvs) > 0 {
 			var other published
-			if json.Unmarshal(value, &other) != nil || other.Checkpoint <= r.revision {
+			failed := json.Unmarshal(answer.Kvs[0].Value, &other)
+			answer.Kvs = answer.Kvs[1:]
+			if failed != nil || other.Checkpoint <= r.revision {
 				continue
 			}
-			content, err := fetch(other.Address)
-			if err == nil {
-				err = r.begin(other.Name, content)
-			}
-			if err == nil {
+			content, failed := fetch(other.Address)
+			if failed == nil && r.begin(other.Name, content) == nil {
 				return
 			}
-			logf("warning", "no checkpoint of another replica %s: %v", other.Name, err)
+			log.Printf("warning: no checkpoint of another replica %s: %v", other.Name, failed)
 		}
 	}
 }
@@ -213,7 +215,7 @@ func (r *replica) keepUp(e etcd, address string) {
 		}
 		words, _ := json.Marshal(published{r.name, address, uint64(floor), r.oldest()})
 		if lease, err = e.publish("replica/"+r.name, string(words), lease, leaseTime); err != nil {
-			logf("warning", "etcd does not answer: %v", err)
+			log.Printf("warning: etcd does not answer: %v", err)
 		}
 		if horizon, _ := store.Horizon(); horizon < threshold && threshold <= floor {
 			if _, err := store.VacuumTo(threshold); err != nil && !errors.Is(err, hlcstore.ErrBelowHorizon) {
@@ -222,7 +224,7 @@ func (r *replica) keepUp(e etcd, address string) {
 		}
 		if time.Since(saved) >= r.every {
 			if err := r.save(); err != nil {
-				logf("error", "a checkpoint was not saved: %v", err)
+				log.Printf("error: a checkpoint was not saved: %v", err)
 			}
 			saved = time.Now()
 		}
@@ -241,8 +243,6 @@ func (r *replica) oldest() uint64 {
 }
 
 func (r *replica) save() error {
-	r.saving.Lock()
-	defer r.saving.Unlock()
 	var content bytes.Buffer
 	r.mu.Lock()
 	revision := r.revision
@@ -274,9 +274,12 @@ func writeDurably(path string, content []byte) error {
 		os.Remove(part)
 		return err
 	}
+	if err := os.Rename(part, path); err != nil {
+		return err
+	}
 	folder, err := os.Open(filepath.Dir(path))
 	if err != nil {
 		return err
 	}
-	return first(os.Rename(part, path), folder.Sync(), folder.Close())
+	return first(folder.Sync(), folder.Close())
 }

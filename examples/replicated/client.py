@@ -47,7 +47,8 @@ class Client:
     def places(self):
         """Returns of each range the floors and the addresses of its replicas."""
         self.map.read(self.etcd)
-        return {found.id: part.published(self.etcd, found.id) for found in self.map.all_live()}
+        pairs = self.etcd.list(b"replica/")
+        return {found.id: part.published_in(pairs, found.id) for found in self.map.all_live()}
 
     def read(self):
         places = self.places()

@@ -80,6 +80,7 @@ class Coordinator(serve.Answerer):
             if self.etcd.get(self.machine.retires_key()):
                 self.machine.retire(self.machine.decide_to_retire(0))
                 raise log.Retired
+            reshape.make_links(self)
         except log.Retired:
             raise life.Never("the coordinator's node retired: no coordinator can be started for this log") from None
 
@@ -287,7 +288,7 @@ class Coordinator(serve.Answerer):
     def links(self):
         """Returns of each node, as the log has it: the next number, the head, and whether it retired."""
         heads = self.sight.last.heads
-        return [[*heads[node]] for node in sorted(heads)] or [[0, 0, False]]
+        return [[*heads.get(node, (0, 0, False))] for node in range(max(heads, default=0) + 1)]
 
     def state(self):
         now, links = time.time(), self.links()
@@ -321,7 +322,8 @@ class Coordinator(serve.Answerer):
         """Starts what runs beside its work, and returns the server."""
         server = serve.start(self, listen)
         logs.info("answers over HTTP", address=server.address, members=",".join(members))
-        life.essential(self.sight.go_on, Etcd(members, self.life.asked))
+        eyes = sight.Eyes(lambda members: Etcd(members, self.life.asked))
+        life.essential(self.sight.go_on, Etcd(members, self.life.asked), lambda: eyes.of(self.machine.map.all_live()))
         life.essential(self.members.go_on)
         if self.piped:
             print(json.dumps({"address": server.address}), flush=True)

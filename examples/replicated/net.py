@@ -26,7 +26,7 @@ class Net:
             raise SystemExit("networks for each program need root, and ip of iproute2")
         self.tag = f"hlc{os.getpid() % 100_000}"
         self.subnet = f"10.{100 + os.getpid() % 150}"
-        self.hosts, self.numbers = {}, itertools.count(1)
+        self.hosts, self.ends, self.numbers = {}, [], itertools.count(1)
         self.parted, self.slowed = set(), set()
         ip("link", "add", self.tag, "type", "bridge")
         ip("addr", "add", f"{self.subnet}.255.1/16", "dev", self.tag)
@@ -43,6 +43,7 @@ class Net:
 
     def add(self, name, number):
         space, end = self.space(name), f"{self.tag}v{number}"
+        self.ends.append(end)
         self.hosts[name] = f"{self.subnet}.{number // 250}.{number % 250 + 1}"
         ip("netns", "add", space)
         ip("link", "add", end, "type", "veth", "peer", "name", "eth0", "netns", space)
@@ -78,7 +79,9 @@ class Net:
             self.hasten(name)
 
     def stop(self):
-        """Removes all networks, with the programs in them ended."""
+        """Removes all networks."""
         for name in self.hosts:
             ip("netns", "del", self.space(name), check=False)
+        for end in self.ends:
+            ip("link", "del", end, check=False)
         ip("link", "del", self.tag, check=False)

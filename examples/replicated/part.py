@@ -248,9 +248,13 @@ def links_of(store):
 
 
 def published(etcd, number):
-    """Returns what replicas publish of a range: their names, addresses and oldest checkpoints."""
+    """Returns what replicas publish of a range: their names, addresses, floors and oldest checkpoints."""
+    return published_in(etcd.list(b"replica/"), number)
+
+
+def published_in(pairs, number):
     found = []
-    for pair in etcd.list(b"replica/"):
+    for pair in pairs:
         words = json.loads(pair.value)
         parts = words.get("ranges", {"0": words})
         if str(number) in parts:

@@ -21,14 +21,17 @@ class Difference(Exception):
 
 
 class Program:
-    """A running program. Its standard error goes to a file, and what it says is kept."""
+    """A running program. Its standard error goes to a file, and what it says is kept.
 
-    def __init__(self, folder, name, file, *words, inside=()):
+    `command` are the words of the program, and `inside` those before them, which say where it runs.
+    """
+
+    def __init__(self, folder, name, command, *words, inside=()):
         self.name = name
         self.started = time.monotonic()
         with open(folder / f"{name}.err", "ab") as errors:
             self.process = subprocess.Popen(
-                [*inside, sys.executable, "-B", HERE / file, "--piped", *map(str, words)],
+                [*inside, *command, "--piped", *map(str, words)],
                 stdin=subprocess.PIPE, stdout=subprocess.PIPE, stderr=errors, text=True,
             )  # fmt: skip
         self.numbers = {}  # of each word that began a line: the number behind it, in the last such line
@@ -97,8 +100,8 @@ def ask(address, path, **words):
 class Programs:
     """All that runs: the clusters, the coordinator, the model, replicas and writers."""
 
-    def __init__(self, folder, retention, checkpoint, writing, replicas=3, clusters=1, net=None, power_library=None):
-        self.net, self.power = net, power_library
+    def __init__(self, folder, retention, checkpoint, writing, replicas=3, clusters=1, net=None, power_library=None, go=None):
+        self.net, self.power, self.go = net, power_library, go
         self.folder, self.retention, self.checkpoint = folder, retention, checkpoint
         batch, rate, keys = writing
         self.writing = ["--batch", batch, "--rate", rate, "--keys", keys]
@@ -120,8 +123,11 @@ class Programs:
         if self.power and file == "replica.py":
             inside = [*inside, *power.words_of(self.power, self.folder / name, self.shadow(name))]
         listen = [] if file == "writer.py" else ["--listen", f"{host}:0"]
-        words = [*words, *listen, "--members", *self.cluster.addresses]
-        return Program(self.folder, name, file, *words, inside=inside)
+        if self.go and name == self.replica_names[-1]:
+            command, members = [self.go], [",".join(self.cluster.addresses)]
+        else:
+            command, members = [sys.executable, "-B", HERE / file], self.cluster.addresses
+        return Program(self.folder, name, command, *words, *listen, "--members", *members, inside=inside)
 
     def members(self):
         """Returns the names of the members of all clusters that run."""

@@ -56,7 +56,7 @@ class Replica(serve.Answerer):
         self.pages = {"/": serve.page, "/metrics": self.metrics}
         self.counters = metrics.Counters()
         self.sight = sight.Sight(self.links)
-        self.eyes, self.more_eyes = self.connect(()), {}
+        self.eyes = self.connect(())
         self.opened = {}  # when each snapshot was opened, by its range and its id
         self.started, self.printing = time.time(), threading.Lock()
 
@@ -293,16 +293,6 @@ class Replica(serve.Answerer):
             lease = None
         return lease
 
-    def others_and_links(self):
-        """Returns where the links of its ranges are, for its sight."""
-        return [(self.sights(each.range.members), each.range.prefix) for each in self.current()]
-
-    def sights(self, members):
-        """Returns the connection with which its sight looks at a cluster, or None for the first one."""
-        if members and members not in self.more_eyes:
-            self.more_eyes[members] = self.connect(members)
-        return self.more_eyes.get(members)
-
     def work(self, listen):
         """Starts all parts, and waits until the process is asked to end."""
         self.look_at_map(self.connect(()))
@@ -310,7 +300,8 @@ class Replica(serve.Answerer):
         logs.info("answers over HTTP", address=server.address, members=",".join(self.members))
         life.essential(self.keep_map)
         life.essential(self.keep_up, server.address)
-        life.essential(self.sight.go_on, self.eyes, self.others_and_links)
+        more = sight.Eyes(self.connect)
+        life.essential(self.sight.go_on, self.eyes, lambda: more.of([each.range for each in self.current()]))
         self.report(address=server.address)
         if self.piped:
             self.life.start_to_obey(lambda _: False)

@@ -130,6 +130,24 @@ def finish(coordinator):
             return
 
 
+def make_links(coordinator):
+    """Makes the links of all nodes in ranges that came from others, where no writer has taken them over.
+
+    So whoever looks at a range sees all its heads.
+    """
+    machine = coordinator.machine
+    for part in machine.parts.values():
+        etcd, links = machine.connect(part.range.members), part.range.prefix + b"link/"
+        if not part.range.parents:
+            continue
+        there = {pair.key for pair in etcd.list(links)}
+        for node in range(part.state["nodes"]):
+            key = log.link_key(node, part.range.prefix)
+            if key not in there:
+                state = ranges.state_of(machine.connect, machine.map, part.range, node)
+                etcd.transact([unchanged(key, 0), part.link.is_mine()], [put(key, log.to_json(state))])
+
+
 # ---- Cutting ----
 
 

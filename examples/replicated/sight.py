@@ -93,6 +93,22 @@ def look(etcd, ranges=((None, b""),)):
     return Look(heads, names, [json.loads(pair.value) for pair in replicas], texts)
 
 
+class Eyes:
+    """Connections of a sight to the clusters of further ranges. `connect(members)` returns a new one."""
+
+    def __init__(self, connect):
+        self.connect, self.connections = connect, {}
+
+    def of(self, ranges):
+        """Returns what `look` takes of ranges."""
+        return [(self.at(found.members), found.prefix) for found in ranges]
+
+    def at(self, members):
+        if members and members not in self.connections:
+            self.connections[members] = self.connect(list(members))
+        return self.connections.get(members)
+
+
 def together(one, other):
     """Returns the head of a node in two ranges: the floor waits for the lower one, unless that has retired."""
     last = min((head.last for head in (one, other) if not head.retired), default=max(one.last, other.last))
@@ -120,12 +136,14 @@ class Sight:
         self.rate = Rate(clock)
 
     def note(self, seen):
+        links = self.links()
+        numbers = {node: link[0] for node, link in enumerate(links)}  # a link may be as it came from another range
+        numbers |= {node: head.next for node, head in seen.heads.items()}
         with self.lock:
             self.last, self.when = seen, self.clock()
-            for node, head in seen.heads.items():
-                if node not in self.moved or self.moved[node][0] != head.next:
-                    self.moved[node] = head.next, self.when, node in self.moved
-        links = self.links()
+            for node, number in numbers.items():
+                if node not in self.moved or self.moved[node][0] != number:
+                    self.moved[node] = number, self.when, node in self.moved
         self.rate.note(sum(link[0] for link in links))
         self.behind(links)
 

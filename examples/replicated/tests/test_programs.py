@@ -172,8 +172,8 @@ class Programs(MemberCase):
 
     # ---- Who holds the floor back ----
 
-    def test_a_writer_stands_still(self):
-        """The replica, the coordinator and the page name it; and the cure that they name helps."""
+    def start_all(self):
+        """Starts a coordinator, two writers and a replica, and returns them, with the addresses at which two answer."""
         listen = f"127.0.0.1:{free_ports(1)[0]}"
         coordinator = self.start("coordinator.py", "--listen", listen)
         writers = [self.start("writer.py", "--name", name) for name in ("w1", "w2")]
@@ -181,19 +181,49 @@ class Programs(MemberCase):
         for writer in writers:
             self.wait_until(lambda writer=writer: writer.says("has its node"), "it joins")
         self.wait_until(lambda: len(ask(address, "/state")["nodes"]) == 3, "the replica has three nodes")
-        writers[0].process.send_signal(signal.SIGSTOP)
-        for asked in address, listen:
+        return coordinator, writers, replica, [address, listen]
+
+    def assert_held_back(self, addresses):
+        """Each of two programs names the writer w1, and what cures it; so does the page."""
+        for asked in addresses:
             state = self.wait_until(lambda: self.state_held_by(asked, "node"), "it names who holds the floor back")
             self.assertEqual(state["held_back"]["name"], "w1")
             self.assertIn("etcdctl put ask/lost/w1 ''", state["held_back"]["cure"])
             exposition.read(ask(asked, "/metrics"))
         if BROWSER:
-            self.assertIn("Held back: w1 (node ", ask_browser(f"http://{address}/", "--dump-dom"))
+            page = ask_browser(f"http://{addresses[0]}/", "--dump-dom")
+            self.assertIn("Held back: w1 (node ", page)
+            return page
+        return ""
+
+    def test_a_writer_stands_still(self):
+        """The replica, the coordinator and the page name it; and the cure that they name helps."""
+        coordinator, writers, replica, addresses = self.start_all()
+        writers[0].process.send_signal(signal.SIGSTOP)
+        self.assert_held_back(addresses)
         self.put(b"ask/lost/w1")
-        self.wait_until(lambda: self.state_held_by(address, "nothing"), "the floor goes on")
+        self.wait_until(lambda: self.state_held_by(addresses[0], "nothing"), "the floor goes on")
         writers[0].process.send_signal(signal.SIGCONT)
         self.assertEqual(writers[0].status(), 3)
         self.assertEqual([program.end() for program in (writers[1], replica, coordinator)], [0, 0, 0])
+
+    def test_a_writer_stands_still_in_several_ranges(self):
+        """A range is split before, and another one while it stands still, so that it never was in what comes of it."""
+        coordinator, writers, replica, addresses = self.start_all()
+        for many, key in (2, b"key0000100"), (3, b"key0005000"):
+            self.put(b"ask/split/" + key.hex().encode())
+            self.wait_until(lambda: self.live_ranges(addresses[0]) == many, "a range is split")
+            writers[0].process.send_signal(signal.SIGSTOP)
+        page = self.assert_held_back(addresses)
+        self.assertTrue(not BROWSER or "floor of range" in page)
+        self.put(b"ask/lost/w1")
+        self.wait_until(lambda: self.state_held_by(addresses[0], "nothing"), "the floor goes on")
+        writers[0].process.send_signal(signal.SIGCONT)
+        self.assertEqual(writers[0].status(), 3)
+        self.assertEqual([program.end() for program in (writers[1], replica, coordinator)], [0, 0, 0])
+
+    def live_ranges(self, address):
+        return sum(each["live"] for each in ask(address, "/state")["ranges"])
 
     def state_held_by(self, address, by):
         state = ask(address, "/state")
