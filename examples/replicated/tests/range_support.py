@@ -110,7 +110,7 @@ class RangeCase(MemoryCase):
         for number in replica.map.live:
             part = replica.parts[number]
             for revision in range(KEEP):
-                part.checkpoints.save(part.revision - revision, part.store.checkpoint(part.revision - revision))
+                part.checkpoints.save(part.revision + revision, part.store.checkpoint(part.revision))
 
     # ---- What is compared ----
 
