@@ -268,9 +268,9 @@ def start(part):
 
 
 def work(part):
-    """The process ends where the work of a range fails."""
+    """The process ends where the work of a range fails, unless the range was dropped meanwhile, with its files."""
     try:
         part.work()
     except BaseException as failure:
-        if not part.replica.life.asked.is_set():
+        if not part.replica.life.asked.is_set() and not part.dropped.is_set():
             life.end(life.tell(failure))

@@ -8,6 +8,7 @@ from range_support import OTHER, RangeCase
 
 import life
 import log
+import part
 import ranges
 import serve
 
@@ -254,6 +255,17 @@ class AtAReplica(RangeCase):
             self.assertEqual(len(list(snapshot.items(b"", b"m"))), 0)
             self.assertRaises(serve.Refused, lambda: list(snapshot.items(b"", b"")))
             self.assertRaises(serve.Refused, snapshot.read_all, [b"z"])
+
+    def test_a_range_that_is_dropped_while_it_begins(self):
+        """Its files are gone when it reads them: that is no failure of the replica."""
+        self.split(b"m")
+        dropped = self.caught_up().parts[0]
+        dropped.save()
+        paths = dropped.checkpoints.paths()
+        dropped.drop()
+        with mock.patch.object(dropped.checkpoints, "paths", lambda: paths), mock.patch("life.end") as end:
+            part.work(dropped)
+        end.assert_not_called()
 
     def test_a_fresh_replica_takes_what_others_have(self):
         """It begins no range of before, unless nobody else has the new ones."""
