@@ -201,16 +201,14 @@ func main() {
 	if err = first(err, failed, os.MkdirAll(r.folder, 0o755)); err == nil {
 		err = r.beginFromDisk()
 	}
-	if err != nil {
-		fail(err)
-	}
+	must(err)
 	http.HandleFunc("/state", handled(r.state))
 	http.HandleFunc("/read", r.read(readKeys))
 	http.HandleFunc("/range", r.read(readRange))
 	http.HandleFunc("/digest", r.read(readDigest))
 	http.HandleFunc("/certificate", handled(r.certificate))
 	http.HandleFunc("/checkpoint", handled(r.newest))
-	go func() { fail(http.Serve(listener, nil)) }()
+	go func() { must(http.Serve(listener, nil)) }()
 	go r.follow(client)
 	go r.keepUp(client, listener.Addr().String())
 	r.say(map[string]any{"address": listener.Addr().String()})

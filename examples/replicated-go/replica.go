@@ -56,9 +56,11 @@ func (r *replica) say(said any) {
 	}
 }
 
-// fail ends the process: a replica that cannot go on begins again.
-func fail(err error) {
-	log.Fatalf("error: failed: %v", err)
+// must ends the process where something failed: a replica that cannot go on begins again.
+func must(err error) {
+	if err != nil {
+		log.Fatalf("error: failed: %v", err)
+	}
 }
 
 // ---- The log ----
@@ -93,8 +95,8 @@ func (r *replica) follow(e etcd) {
 		if errors.Is(failed, errCut) {
 			log.Printf("warning: begins from another replica: %v", failed)
 			r.beginFromAnother(e)
-		} else if failed != nil {
-			fail(failed)
+		} else {
+			must(failed)
 		}
 	}
 }
@@ -210,16 +212,14 @@ func (r *replica) keepUp(e etcd, address string) {
 		store, threshold := r.store, r.threshold
 		r.mu.Unlock()
 		floor, err := store.Floor()
-		if err != nil {
-			fail(err)
-		}
+		must(err)
 		words, _ := json.Marshal(published{r.name, address, uint64(floor), r.oldest()})
 		if lease, err = e.publish("replica/"+r.name, string(words), lease, leaseTime); err != nil {
 			log.Printf("warning: etcd does not answer: %v", err)
 		}
 		if horizon, _ := store.Horizon(); horizon < threshold && threshold <= floor {
 			if _, err := store.VacuumTo(threshold); err != nil && !errors.Is(err, hlcstore.ErrBelowHorizon) {
-				fail(err)
+				must(err)
 			}
 		}
 		if time.Since(saved) >= r.every {
