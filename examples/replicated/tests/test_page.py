@@ -21,7 +21,7 @@ import serve
 
 BROWSER = next(filter(None, map(shutil.which, ("chromium-headless-shell", "chromium", "chromium-browser"))), None)
 WORDS = ["--headless", "--no-sandbox", "--disable-gpu", "--disable-dev-shm-usage", "--no-first-run"]
-WORDS += ["--hide-scrollbars", "--window-size=1100,1000", "--virtual-time-budget=2500"]
+WORDS += ["--hide-scrollbars", "--window-size=1100,1000", "--virtual-time-budget=8000"]
 PATIENCE = 100  # seconds
 # A page that has other pages in frames, and later their content as text: so one browser draws them all.
 FRAMES = """<!DOCTYPE html><title>frames</title><body><script>
@@ -34,7 +34,7 @@ setTimeout(() => {
     const text = document.body.appendChild(document.createElement("pre"));
     [text.id, text.textContent] = ["of-" + frame.id, frame.contentDocument.documentElement.outerHTML];
   }
-}, 1500);
+}, 6000);
 </script></body>"""
 HELD = {"node": 1, "name": "w1", "by": "node", "age_seconds": 7.33}
 STATE = {
