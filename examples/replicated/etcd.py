@@ -1,5 +1,5 @@
-"""A client of etcd that needs the standard library alone: it speaks to etcd's HTTP/JSON gateway; or by gRPC (rpc.py),
-where Python has that, and ETCD_RPC is not `json` in the environment.
+"""A client of etcd that needs the standard library alone: it speaks to etcd's HTTP/JSON gateway. Where Python has gRPC
+(rpc.py), calls go by that, unless ETCD_RPC is `json` in the environment; and watches too, where it is `all`.
 
 A cluster has several members, and each of them answers for all. Where one does not answer in time, the call goes to the
 next. The first may have carried it out all the same, so that a call can take place twice: `log.py` makes only calls for
@@ -22,6 +22,7 @@ import rpc
 TIMEOUT = 3.0  # seconds without an answer, or without a watched change, after which the next member is asked
 PATIENCE = 120.0  # seconds without any member's answer after which a call fails
 BY_RPC = rpc.grpc is not None and os.environ.get("ETCD_RPC") != "json"
+WATCH_BY_RPC = BY_RPC and os.environ.get("ETCD_RPC") == "all"
 BUSY = (408, 429, 500, 503, 504)  # no leader, no answer in time, no space: the call can be made again
 
 
@@ -221,7 +222,7 @@ class Etcd:
         answering: then a watch from behind the last pair goes on.
         """
         wish = {"start_revision": str(revision), "fragment": True, "filters": ["NODELETE"]}
-        if self.by_rpc:
+        if self.by_rpc and WATCH_BY_RPC:
             yield from self.watch_by_rpc(prefix_of(prefix, **wish))
         connection = self.connect()
         try:
