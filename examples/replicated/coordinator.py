@@ -32,7 +32,7 @@ import serve
 import settings
 import sight
 from clock import reading
-from etcd import Etcd, delete, put
+from etcd import Etcd, delete, put, unchanged
 from hlcstore import Node, join_record, threshold_record
 from members import Members
 
@@ -151,7 +151,10 @@ class Coordinator(serve.Answerer):
         if not found:
             if len(counts) > 1 or not self.can_join(name, number):
                 return  # another join is under way, whose name comes first
-            self.decide([put(b"node/" + name, log.to_json(number))])
+            request = self.etcd.get(JOIN + name)
+            still = unchanged(JOIN + name, request.revision if request else 0)
+            if not self.decide([put(b"node/" + name, log.to_json(number))], [still]):
+                return  # nobody asks any more
             self.counters.add("joins")
         for part in self.machine.parts.values():
             if part.state["nodes"] == number:
@@ -164,10 +167,12 @@ class Coordinator(serve.Answerer):
         self.append_plan(join_record(number, start), [link, *also], part, nodes=number + 1)
         logs.info("a node joins", node=number, name=name.decode(errors="replace"), start=sight.stamp_text(start))
 
-    def decide(self, changes):
-        """Changes what is of no range, unless another coordinator has taken over."""
-        if not self.etcd.transact([self.lock.is_mine()], changes).get("succeeded"):
+    def decide(self, changes, conditions=()):
+        """Changes what is of no range, unless another coordinator has taken over. Returns whether it did."""
+        done = self.etcd.transact([self.lock.is_mine(), *conditions], changes).get("succeeded", False)
+        if not done and (not conditions or self.etcd.get(self.lock.key).revision != self.lock.revision):
             raise log.Fenced("another coordinator decides")
+        return done
 
     def can_join(self, name, number):
         if number == MOST_NODES:

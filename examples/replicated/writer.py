@@ -257,7 +257,7 @@ class Writer:
         name, decided = self.name.encode(), self.machine.retires_key()
         found = self.etcd.get(b"node/" + name)
         if found and json.loads(found.value) == self.number and self.etcd.get(decided):
-            also = [delete(found.key), delete(b"ask/lost/" + name), delete(decided)]
+            also = [delete(found.key), delete(b"ask/lost/" + name), delete(b"ask/join/" + name), delete(decided)]
             self.etcd.transact([unchanged(found.key, found.revision)], also)
 
     def command(self, words):

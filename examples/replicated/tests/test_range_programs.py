@@ -11,6 +11,7 @@ import log
 import part
 import ranges
 import serve
+from etcd import delete
 
 
 class Nodes(RangeCase):
@@ -30,6 +31,14 @@ class Nodes(RangeCase):
         self.write(b"a", b"z", writer=self.start_writer("w2"))
         self.assertEqual([link[0] for link in self.links(2)], [1, 1])
         self.assertIsNone(self.value(b"ask/join/w2"))
+
+    def test_a_request_of_a_writer_that_is_gone(self):
+        """The request was read, and is taken back before the name gets its node."""
+        self.put(b"ask/join/w2")
+        self.coordinator.etcd.before = [lambda: self.new_etcd().transact([], [delete(b"ask/join/w2")])]
+        self.coordinator.answer()
+        self.assertIsNone(self.value(b"node/w2"))
+        self.assertEqual(len(self.new_model().logs[1].links), 2)
 
     def test_another_coordinator_finishes_a_join(self):
         """The first one has put it into one of both logs, and is then killed: the number belongs to the name."""
