@@ -14,6 +14,7 @@ The coordinator is a node itself, number 0, which only reports. So no replica's 
 stamp when a replica comes to an entry that the coordinator appended behind it: a node that joins starts there.
 """
 
+import contextlib
 import json
 import re
 import time
@@ -223,9 +224,11 @@ class Coordinator(serve.Answerer):
 
     def retire_in_all(self, number, mine, also):
         lost = machine.Machine(number, self.etcd, self.connect, self.is_mine_in)
-        if lost.take_over():
+        with contextlib.suppress(log.Retired):  # in all ranges, and its name was not given back
+            if not lost.take_over():
+                return
             lost.retire(lost.decide_to_retire(reading(lost.first().node), mine))
-            self.decide([*also, delete(lost.retires_key())])
+        self.decide([*also, delete(lost.retires_key())])
 
     def is_mine_in(self, found):
         """The conditions that no other coordinator has taken over in a range."""

@@ -89,6 +89,14 @@ class Nodes(RangeCase):
         self.assertEqual(self.new_etcd().list(b"retires/"), [])
         self.assertRaises(log.Fenced, self.writer.append_writes, [(b"a", b"a")])
 
+    def test_a_lost_writer_that_retired_everywhere(self):
+        """Its writer, or a coordinator, was killed before it gave the name back: no merge waits for it for good."""
+        self.writer.machine.retire(self.writer.machine.decide_to_retire(self.writer.reading()))
+        self.ask(b"lost/w1")
+        self.assertIsNone(self.value(b"node/w1"))
+        self.assertEqual(self.new_etcd().list(b"retires/"), [])
+        self.assertIsNone(self.merge(b"m"))
+
     def test_the_coordinator_retires(self):
         self.coordinator.retires = True
         self.coordinator.work()
