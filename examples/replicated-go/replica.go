@@ -2,6 +2,7 @@ package main
 
 import (
 	"bytes"
+	"context"
 	"encoding/json"
 	"errors"
 	"fmt"
@@ -9,277 +10,265 @@ import (
 	"log"
 	"net/http"
 	"os"
-	"path/filepath"
-	"sort"
-	"strconv"
-	"strings"
 	"sync"
 	"time"
 
 	"go.etcd.io/etcd/clientv3"
+
 	"hlcstore"
 )
 
-// first returns the first error that is one.
-func first(failures ...error) error {
-	for _, failure := range failures {
-		if failure != nil {
-			return failure
-		}
+const (
+	firstNodes = 1                      // the coordinator's node; all others join
+	lease      = 10                     // seconds after which the cluster forgets a replica that is gone
+	pause      = 500 * time.Millisecond // between two rounds of upkeep
+	partKeys   = 4096                   // of a vacuum, so that the log is applied between its parts
+)
+
+// A replica is a store with the place in the log up to which that was applied to it.
+type replica struct {
+	name        string
+	etcd        *clientv3.Client
+	checkpoints checkpoints
+	say         func(any)
+	lease       clientv3.LeaseID
+	between     sync.RWMutex // whoever has it sees the store between two entries of the log
+	store       *hlcstore.Store
+	revision    int64
+	threshold   hlcstore.Stamp
+}
+
+// errCut says that etcd no longer has all that comes next: only a newer checkpoint helps. errSealed says that other
+// ranges go on with the keys: what was applied can still be read.
+var (
+	errCut    = errors.New("the log begins behind what was applied, so this begins from another replica")
+	errSealed = errors.New("the log has ended: other ranges go on")
+)
+
+// Apply accepts items, and lets nodes join: all replicas do so at the same place of the log, with the same start. What
+// was applied before is passed over.
+func (r *replica) apply(revision int64, records []byte) error {
+	r.between.Lock()
+	defer r.between.Unlock()
+	if bytes.HasPrefix(records, []byte("{")) {
+		return errSealed
+	}
+	applied, err := r.store.ApplyRecords(records)
+	if err != nil {
+		return fmt.Errorf("the entry at revision %d: %w", revision, err)
+	}
+	if r.revision = revision; applied.Threshold > r.threshold {
+		r.threshold = applied.Threshold
 	}
 	return nil
 }
 
-const (
-	firstNodes = 1 // the coordinator's node; all others join
-	leaseTime  = 10
-	pause      = 500 * time.Millisecond
-	keep       = 2 // should the newest checkpoint be damaged, the one before is there, and the log behind it
-)
-
-// replica applies the log of range 0 to a store, and makes checkpoints.
-type replica struct {
-	name, folder string
-	every        time.Duration
-	piped        bool
-
-	mu        sync.Mutex // whoever has it sees the store between two entries of the log
-	store     *hlcstore.Store
-	revision  uint64
-	threshold hlcstore.Stamp
-}
-
-// say says something to the program that started this one.
-func (r *replica) say(said any) {
-	if text, err := json.Marshal(said); r.piped && err == nil {
-		fmt.Printf("%s\n", text)
-	}
-}
-
-// must ends the process where something failed: a replica that cannot go on begins again.
-func must(err error) {
-	if err != nil {
-		log.Fatalf("error: failed: %v", err)
-	}
-}
-
-// ---- The log ----
-
-var errCut = errors.New("the next entry was cut off the log")
-
-func (r *replica) apply(entry entry) error {
-	if bytes.HasPrefix(entry.records, []byte("{")) {
-		return errors.New("the log has ended, and others go on with its keys: this replica has one range alone")
-	}
-	r.mu.Lock()
-	defer r.mu.Unlock()
-	applied, err := r.store.ApplyRecords(entry.records)
-	if applied.Threshold > r.threshold {
-		r.threshold = applied.Threshold
-	}
-	r.revision = entry.revision
-	return err
-}
-
-// follow applies each entry above the revision, in order, as entries are appended.
-func (r *replica) follow(e etcd) {
-	for {
-		var failed error
-		err := e.watch(r.revision+1, func(entry entry) error {
-			failed = r.apply(entry)
-			return failed
-		})
-		if failed == nil && errors.Is(err, errCompacted) {
-			failed = r.applyPage(e)
-		}
-		if errors.Is(failed, errCut) {
-			log.Printf("warning: begins from another replica: %v", failed)
-			r.beginFromAnother(e)
-		} else {
-			must(failed)
-		}
-	}
-}
-
-// applyPage applies entries where etcd has dropped the history that a watch needs: they are there, unless they were cut.
-func (r *replica) applyPage(e etcd) error {
-	cut, entries, err := e.page(r.revision)
-	if err != nil {
-		return nil // it is asked again
-	}
-	if at, err := strconv.ParseUint(cut, 10, 64); err == nil && at > r.revision {
-		return errCut
-	}
-	for _, entry := range entries {
-		if err := r.apply(entry); err != nil {
+// Follow applies the log as it grows, until it ends or the context does.
+func (r *replica) follow(ctx context.Context) error {
+	for ctx.Err() == nil {
+		switch err := r.watch(ctx); err {
+		case nil:
+			wait(ctx, 50*time.Millisecond) // the member lost its leader: another watch goes on
+		case errCut:
+			log.Print(err)
+			r.beginFromAnother(ctx)
+		case errSealed:
+			log.Print(err)
+			<-ctx.Done()
+		default:
 			return err
 		}
 	}
+	return ctx.Err()
+}
+
+// Watch applies entries above the revision as they come, in order, until the watch ends.
+func (r *replica) watch(ctx context.Context) error {
+	ctx, cancel := context.WithCancel(clientv3.WithRequireLeader(ctx))
+	defer cancel()
+	for answer := range r.etcd.Watch(ctx, "log/", clientv3.WithPrefix(), clientv3.WithRev(r.revision+1),
+		clientv3.WithFilterDelete(), clientv3.WithFragment()) {
+		if answer.CompactRevision != 0 {
+			return errCut
+		}
+		for _, event := range answer.Events {
+			if err := r.apply(event.Kv.ModRevision, event.Kv.Value); err != nil {
+				return err
+			}
+		}
+	}
 	return nil
 }
 
-// ---- Beginning ----
-
-func (r *replica) paths() []string {
-	paths, _ := filepath.Glob(filepath.Join(r.folder, "*.checkpoint"))
-	sort.Sort(sort.Reverse(sort.StringSlice(paths)))
-	return paths
-}
-
+// BeginFromDisk begins with the newest checkpoint that is whole, or with an empty store before the first entry.
 func (r *replica) beginFromDisk() error {
-	for _, path := range r.paths() {
-		content, err := os.ReadFile(path)
-		if err == nil {
-			if err = r.begin("disk", content); err == nil {
-				return nil
-			}
+	for _, path := range r.checkpoints.paths() {
+		file, err := os.Open(path)
+		if err != nil {
+			return err
 		}
-		log.Printf("warning: removes a damaged checkpoint %s: %v", path, err)
+		err = r.begin("disk", file)
+		file.Close()
+		if !errors.Is(err, hlcstore.ErrBadBytes) && !errors.Is(err, hlcstore.ErrNoCheckpoint) {
+			return err
+		}
+		log.Printf("removes a damaged checkpoint, %s: %v", path, err)
 		os.Remove(path)
 	}
 	return r.begin("empty", nil)
 }
 
-func (r *replica) begin(origin string, checkpoint []byte) error {
+// Begin goes on with the store of a checkpoint, or with an empty one. The snapshots in a checkpoint are closed: their
+// readers are gone.
+func (r *replica) begin(origin string, saved io.Reader) error {
 	start, word := time.Now(), uint64(0)
 	store, err := hlcstore.Open(firstNodes)
-	if checkpoint != nil {
-		store, word, err = hlcstore.RestoreBytes(checkpoint)
-	}
-	if err == nil {
-		err = store.CloseAll() // the readers of the snapshots that a checkpoint has are gone
+	if err == nil && saved != nil {
+		store, word, err = hlcstore.Restore(saved)
 	}
 	if err != nil {
 		return err
 	}
-	r.mu.Lock()
-	r.store, r.revision = store, word
-	r.mu.Unlock()
-	rows, _ := store.Rows()
+	rows, err := store.Rows()
+	if err := firstOf(store.CloseAll(), err); err != nil {
+		return err
+	}
+	r.between.Lock()
+	r.store, r.revision = store, int64(word)
+	r.between.Unlock()
+	log.Printf("begins from %s at revision %d, with %d rows", origin, word, rows)
 	r.say(map[string]any{"begins": origin, "revision": word, "rows": rows, "seconds": time.Since(start).Seconds()})
 	return nil
 }
 
-// published is what a replica says of itself in etcd.
+// What a replica publishes of itself.
 type published struct {
 	Name       string `json:"name"`
 	Address    string `json:"address"`
 	Floor      uint64 `json:"floor"`
-	Checkpoint uint64 `json:"checkpoint"`
+	Checkpoint int64  `json:"checkpoint"`
 }
 
-// beginFromAnother begins with the checkpoint of another replica, as soon as one has a newer one.
-func (r *replica) beginFromAnother(e etcd) {
-	for ; ; time.Sleep(200 * time.Millisecond) {
-		ctx, cancel := limited()
-		answer, err := e.Get(ctx, "replica/", clientv3.WithPrefix())
-		cancel()
-		for err == nil && len(answer.Kvs) > 0 {
+// BeginFromAnother begins with the checkpoint of another replica, as soon as one has a newer one. It may be that the
+// other was killed, or that its disk is damaged: then the next one is asked.
+func (r *replica) beginFromAnother(ctx context.Context) {
+	for ; ctx.Err() == nil; wait(ctx, pause) {
+		others, err := r.etcd.Get(ctx, "replica/", clientv3.WithPrefix())
+		for at := 0; err == nil && at < len(others.Kvs); at++ {
 			var other published
-			failed := json.Unmarshal(answer.Kvs[0].Value, &other)
-			answer.Kvs = answer.Kvs[1:]
-			if failed != nil || other.Checkpoint <= r.revision {
-				continue
+			if json.Unmarshal(others.Kvs[at].Value, &other) == nil && other.Checkpoint > r.revision {
+				err := r.fetch(other.Address)
+				if err == nil {
+					return
+				}
+				log.Printf("no checkpoint of %s: %v", other.Name, err)
 			}
-			content, failed := fetch(other.Address)
-			if failed == nil && r.begin(other.Name, content) == nil {
-				return
-			}
-			log.Printf("warning: no checkpoint of another replica %s: %v", other.Name, failed)
 		}
 	}
 }
 
-func fetch(address string) ([]byte, error) {
-	answer, err := http.Get("http://" + address + "/checkpoint")
+func (r *replica) fetch(address string) error {
+	answer, err := (&http.Client{Timeout: time.Minute}).Get("http://" + address + "/checkpoint")
 	if err != nil {
-		return nil, err
+		return err
 	}
 	defer answer.Body.Close()
 	if answer.StatusCode != http.StatusOK {
-		return nil, errors.New(answer.Status)
+		return errors.New(answer.Status)
 	}
-	return io.ReadAll(answer.Body)
+	return r.begin("another replica", answer.Body)
 }
 
-// ---- Upkeep ----
-
-// keepUp publishes the floor and the oldest checkpoint, vacuums to the threshold, and makes checkpoints.
-func (r *replica) keepUp(e etcd, address string) {
-	lease, saved := clientv3.LeaseID(0), time.Now()
-	for ; ; time.Sleep(pause) {
-		r.mu.Lock()
-		store, threshold := r.store, r.threshold
-		r.mu.Unlock()
-		floor, err := store.Floor()
-		must(err)
-		words, _ := json.Marshal(published{r.name, address, uint64(floor), r.oldest()})
-		if lease, err = e.publish("replica/"+r.name, string(words), lease, leaseTime); err != nil {
-			log.Printf("warning: etcd does not answer: %v", err)
+// KeepUp publishes the floor and the oldest checkpoint, vacuums to the threshold, and makes checkpoints.
+func (r *replica) keepUp(ctx context.Context, address string, every time.Duration) error {
+	saved := time.Now()
+	for ; ctx.Err() == nil; wait(ctx, pause) {
+		r.publish(ctx, address)
+		if err := r.vacuum(ctx); err != nil {
+			return err
 		}
-		if horizon, _ := store.Horizon(); horizon < threshold && threshold <= floor {
-			if _, err := store.VacuumTo(threshold); err != nil && !errors.Is(err, hlcstore.ErrBelowHorizon) {
-				must(err)
-			}
-		}
-		if time.Since(saved) >= r.every {
+		if time.Since(saved) >= every {
 			if err := r.save(); err != nil {
-				log.Printf("error: a checkpoint was not saved: %v", err)
+				log.Print("a checkpoint was not saved: ", err) // it goes on with those that it has, and tries again
 			}
 			saved = time.Now()
 		}
 	}
+	return ctx.Err()
 }
 
-// oldest returns the revision behind which the log is still needed, which is 0 until there are enough checkpoints.
-func (r *replica) oldest() uint64 {
-	paths := r.paths()
-	if len(paths) < keep {
-		return 0
-	}
-	name := strings.TrimSuffix(filepath.Base(paths[len(paths)-1]), ".checkpoint")
-	revision, _ := strconv.ParseUint(name, 16, 64)
-	return revision
-}
-
-func (r *replica) save() error {
-	var content bytes.Buffer
-	r.mu.Lock()
-	revision := r.revision
-	_, err := r.store.Checkpoint(&content, revision)
-	r.mu.Unlock()
-	if err != nil {
-		return err
-	}
-	if err := writeDurably(filepath.Join(r.folder, fmt.Sprintf("%016x.checkpoint", revision)), content.Bytes()); err != nil {
-		return err
-	}
-	for place, path := range r.paths() {
-		if place >= keep {
-			os.Remove(path)
+// Publish puts where the replica is, for as long as the lease is kept alive. Where etcd does not answer, the next round
+// tries again.
+func (r *replica) publish(ctx context.Context, address string) {
+	limited, cancel := context.WithTimeout(ctx, patience)
+	defer cancel()
+	if _, err := r.etcd.KeepAliveOnce(limited, r.lease); r.lease == 0 || err != nil {
+		granted, err := r.etcd.Grant(limited, lease)
+		if err != nil {
+			return
 		}
+		r.lease = granted.ID
 	}
-	return nil
+	floor := r.state()["floor"].(uint64)
+	text, _ := json.Marshal(published{r.name, address, floor, r.checkpoints.oldest()})
+	r.etcd.Put(limited, "replica/"+r.name, string(text), clientv3.WithLease(r.lease))
 }
 
-// writeDurably writes a file that is there whole after a crash, or not at all.
-func writeDurably(path string, content []byte) error {
-	part := filepath.Join(filepath.Dir(path), "new")
-	file, err := os.Create(part)
-	if err != nil {
-		return err
+// Vacuum vacuums to the threshold, if the floor has reached it, unless a certificate at a later stamp was asked for.
+func (r *replica) vacuum(ctx context.Context) error {
+	store, threshold := r.now()
+	floor, _ := store.Floor()
+	if horizon, _ := store.Horizon(); horizon >= threshold || threshold > floor {
+		return nil
 	}
-	_, err = file.Write(content)
-	if err = first(err, file.Sync(), file.Close()); err != nil {
-		os.Remove(part)
-		return err
+	_, err := store.VacuumInParts(ctx, threshold, partKeys)
+	if errors.Is(err, hlcstore.ErrBelowHorizon) {
+		return nil
 	}
-	if err := os.Rename(part, path); err != nil {
-		return err
+	return err
+}
+
+// Now returns the store, and the retention threshold that it has come to.
+func (r *replica) now() (*hlcstore.Store, hlcstore.Stamp) {
+	r.between.RLock()
+	defer r.between.RUnlock()
+	return r.store, r.threshold
+}
+
+// State says how far the replica is, between two entries. A stamp is a word of 64 bits.
+func (r *replica) state() map[string]any {
+	r.between.RLock()
+	defer r.between.RUnlock()
+	floor, _ := r.store.Floor()
+	horizon, _ := r.store.Horizon()
+	rows, _ := r.store.Rows()
+	links, nodes := [][3]any{}, uint64(0)
+	for nodes, _ = r.store.Nodes(); uint64(len(links)) < nodes; {
+		link, _ := r.store.Link(uint16(len(links)))
+		links = append(links, [3]any{link.Next, uint64(link.Head), link.Retired})
 	}
-	folder, err := os.Open(filepath.Dir(path))
-	if err != nil {
-		return err
+	own := map[string]any{"range": 0, "live": true, "revision": r.revision, "rows": rows, "links": links}
+	return map[string]any{
+		"program": "replica", "name": r.name, "revision": r.revision, "floor": uint64(floor), "rows": rows,
+		"horizon": uint64(horizon), "threshold": uint64(r.threshold), "checkpoint": r.checkpoints.oldest(),
+		"links": links, "ranges": []any{own},
 	}
-	return first(folder.Sync(), folder.Close())
+}
+
+// Save makes a checkpoint of the store between two entries. The log waits for it, and reads do not.
+func (r *replica) save() error {
+	r.between.RLock()
+	defer r.between.RUnlock()
+	return r.checkpoints.save(r.revision, func(to io.Writer) error {
+		_, err := r.store.CheckpointTo(to, uint64(r.revision))
+		return err
+	})
+}
+
+// wait waits for as long, or until the context ends.
+func wait(ctx context.Context, duration time.Duration) {
+	select {
+	case <-ctx.Done():
+	case <-time.After(duration):
+	}
 }
