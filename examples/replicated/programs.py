@@ -100,7 +100,8 @@ def ask(address, path, **words):
 class Programs:
     """All that runs: the clusters, the coordinator, the model, replicas and writers."""
 
-    def __init__(self, folder, retention, checkpoint, writing, replicas=3, clusters=1, net=None, power_library=None, go=None):
+    def __init__(self, folder, retention, checkpoint, writing, replicas=3, clusters=1, net=None, power_library=None,
+                 go=None):  # fmt: skip
         self.net, self.power, self.go = net, power_library, go
         self.folder, self.retention, self.checkpoint = folder, retention, checkpoint
         batch, rate, keys = writing
