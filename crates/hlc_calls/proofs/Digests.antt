@@ -1,8 +1,8 @@
 -- The digest of a range.
 use Rattle.std.proofs.Common.{◌≡◌, ℕ, sym, subst, refl, List, Option, Some}
 use Rattle.sha2.specs.Sha256.{sha256}
-use Rattle.hlc_node.specs.declared.row.Row.{Row}
-use Rattle.hlc_node.specs.Rows.{answer}
+use Rattle.hlc_rows.specs.declared.row.Row.{Row}
+use Rattle.hlc_rows.specs.Rows.{answer}
 use Rattle.hlc_columns.specs.Answers.{AreAnswers, IsBetween}
 use Rattle.hlc_range_calls.specs.Listing.{listing_bytes}
 use Rattle.hlc_range_calls.specs.Scan.{end_of}

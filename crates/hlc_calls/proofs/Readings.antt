@@ -4,8 +4,8 @@ use Rattle.std.proofs.Common.{◌++◌, take, get_or, length}
 use Rattle.std.proofs.Common.{refl, arith, length-append, inl, inr, Option, Some}
 use Rattle.std.proofs.lemmas.List.{append-nil, take_more}
 use Rattle.std.proofs.lemmas.Grind.{flat_map-append}
-use Rattle.hlc_node.specs.declared.row.Row.{Row}
-use Rattle.hlc_node.specs.Rows.{answer}
+use Rattle.hlc_rows.specs.declared.row.Row.{Row}
+use Rattle.hlc_rows.specs.Rows.{answer}
 use Rattle.hlc_calls.specs.declared.read_all.Place.{Place}
 use Rattle.hlc_calls.specs.Batch.{piece}
 use Rattle.hlc_range_calls.specs.Listing.{with_bytes}

@@ -3,7 +3,7 @@ use Rattle.std.proofs.Common.{◌≡◌, ◌∙◌, ℕ, List, refl, sym, ap, su
 use Rattle.std.specs.Prelude.{Option, Some, None, ◌==◌, not, nat_le, if◌then◌else◌}
 use Rattle.hlc_values.specs.declared.bounds.TheConstants.{NUMBER_BOUND}
 use Rattle.hlc_intake.specs.declared.intake.LinkFault.TheVariants.{Retired, NotNext, NumbersSpent, StampNotRising}
-use Rattle.hlc_node.specs.declared.item.BodyFault.{BodyFault}
+use Rattle.hlc_rows.specs.declared.limits.BodyFault.{BodyFault}
 use Rattle.hlc_events.specs.declared.fault.CoreFault.TheVariants.{NoNode, Link}
 use Rattle.hlc_events.specs.declared.fault.CoreFault.{CoreFault}
 use Rattle.hlc_node.specs.declared.item.Item.{Item}

@@ -3,8 +3,8 @@ use Rattle.std.specs.Prelude.{◌≡◌, ℕ, ◌+◌, List, ◌∷◌, length, 
 use Rattle.std.specs.Prelude.{Some, None, ⊤, Bool, true}
 use Rattle.std.specs.Prelude.{false}
 use Rattle.hlc_node.specs.declared.item.Item.{Item}
-use Rattle.hlc_node.specs.declared.row.Row.{Row}
-use Rattle.hlc_node.specs.Rows.{answer}
+use Rattle.hlc_rows.specs.declared.row.Row.{Row}
+use Rattle.hlc_rows.specs.Rows.{answer}
 use Rattle.hlc_columns.specs.Answers.{in_part}
 use Rattle.hlc_columns.specs.Sizes.{Sizes}
 use Rattle.hlc_draft.specs.declared.report.Numbers.{Numbers}

@@ -1,7 +1,7 @@
 -- How the digest of a range of a snapshot is returned.
 use Rattle.std.specs.Prelude.{◌≡◌, ℕ, List, Option, Some, None}
 use Rattle.sha2.specs.Sha256.{sha256}
-use Rattle.hlc_node.specs.declared.row.Row.{Row}
+use Rattle.hlc_rows.specs.declared.row.Row.{Row}
 use Rattle.hlc_columns.specs.Answers.{AreAnswers, IsBetween}
 use Rattle.hlc_calls.specs.Answers.{IsCopied}
 use Rattle.hlc_range_calls.specs.Listing.{listing_bytes}

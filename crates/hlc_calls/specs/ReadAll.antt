@@ -3,8 +3,8 @@ use Rattle.std.specs.Prelude.{◌≡◌, ◌≢◌, ◌⊎◌, ℕ, ◌+◌, ◌
 use Rattle.std.specs.Prelude.{true, false, length, take, get_or}
 use Rattle.std.specs.Prelude.{Option, Some, None}
 use Rattle.std.specs.List.{flat_map}
-use Rattle.hlc_node.specs.declared.row.Row.{Row}
-use Rattle.hlc_node.specs.Rows.{answer}
+use Rattle.hlc_rows.specs.declared.row.Row.{Row}
+use Rattle.hlc_rows.specs.Rows.{answer}
 use Rattle.hlc_calls.specs.declared.read_all.Place.{Place}
 use Rattle.hlc_calls.specs.Batch.{piece, lies}
 use Rattle.hlc_range_calls.specs.Listing.{with_bytes}

@@ -1,6 +1,6 @@
 //! The certificate of the rows up to a stamp, as text.
 ghost use Rattle.std.specs.Prelude.{◌≡◌, List, IfSome, OnErr, MatchResult};
-ghost use Rattle.hlc_node.specs.declared.row.Row.{Row as ARow};
+ghost use Rattle.hlc_rows.specs.declared.row.Row.{Row as ARow};
 ghost use Rattle.hlc_core.specs.Past.{Step};
 ghost use Rattle.hlc_core.specs.StoreView.{Represents};
 ghost use Rattle.hlc_core.specs.Calls.{AreRowsTo};

@@ -12,7 +12,7 @@ use Rattle.hlc_text.specs.Printing.{Prints}
 use Rattle.hlc_text.proofs.PrintLemmas.{printed_line, printed_then}
 use Rattle.hlc_text.proofs.TokenLemmas.{line_has_no_feed, split_line}
 use Rattle.hlc_text.proofs.LineLemmas.{first_of_lines}
-use Rattle.hlc_node.specs.declared.row.Row.{Row as ARow}
+use Rattle.hlc_rows.specs.declared.row.Row.{Row as ARow}
 use Rattle.hlc_witness.specs.declared.witness.Witness.{Witness as AWitness}
 use Rattle.hlc_certificate.specs.declared.check_line.CheckLine.{CheckLine}
 use Rattle.hlc_certificate.specs.CheckLine.{check_words, check_line, HasCheckLine, value_words}

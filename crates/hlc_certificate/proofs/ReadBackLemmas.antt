@@ -1,7 +1,7 @@
 -- What is printed is read back, and where witnesses show that the rows are the fewest, this is the only answer.
 use Rattle.std.proofs.Common.{ℕ, ap, refl, List, length, get_or, arith, inl, inr}
 use Rattle.std.specs.Prelude.{◌≢◌}
-use Rattle.hlc_node.specs.declared.row.Row.{Row as ARow}
+use Rattle.hlc_rows.specs.declared.row.Row.{Row as ARow}
 use Rattle.hlc_witness.specs.declared.witness.Witness.{Witness as AWitness}
 use Rattle.hlc_witness.specs.Certificate.{IsCertificate}
 use Rattle.hlc_witness.specs.Cost.{rows_cost}

@@ -6,7 +6,7 @@ use Rattle.hlc_text.specs.declared.watched.Watched.{Watched}
 use Rattle.hlc_text.specs.Watched.{inner_of, has_failed}
 use Rattle.hlc_text.specs.Printing.{Writes}
 use Rattle.hlc_text.specs.Text.{printed}
-use Rattle.hlc_node.specs.declared.row.Row.{Row as ARow}
+use Rattle.hlc_rows.specs.declared.row.Row.{Row as ARow}
 use Rattle.hlc_witness.specs.declared.witness.Witness.{Witness as AWitness}
 use Rattle.hlc_witness.specs.declared.reason.NotShown.{NotShown as AReason}
 use Rattle.hlc_witness.specs.Fewest.{Fewest as AreFewest}

@@ -4,7 +4,7 @@ use Rattle.std.specs.Prelude.{None, ⊤}
 use Rattle.std.specs.List.{AllByRecursion}
 use Rattle.hlc_clock.specs.Stamp.{stamp_text}
 use Rattle.hlc_text.specs.Text.{bytes_token, AreBytes}
-use Rattle.hlc_node.specs.declared.row.Row.{Row as ARow}
+use Rattle.hlc_rows.specs.declared.row.Row.{Row as ARow}
 use Rattle.hlc_witness.specs.declared.witness.Witness.{Witness as AWitness}
 use Rattle.hlc_certificate.specs.declared.check_line.CheckLine.{CheckLine}
 use Rattle.hlc_certificate.specs.declared.check_line.CheckLine.TheVariants.{Point, Row, Witness}

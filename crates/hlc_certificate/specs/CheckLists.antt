@@ -1,6 +1,6 @@
 -- The three lists that an input contains, and why there are none.
 use Rattle.std.specs.Prelude.{◌≡◌, ◌<◌, ℕ, List, [], ◌∷◌, ◌++◌, length}
-use Rattle.hlc_node.specs.declared.row.Row.{Row as ARow}
+use Rattle.hlc_rows.specs.declared.row.Row.{Row as ARow}
 use Rattle.hlc_witness.specs.declared.witness.Witness.{Witness as AWitness}
 use Rattle.hlc_certificate.specs.declared.check_line.CheckLine.{CheckLine}
 use Rattle.hlc_certificate.specs.declared.check_line.CheckLine.TheVariants.{Point, Row, Witness}

@@ -1,7 +1,7 @@
 -- What lines say is one certificate, and an input has one end.
 use Rattle.std.specs.Prelude.{◌≡◌, ◌≢◌, ◌⊎◌, ℕ, List, codes}
 use Rattle.hlc_text.specs.Text.{printed}
-use Rattle.hlc_node.specs.declared.row.Row.{Row as ARow}
+use Rattle.hlc_rows.specs.declared.row.Row.{Row as ARow}
 use Rattle.hlc_witness.specs.declared.witness.Witness.{Witness as AWitness}
 use Rattle.hlc_certificate.specs.declared.check.CheckEnd.{CheckEnd}
 use Rattle.hlc_certificate.specs.declared.check.CheckEnd.TheVariants.{NotLoaded}

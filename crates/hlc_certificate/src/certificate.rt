@@ -7,7 +7,7 @@ ghost use Rattle.hlc_certificate.specs.CheckLists.{HasLists, AddsLine, IsNoCerti
 
 use crate::check_line::{CheckLine, read_check_line};
 use hlc_clock::Stamp;
-use hlc_node::{Bytes, Row};
+use hlc_rows::{Bytes, Row};
 use hlc_text::bytes::Spelled;
 use hlc_text::input::first_line;
 use hlc_values::NoMemory;

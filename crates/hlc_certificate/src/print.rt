@@ -12,7 +12,7 @@ ghost use Rattle.hlc_certificate.specs.CertificateText.{certificate_text};
 ghost use Rattle.hlc_certificate.specs.CertificateText.{point_line, row_line, witness_line};
 
 use hlc_clock::Stamp;
-use hlc_node::{Bytes, Row};
+use hlc_rows::{Bytes, Row};
 use hlc_text::printer::Printer;
 use hlc_witness::Witness;
 use std::io::Write;

@@ -7,8 +7,8 @@ use Rattle.std.proofs.Math.Seq.{take-append_seam, get_or-append_seam}
 use Rattle.std.proofs.lemmas.List.{take_more, get_or-take, length-append, length-take-le}
 use Rattle.std.proofs.lemmas.List.Elements.{All-contains}
 use Rattle.std.proofs.lemmas.List.Sorted.{All-permutation, IsPermutation-trans, IsPermutation-append_left}
-use Rattle.hlc_node.specs.declared.row.Row.{Row}
-use Rattle.hlc_node.specs.Rows.{IsSameVersion}
+use Rattle.hlc_rows.specs.declared.row.Row.{Row}
+use Rattle.hlc_rows.specs.Rows.{IsSameVersion}
 use Rattle.hlc_columns.specs.Table.{HasNoVersion}
 use Rattle.hlc_witness.specs.Certificate.{RowsAscend}
 use Rattle.hlc_witness.proofs.CertificateLemmas.{ascending_rows_are_a_row_set}

@@ -2,7 +2,7 @@
 use Rattle.std.specs.Prelude.{◌≡◌, List, [], ◌∷◌, ◌++◌, Bool, true, false, Option, Some, None, All, IsTrue, ◌↔◌}
 use Rattle.std.specs.List.Sorted.{IsPermutation}
 use Rattle.std.specs.declared.cmp.Ordering.TheVariants.{Less}
-use Rattle.hlc_node.specs.declared.row.Row.{Row}
+use Rattle.hlc_rows.specs.declared.row.Row.{Row}
 use Rattle.hlc_witness.specs.Certificate.{RowsAscend, row_cmp}
 use Rattle.hlc_witness.specs.Cost.{AreInLimits}
 use Rattle.hlc_checkpoint.specs.declared.checkpoint.RestoreFault.{RestoreFault}

@@ -1,7 +1,7 @@
 -- Rows in the order in which certificates list them.
 use Rattle.std.specs.Prelude.{ℕ, List, Bool, true, filter, nat_le, nat_lt}
 use Rattle.std.specs.List.Sorted.{IsPermutation}
-use Rattle.hlc_node.specs.declared.row.Row.{Row}
+use Rattle.hlc_rows.specs.declared.row.Row.{Row}
 use Rattle.hlc_column.specs.Rows.{rows_to}
 use Rattle.hlc_witness.specs.Certificate.{RowsAscend}
 use Rattle.hlc_checkpoint.specs.declared.sorted.Side.{Side}

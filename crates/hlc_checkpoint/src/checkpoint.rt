@@ -12,7 +12,7 @@ ghost use Rattle.hlc_checkpoint.specs.Growing.{with_rows};
 use hlc_clock::Stamp;
 use hlc_heads::{MOST_NODES, MOST_NUMBERS};
 use hlc_intake::Intake;
-use hlc_node::Row;
+use hlc_rows::Row;
 use hlc_snapshot::{Snapshot, is_register};
 use hlc_values::NoMemory;
 use hlc_witness::{are_in_limits, do_rows_ascend};

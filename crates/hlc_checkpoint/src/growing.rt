@@ -13,7 +13,7 @@ use crate::checked::Checked;
 use crate::checkpoint::{Checkpoint, RestoreFault, head_reason, is_under_head};
 use hlc_columns::Table;
 use hlc_intake::Intake;
-use hlc_node::{Row, write_fault};
+use hlc_rows::{Row, write_fault};
 use hlc_values::NoMemory;
 use hlc_witness::row_order;
 use std::alloc::Global;

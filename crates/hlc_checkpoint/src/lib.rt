@@ -17,7 +17,7 @@ pub use checkpoint::{Checkpoint, RestoreFault};
 pub use growing::Growing;
 pub use hlc_clock::Stamp;
 pub use hlc_intake::Intake;
-pub use hlc_node::{Bytes, Row};
+pub use hlc_rows::{Bytes, Row};
 pub use hlc_snapshot::Snapshot;
 pub use hlc_values::NoMemory;
 pub use restoring::{heads_of, table_of, table_of_moved};

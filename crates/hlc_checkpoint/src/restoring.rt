@@ -10,7 +10,7 @@ use hlc_clock::Stamp;
 use hlc_columns::Table;
 use hlc_heads::{Head, Heads};
 use hlc_intake::Intake;
-use hlc_node::Row;
+use hlc_rows::Row;
 use hlc_values::NoMemory;
 use std::alloc::Global;
 

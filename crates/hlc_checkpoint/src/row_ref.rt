@@ -1,14 +1,14 @@
 //! The rows of a column, lent in order.
 ghost use Rattle.std.specs.Prelude.{◌≡◌, ◌++◌, ◌<◌, IsTrue, OnOk, Some, length, slice_get, option_copied};
 ghost use Rattle.std.specs.List.Sorted.{IsPermutation};
-ghost use Rattle.hlc_node.specs.Rows.{IsRowSet};
+ghost use Rattle.hlc_rows.specs.Rows.{IsRowSet};
 ghost use Rattle.hlc_column.specs.Rows.{rows_of, rows_in_one};
 ghost use Rattle.hlc_witness.specs.Certificate.{RowsAscend, row_cmp};
 ghost use Rattle.hlc_checkpoint.specs.Lent.{IsListOf};
 
 use hlc_clock::Stamp;
 use hlc_columns::{Keyed, Lanes};
-use hlc_node::Row;
+use hlc_rows::Row;
 use std::alloc::AllocError;
 use std::cmp::Ordering;
 use std::marker::Model;
@@ -24,7 +24,7 @@ pub struct RowRef<'a> {
 
 impl<'a> Model for RowRef<'a> {
     ghost use Rattle.std.specs.Prelude.{option_copied};
-    ghost use Rattle.hlc_node.specs.declared.row.Row.{Row as ARow};
+    ghost use Rattle.hlc_rows.specs.declared.row.Row.{Row as ARow};
 
     ghost Value = { ARow };
 

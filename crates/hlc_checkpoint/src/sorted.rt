@@ -1,7 +1,7 @@
 //! The stored rows up to a stamp, or above it, in the order in which certificates list them.
 ghost use Rattle.std.specs.Prelude.{◌≡◌, ◌++◌, IfOk, OnOk};
 ghost use Rattle.std.specs.List.Sorted.{IsPermutation};
-ghost use Rattle.hlc_node.specs.Rows.{IsRowSet};
+ghost use Rattle.hlc_rows.specs.Rows.{IsRowSet};
 ghost use Rattle.hlc_witness.specs.Certificate.{RowsAscend};
 ghost use Rattle.hlc_column.specs.Rows.{rows_of, rows_in};
 ghost use Rattle.hlc_columns.specs.Table.{columns_in};
@@ -9,7 +9,7 @@ ghost use Rattle.hlc_checkpoint.specs.Sorted.{AreRowsTo, AreRowsAbove, is_on, ro
 
 use hlc_clock::Stamp;
 use hlc_columns::{Columns, Lanes, Table};
-use hlc_node::Row;
+use hlc_rows::Row;
 use hlc_values::NoMemory;
 use hlc_witness::row_order;
 use std::alloc::Global;

@@ -12,7 +12,7 @@ use crate::checkpoint::Checkpoint;
 use hlc_clock::Stamp;
 use hlc_columns::{Columns, Keyed, Table};
 use hlc_intake::Intake;
-use hlc_node::Row;
+use hlc_rows::Row;
 use hlc_snapshot::{Registry, Snapshot};
 use hlc_values::NoMemory;
 use std::alloc::Global;

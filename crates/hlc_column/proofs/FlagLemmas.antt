@@ -5,8 +5,8 @@ use Rattle.std.proofs.Common.{◌≡◌, Bool, true, false, List, [], ◌∷◌,
 use Rattle.std.proofs.Common.{arith, cond, Contains, filter, map, take, drop}
 use Rattle.std.specs.List.{items_where_true}
 use Rattle.hlc_values.proofs.MemberLemmas.{Contains-rest, Contains-cons_cases, Contains-from_filter}
-use Rattle.hlc_node.specs.declared.row.Row.{Row}
-use Rattle.hlc_node.specs.Rows.{IsRowSet}
+use Rattle.hlc_rows.specs.declared.row.Row.{Row}
+use Rattle.hlc_rows.specs.Rows.{IsRowSet}
 
 pub flagged-none : {X : Type 0} (flags : List Bool) → items_where_true {X = X} flags [] ≡ []
 flagged-none [] = refl

@@ -3,7 +3,7 @@ use Rattle.std.proofs.Common.{◌≡◌, ℕ, ◌<◌, ◌≤◌, List, Option, 
 use Rattle.std.proofs.Common.{get_or, refl, sym, subst, arith}
 use Rattle.std.specs.Prelude.{IfSome}
 use Rattle.std.proofs.lemmas.List.{get_or_default}
-use Rattle.hlc_node.specs.Rows.{newest}
+use Rattle.hlc_rows.specs.Rows.{newest}
 use Rattle.hlc_order.specs.Newest.{IsNewestBelow}
 use Rattle.hlc_column.specs.Cells.{Cell, cells_of, AreBeside}
 use Rattle.hlc_column.specs.Rows.{rows_of, at_place}

@@ -1,7 +1,7 @@
 //! The rows of one key, the first four in place.
 ghost use Rattle.std.specs.Prelude.{◌≡◌, ◌<◌, ◌++◌, ◌∷◌, [], ℕ, List, length, option_copied, IsOk};
 ghost use Rattle.std.specs.Prelude.{OnOk, OnErr, IfErr, IfSome};
-ghost use Rattle.hlc_node.specs.Rows.{newest, answer};
+ghost use Rattle.hlc_rows.specs.Rows.{newest, answer};
 ghost use Rattle.std.specs.List.{items_where_true};
 ghost use Rattle.hlc_column.specs.Rows.{rows_of, at_place};
 
@@ -10,7 +10,7 @@ use crate::lists::Lists;
 use crate::single::Single;
 use hlc_clock::Stamp;
 use hlc_flags::Flags;
-use hlc_node::Bytes;
+use hlc_rows::Bytes;
 use std::alloc::{AllocFailed, Global};
 use std::marker::Model;
 

@@ -7,7 +7,7 @@ use crate::lanes::{Lanes, item_at};
 use crate::lists::Lists;
 use crate::single::Single;
 use hlc_flags::Flags;
-use hlc_node::ValueOrMark;
+use hlc_rows::ValueOrMark;
 use std::marker::Model;
 use std::mem::replace;
 

@@ -1,14 +1,14 @@
 //! The rows of one key, lent.
 ghost use Rattle.std.specs.Prelude.{◌≡◌, ◌≤◌, ◌<◌, ℕ, List, length, option_copied, slice_get, Some, None};
 ghost use Rattle.std.specs.Prelude.{IfOk, IfSome, map, filter, nat_le, sum_by};
-ghost use Rattle.hlc_node.specs.Rows.{newest, answer};
+ghost use Rattle.hlc_rows.specs.Rows.{newest, answer};
 ghost use Rattle.hlc_column.specs.Cells.{Cell, value_bytes, cell_bytes, AreBeside, cells_of};
 ghost use Rattle.hlc_order.specs.Order.{IsIndex};
 ghost use Rattle.hlc_column.specs.Rows.{rows_of, at_place};
 
 use hlc_clock::Stamp;
 use hlc_lanes::count_at;
-use hlc_node::{Bytes, Row, ValueOrMark};
+use hlc_rows::{Bytes, Row, ValueOrMark};
 use hlc_order::{count_from, count_indexed, newest_from, newest_of_first};
 use hlc_sizes::length_of;
 use hlc_values::NoMemory;

@@ -12,7 +12,7 @@ mod versions;
 
 pub use column::Column;
 pub use hlc_clock::Stamp;
-pub use hlc_node::{Bytes, Row};
+pub use hlc_rows::{Bytes, Row};
 pub use hlc_values::NoMemory;
 pub use lanes::{Lanes, copy_of};
 pub use rows::Rows;

@@ -8,7 +8,7 @@ use crate::flags::keep_flagged;
 use crate::lanes::{Lanes, item_at};
 use crate::single::Single;
 use hlc_flags::Flags;
-use hlc_node::ValueOrMark;
+use hlc_rows::ValueOrMark;
 use hlc_order::{extend_index, index_again};
 use hlc_values::NoMemory;
 use smallvec::SmallVec;

@@ -2,7 +2,7 @@
 ghost use Rattle.std.specs.Prelude.{◌≡◌, ◌≤◌, ◌++◌, ◌∷◌, [], ℕ, List, length, true, IfOk, IfErr, OnOk, OnErr};
 ghost use Rattle.std.specs.Prelude.{option_copied};
 ghost use Rattle.std.specs.List.{items_where_true};
-ghost use Rattle.hlc_node.specs.Rows.{answer};
+ghost use Rattle.hlc_rows.specs.Rows.{answer};
 ghost use Rattle.hlc_column.specs.Forms.{cells_in_form, has_room};
 ghost use Rattle.hlc_column.specs.Rows.{rows_of};
 
@@ -12,7 +12,7 @@ use crate::lists::Lists;
 use crate::single::Single;
 use hlc_clock::Stamp;
 use hlc_flags::Flags;
-use hlc_node::{Bytes, ValueOrMark};
+use hlc_rows::{Bytes, ValueOrMark};
 use hlc_values::NoMemory;
 use std::alloc::{AllocFailed, Global};
 use std::marker::Model;

@@ -2,7 +2,7 @@
 ghost use Rattle.std.specs.Prelude.{◌≡◌};
 
 use hlc_clock::Stamp;
-use hlc_node::{Bytes, ValueOrMark};
+use hlc_rows::{Bytes, ValueOrMark};
 use std::marker::Model;
 
 /// One row without its key. In contracts it is its cell.

@@ -9,9 +9,9 @@ use Rattle.std.proofs.lemmas.List.{append_assoc, reverse-append}
 use Rattle.std.proofs.lemmas.List.Elements.{Contains-append_cases, Contains-append_left, Contains-append_right}
 use Rattle.hlc_values.proofs.MemberLemmas.{Contains-none, Contains-first, Contains-rest, Contains-cons_cases}
 use Rattle.hlc_values.proofs.MemberLemmas.{Contains-map}
-use Rattle.hlc_node.specs.declared.row.Row.{Row}
-use Rattle.hlc_node.specs.Rows.{newest, answer}
-use Rattle.hlc_node.proofs.NewestLemmas.{newest_is_greatest}
+use Rattle.hlc_rows.specs.declared.row.Row.{Row}
+use Rattle.hlc_rows.specs.Rows.{newest, answer}
+use Rattle.hlc_rows.proofs.NewestLemmas.{newest_is_greatest}
 use Rattle.hlc_index.specs.Entries.{key_cmp}
 use Rattle.hlc_column.specs.Rows.{rows_of}
 use Rattle.hlc_columns.specs.Table.{table_rows}

@@ -15,9 +15,9 @@ use Rattle.std.proofs.lemmas.Option.{none-some}
 use Rattle.std.proofs.lemmas.List.{append-nil, length-map}
 use Rattle.std.proofs.lemmas.List.Elements.{filter-append, Contains-append_cases}
 use Rattle.std.proofs.lemmas.Slice.Eq.{bytes_eq-Decides}
-use Rattle.hlc_node.specs.declared.row.Row.{Row}
-use Rattle.hlc_node.specs.Rows.{newest, answer}
-use Rattle.hlc_node.proofs.NewestLemmas.{newest_after_others, newest_before_others}
+use Rattle.hlc_rows.specs.declared.row.Row.{Row}
+use Rattle.hlc_rows.specs.Rows.{newest, answer}
+use Rattle.hlc_rows.proofs.NewestLemmas.{newest_after_others, newest_before_others}
 use Rattle.hlc_column.proofs.FirstLemmas.{newest_nil}
 use Rattle.hlc_column.proofs.RowLemmas.{row_key}
 use Rattle.hlc_column.specs.Cells.{Cell}

@@ -13,8 +13,8 @@ use Rattle.std.proofs.lemmas.Bool.{cases_Bool}
 use Rattle.std.proofs.lemmas.Option.{none-some, same_Some}
 use Rattle.std.proofs.lemmas.List.{append_assoc, map-append}
 use Rattle.std.proofs.lemmas.List.Elements.{All-from_recursion, recursion_from_All}
-use Rattle.hlc_node.specs.declared.row.Row.{Row}
-use Rattle.hlc_node.specs.Rows.{IsRowSet}
+use Rattle.hlc_rows.specs.declared.row.Row.{Row}
+use Rattle.hlc_rows.specs.Rows.{IsRowSet}
 use Rattle.hlc_column.specs.Cells.{Cell}
 use Rattle.hlc_column.specs.Rows.{row_of, rows_of}
 use Rattle.std.specs.List.Sorted.{IsPermutation}

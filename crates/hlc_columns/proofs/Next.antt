@@ -12,7 +12,7 @@ use Rattle.std.proofs.lemmas.Bool.{cases_Bool, ltb-true}
 use Rattle.std.proofs.lemmas.List.{append-nil, take-append-drop, length-map}
 use Rattle.std.proofs.lemmas.List.Elements.{All-from_recursion, All-nil, All-cons}
 use Rattle.std.proofs.lemmas.List.Elements.{filter-append, All-map, All-take, All-tail, All-weaker}
-use Rattle.hlc_node.specs.declared.row.Row.{Row}
+use Rattle.hlc_rows.specs.declared.row.Row.{Row}
 use Rattle.hlc_index.specs.Entries.{keys_in, key_cmp}
 use Rattle.hlc_index.proofs.SlotLemmas.{itself}
 use Rattle.hlc_column.specs.Cells.{Cell}

@@ -4,7 +4,7 @@ use Rattle.std.proofs.Common.{ap, sym, refl, take, map, filter, leb, Bor}
 use Rattle.std.proofs.lemmas.List.{append_assoc, map_push, length-append, take_all}
 use Rattle.std.proofs.lemmas.List.Concat.{flat_map-append}
 use Rattle.std.proofs.lemmas.List.Elements.{filter-append}
-use Rattle.hlc_node.specs.declared.row.Row.{Row}
+use Rattle.hlc_rows.specs.declared.row.Row.{Row}
 use Rattle.hlc_index.specs.Entries.{entries_in, entries_from, keys_in}
 use Rattle.hlc_column.specs.Cells.{Cell}
 use Rattle.hlc_column.specs.Rows.{KeyCells, rows_of}

@@ -1,5 +1,5 @@
 -- The row that a new one becomes.
-use Rattle.hlc_node.specs.declared.row.Row.{Row}
+use Rattle.hlc_rows.specs.declared.row.Row.{Row}
 use Rattle.hlc_columns.specs.declared.putting.NewRow.{NewRow}
 
 abbrev pub new_row : NewRow → Row

@@ -12,7 +12,7 @@ ghost use Rattle.hlc_columns.specs.Answers.{entries_left, entries_left_back, lea
 use crate::key_rows::KeyRows;
 use hlc_clock::Stamp;
 use hlc_index::Index;
-use hlc_node::Bytes;
+use hlc_rows::Bytes;
 use std::marker::Model;
 
 /// This many columns are fetched from memory together.

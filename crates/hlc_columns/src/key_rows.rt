@@ -1,14 +1,14 @@
 //! The rows of one key as the index stores them.
 ghost use Rattle.std.specs.Prelude.{◌≡◌, ◌≤◌, ◌++◌, ◌∷◌, [], ℕ, List, length, nat_lt, option_copied, OnOk, OnErr};
 ghost use Rattle.std.specs.List.{items_where_true};
-ghost use Rattle.hlc_node.specs.Rows.{answer};
+ghost use Rattle.hlc_rows.specs.Rows.{answer};
 ghost use Rattle.hlc_column.specs.Rows.{rows_of};
 
 use hlc_clock::Stamp;
 use hlc_column::{Lanes, Rows};
 use hlc_flags::Flags;
 use hlc_index::Filled;
-use hlc_node::Bytes;
+use hlc_rows::Bytes;
 use hlc_values::NoMemory;
 use std::alloc::Global;
 use std::marker::Model;

@@ -7,7 +7,7 @@ ghost use Rattle.hlc_columns.specs.Table.{keyed};
 use crate::key_rows::KeyRows;
 use crate::keyed::Keyed;
 use hlc_index::Index;
-use hlc_node::Bytes;
+use hlc_rows::Bytes;
 use hlc_values::NoMemory;
 use std::alloc::Global;
 use std::marker::Model;

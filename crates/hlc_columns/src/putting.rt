@@ -11,7 +11,7 @@ ghost use Rattle.hlc_columns.specs.Sizes.{sizes_of, with_row, with_key, Fit};
 use crate::key_rows::KeyRows;
 use hlc_clock::Stamp;
 use hlc_index::Index;
-use hlc_node::{Bytes, value_slice};
+use hlc_rows::{Bytes, value_slice};
 use hlc_sizes::{Sizes, length_of};
 use hlc_values::NoMemory;
 use std::alloc::Global;

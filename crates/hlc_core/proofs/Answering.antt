@@ -4,8 +4,8 @@ use Rattle.std.proofs.Common.{Some, ap, sym, ◌∙◌}
 use Rattle.std.specs.Prelude.{Contains}
 use Rattle.std.proofs.lemmas.List.Elements.{All-weaker, All-contains_itself}
 use Rattle.hlc_values.proofs.MemberLemmas.{Contains-map}
-use Rattle.hlc_node.specs.declared.row.Row.{Row}
-use Rattle.hlc_node.specs.Rows.{answer}
+use Rattle.hlc_rows.specs.declared.row.Row.{Row}
+use Rattle.hlc_rows.specs.Rows.{answer}
 use Rattle.hlc_core.specs.Past.{Step}
 use Rattle.hlc_core.specs.Past.{writes, open_snapshots}
 use Rattle.hlc_core.specs.StoreView.{StoreView, Represents}

@@ -3,8 +3,8 @@
 -- its bytes; and a core that represents a vacuum was left with the fewest rows.
 use Rattle.std.proofs.Common.{◌≡◌, ℕ, ◌≤◌, List, [], ◌∷◌, ◌++◌, length, Option, Some, None, refl, ap, sym, ◌∙◌, subst}
 use Rattle.std.proofs.Common.{arith}
-use Rattle.hlc_node.specs.declared.row.Row.{Row}
-use Rattle.hlc_node.specs.Rows.{answer}
+use Rattle.hlc_rows.specs.declared.row.Row.{Row}
+use Rattle.hlc_rows.specs.Rows.{answer}
 use Rattle.hlc_witness.specs.Cost.{changes_cost, rows_cost}
 use Rattle.hlc_witness.proofs.ChangeLemmas.{changes_force_rows}
 use Rattle.hlc_witness.proofs.CostLemmas.{changes_force_bytes}

@@ -6,10 +6,10 @@ use Rattle.std.proofs.Common.{cond, ◌≤◌, Some, subst, arith}
 use Rattle.std.specs.Prelude.{◌≢◌, if◌then◌else◌, option_and_then, not}
 use Rattle.std.proofs.lemmas.Bool.{cond-false, both_ways}
 use Rattle.hlc_values.proofs.MemberLemmas.{Contains-filter, Contains-from_filter}
-use Rattle.hlc_node.specs.declared.row.Row.{Row}
-use Rattle.hlc_node.specs.Rows.{is_candidate, later, newest, answer, IsRowSet}
-use Rattle.hlc_node.proofs.CandidateLemmas.{other-misses}
-use Rattle.hlc_node.proofs.NewestLemmas.{answer_none}
+use Rattle.hlc_rows.specs.declared.row.Row.{Row}
+use Rattle.hlc_rows.specs.Rows.{is_candidate, later, newest, answer, IsRowSet}
+use Rattle.hlc_rows.proofs.CandidateLemmas.{other-misses}
+use Rattle.hlc_rows.proofs.NewestLemmas.{answer_none}
 use Rattle.hlc_column.proofs.FlagLemmas.{filter-IsRowSet}
 use Rattle.hlc_vacuum.specs.Representing.{RowsRepresent}
 use Rattle.hlc_core.specs.Parts.{rows_of_keys}

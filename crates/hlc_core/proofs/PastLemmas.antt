@@ -8,16 +8,16 @@ use Rattle.std.proofs.lemmas.Bool.{cond-true, cond-false, le-leb, lt-leb, lt-ltb
 use Rattle.std.proofs.lemmas.Bool.{cases_eq}
 use Rattle.std.proofs.lemmas.List.Elements.{Contains-append_cases, All-nil, All-weaker, All-push, All-filter}
 use Rattle.hlc_values.proofs.MemberLemmas.{Contains-none, Contains-first, Contains-rest, Contains-cons_cases}
-use Rattle.hlc_node.specs.declared.row.Row.{Row}
+use Rattle.hlc_rows.specs.declared.row.Row.{Row}
 use Rattle.hlc_node.specs.declared.item.Item.{Item}
 use Rattle.hlc_node.specs.declared.item.Body.{Body}
 use Rattle.hlc_node.specs.declared.item.Body.TheVariants.{Write, Report, Retire}
 use Rattle.hlc_intake.specs.declared.intake.LinkFault.TheVariants.{NotNext, NumbersSpent, StampNotRising}
 use Rattle.hlc_events.specs.declared.fault.CoreFault.TheVariants.{NoNode, Link, AboveFloor, BelowHorizon}
 use Rattle.hlc_events.specs.declared.fault.CoreFault.TheVariants.{Body as bad_body}
-use Rattle.hlc_node.specs.declared.item.BodyFault.{BodyFault}
+use Rattle.hlc_rows.specs.declared.limits.BodyFault.{BodyFault}
 use Rattle.hlc_node.specs.Items.{body_refusal, retires}
-use Rattle.hlc_node.specs.Rows.{IsSameVersion, IsRowSet}
+use Rattle.hlc_rows.specs.Rows.{IsSameVersion, IsRowSet}
 use Rattle.hlc_heads.specs.Low.{low}
 use Rattle.hlc_heads.proofs.LowLemmas.{low-is, low-rises, low-joins, low-stays}
 use Rattle.hlc_witness.specs.Cost.{IsInLimits, AreInLimits}

@@ -6,10 +6,10 @@ use Rattle.std.specs.Prelude.{◌==◌, if◌then◌else◌, Option, Some, nat_l
 use Rattle.std.proofs.lemmas.Bool.{cond-true, cond-false, eq-eqb, ne_eqb, cases_eq}
 use Rattle.std.proofs.lemmas.List.Elements.{Contains-append_left, Contains-append_right, Contains-append_cases}
 use Rattle.hlc_values.proofs.MemberLemmas.{Contains-first, Contains-rest, Contains-cons_cases, Contains-none}
-use Rattle.hlc_node.specs.declared.row.Row.{Row}
+use Rattle.hlc_rows.specs.declared.row.Row.{Row}
 use Rattle.hlc_node.specs.declared.item.Item.{Item}
 use Rattle.hlc_node.specs.Items.{retires}
-use Rattle.hlc_node.specs.Rows.{answer}
+use Rattle.hlc_rows.specs.Rows.{answer}
 use Rattle.hlc_heads.specs.Low.{least_left, or_else, low}
 use Rattle.hlc_snapshot.specs.RegistryView.{stamps}
 use Rattle.hlc_draft.proofs.PartLemmas.{same_rows}

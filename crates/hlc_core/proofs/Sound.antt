@@ -7,7 +7,7 @@ use Rattle.std.specs.Prelude.{Contains, slice_set}
 use Rattle.std.proofs.lemmas.List.{length-replicate}
 use Rattle.std.proofs.lemmas.List.Elements.{All-nil, All-weaker, All-contains, All-contains_itself, All-set, All-push}
 use Rattle.std.proofs.lemmas.List.Sorted.{All-permutation}
-use Rattle.hlc_node.specs.declared.row.Row.{Row}
+use Rattle.hlc_rows.specs.declared.row.Row.{Row}
 use Rattle.hlc_node.specs.declared.item.Body.{Body}
 use Rattle.hlc_node.specs.Items.{body_refusal}
 use Rattle.hlc_intake.specs.IntakeView.{IntakeView}

@@ -4,12 +4,12 @@ use Rattle.std.proofs.Common.{None, ap, sym, ◌∙◌}
 use Rattle.std.proofs.Common.{arith, length-set}
 use Rattle.std.specs.Prelude.{slice_set}
 use Rattle.std.proofs.lemmas.List.{append-nil, length_push}
-use Rattle.hlc_node.specs.declared.row.Row.{Row}
+use Rattle.hlc_rows.specs.declared.row.Row.{Row}
 use Rattle.hlc_node.specs.declared.item.Item.{Item}
 use Rattle.hlc_node.specs.declared.item.Body.{Body}
 use Rattle.hlc_node.specs.declared.item.Body.TheVariants.{Write, Report, Retire}
 use Rattle.hlc_node.specs.Items.{retires}
-use Rattle.hlc_node.specs.Rows.{IsRowSet}
+use Rattle.hlc_rows.specs.Rows.{IsRowSet}
 use Rattle.hlc_intake.specs.IntakeView.{IntakeView}
 use Rattle.hlc_core.specs.Past.{Step, Took, numbered, count, head, retired, horizon, vacuumed, trimmed}
 use Rattle.hlc_core.specs.Past.{opened, writes, body_rows, open_snapshots, item_refusal}

@@ -5,8 +5,8 @@ use Rattle.std.specs.List.Sorted.{IsPermutation}
 use Rattle.std.proofs.lemmas.List.Elements.{All-filter}
 use Rattle.hlc_clock.specs.Points.{ArePoints, PointsAscend}
 use Rattle.hlc_clock.proofs.PointLemmas.{points-ascend, points-last}
-use Rattle.hlc_node.specs.declared.row.Row.{Row}
-use Rattle.hlc_node.specs.Rows.{IsRowSet}
+use Rattle.hlc_rows.specs.declared.row.Row.{Row}
+use Rattle.hlc_rows.specs.Rows.{IsRowSet}
 use Rattle.hlc_column.proofs.FlagLemmas.{filter-IsRowSet}
 use Rattle.hlc_snapshot.specs.RegistryView.{stamps, stamps_to}
 use Rattle.hlc_witness.specs.Fewest.{Fewest}

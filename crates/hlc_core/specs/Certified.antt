@@ -1,7 +1,7 @@
 -- The certificate of the stored rows at or below a stamp: what a vacuum to it would show that drops none of them.
 use Rattle.std.specs.Prelude.{◌≡◌, ℕ, ◌<◌, List, length, None, Result, Ok, Err, ⊤}
-use Rattle.hlc_node.specs.declared.row.Row.{Row}
-use Rattle.hlc_node.specs.Rows.{IsRowSet}
+use Rattle.hlc_rows.specs.declared.row.Row.{Row}
+use Rattle.hlc_rows.specs.Rows.{IsRowSet}
 use Rattle.hlc_witness.specs.Fewest.{Alike}
 use Rattle.hlc_draft.specs.Vacuumed.{rows_to}
 use Rattle.hlc_draft.specs.declared.report.Report.{Report}

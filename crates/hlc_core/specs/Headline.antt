@@ -2,8 +2,8 @@
 -- accepted before it, whatever vacuums dropped.
 use Rattle.std.specs.Prelude.{◌≡◌, ℕ, ◌≤◌, List, ◌∷◌, ◌++◌, length, Option, Some, None}
 use Rattle.hlc_columns.specs.Answers.{in_part}
-use Rattle.hlc_node.specs.declared.row.Row.{Row}
-use Rattle.hlc_node.specs.Rows.{answer, IsRowSet}
+use Rattle.hlc_rows.specs.declared.row.Row.{Row}
+use Rattle.hlc_rows.specs.Rows.{answer, IsRowSet}
 use Rattle.hlc_witness.specs.Fewest.{Alike}
 use Rattle.hlc_witness.specs.Cost.{rows_cost}
 use Rattle.hlc_draft.specs.declared.report.Report.{Report}

@@ -1,8 +1,8 @@
 -- What a store is expected to return: the reply to an event after what took place, and the histories in which each
 -- event got the expected reply.
 use Rattle.std.specs.Prelude.{◌≡◌, ◌≢◌, ℕ, ◌+◌, List, [], ◌∷◌, Option, Some, None, Result, Ok, Err, ⊤}
-use Rattle.hlc_node.specs.declared.row.Row.{Row}
-use Rattle.hlc_node.specs.Rows.{answer}
+use Rattle.hlc_rows.specs.declared.row.Row.{Row}
+use Rattle.hlc_rows.specs.Rows.{answer}
 use Rattle.hlc_columns.specs.Answers.{in_part}
 use Rattle.hlc_node.specs.Items.{retires}
 use Rattle.hlc_events.specs.declared.fault.CoreFault.{CoreFault}

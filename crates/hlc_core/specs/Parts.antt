@@ -1,7 +1,7 @@
 -- Part of a vacuum: rows of the keys of one kind are dropped, and all other rows stay.
 use Rattle.std.specs.Prelude.{◌≡◌, ℕ, ◌+◌, List, ◌∷◌, length, filter, Bool, not, Option, None, Result, Ok}
 use Rattle.std.specs.Prelude.{Err, ⊤}
-use Rattle.hlc_node.specs.declared.row.Row.{Row}
+use Rattle.hlc_rows.specs.declared.row.Row.{Row}
 use Rattle.hlc_witness.specs.Changes.{AreChanges}
 use Rattle.hlc_witness.specs.Cost.{changes_cost}
 use Rattle.hlc_draft.specs.declared.report.Numbers.{Numbers}

@@ -1,8 +1,8 @@
 -- The accepted writes that vacuums keep, and their reports.
 use Rattle.std.specs.Prelude.{◌≡◌, ℕ, ◌+◌, List, [], ◌∷◌, length}
 use Rattle.std.specs.List.Sorted.{IsPermutation}
-use Rattle.hlc_node.specs.declared.row.Row.{Row}
-use Rattle.hlc_node.specs.Rows.{IsRowSet}
+use Rattle.hlc_rows.specs.declared.row.Row.{Row}
+use Rattle.hlc_rows.specs.Rows.{IsRowSet}
 use Rattle.hlc_snapshot.specs.RegistryView.{stamps_to}
 use Rattle.hlc_clock.specs.Points.{ArePoints}
 use Rattle.hlc_witness.specs.declared.witness.Witness.{Witness}

@@ -1,6 +1,6 @@
 -- The store as an open snapshot sees it.
 use Rattle.std.specs.Prelude.{◌≡◌, ℕ, List, Option, Some, None}
-use Rattle.hlc_node.specs.Rows.{answer}
+use Rattle.hlc_rows.specs.Rows.{answer}
 use Rattle.hlc_columns.specs.View.{Seen}
 use Rattle.hlc_core.specs.Past.{Step, stamp_of, writes}
 

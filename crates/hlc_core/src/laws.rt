@@ -1,7 +1,7 @@
 //! What is true of every legal past, and of cores that represent one.
 ghost use Rattle.std.specs.Prelude.{◌≡◌, ◌≢◌, ◌+◌, ◌<◌, ◌≤◌, ◌⊎◌, true, false, ℕ, List, ◌∷◌, None, All, length};
 ghost use Rattle.std.specs.Prelude.{◌++◌, Some};
-ghost use Rattle.hlc_node.specs.Rows.{IsRowSet, answer};
+ghost use Rattle.hlc_rows.specs.Rows.{IsRowSet, answer};
 ghost use Rattle.hlc_core.specs.Past.{Step, Took, Joined, IsLegal, numbered, retired, top, writes, head};
 ghost use Rattle.hlc_core.specs.Past.{floor, open_snapshots, item_refusal, join_refusal, join_at_refusal};
 ghost use Rattle.hlc_core.specs.Past.{greatest_accepted, stamp_of};
@@ -19,7 +19,7 @@ ghost use Rattle.hlc_events.specs.declared.event.CoreEvent.{CoreEvent as AnEvent
 ghost use Rattle.hlc_core.specs.declared.reply.CoreReply.{CoreReply as AReply};
 ghost use Rattle.hlc_core.specs.declared.listing.Pair.{Pair as APair};
 ghost use Rattle.hlc_node.specs.declared.item.Item.{Item as AnItem};
-ghost use Rattle.hlc_node.specs.declared.row.Row.{Row as ARow};
+ghost use Rattle.hlc_rows.specs.declared.row.Row.{Row as ARow};
 
 /// No two accepted writes are alike in key, stamp and node, so a read has one answer.
 pub fn accepted_writes_are_a_row_set()

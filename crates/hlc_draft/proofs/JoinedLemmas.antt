@@ -10,8 +10,8 @@ use Rattle.std.proofs.lemmas.Cmp.{nat_list_cmp_total, tied_itself}
 use Rattle.std.proofs.lemmas.List.{append-nil, length-append, take_more, map-append, take-append-drop}
 use Rattle.std.proofs.lemmas.List.Elements.{Contains-append_cases, Contains-append_right}
 use Rattle.std.proofs.lemmas.Grind.{flat_map-append}
-use Rattle.hlc_node.specs.declared.row.Row.{Row}
-use Rattle.hlc_node.specs.Rows.{newest, IsRowSet}
+use Rattle.hlc_rows.specs.declared.row.Row.{Row}
+use Rattle.hlc_rows.specs.Rows.{newest, IsRowSet}
 use Rattle.hlc_witness.specs.declared.witness.Witness.{Witness}
 use Rattle.hlc_clock.specs.Points.{last_point, PointsAscend}
 use Rattle.hlc_witness.specs.Changes.{AreChanges}
@@ -23,7 +23,7 @@ use Rattle.hlc_draft.specs.Draft.{IsDraft}
 use Rattle.hlc_draft.specs.declared.draft.Draft.{Draft}
 use Rattle.hlc_draft.specs.KeyPlan.{IsKeyPlan, IsKeyVacuum, IsJoined, IsDraftOf, AddsPlan, own_changes}
 use Rattle.hlc_column.proofs.RowLemmas.{row_key, key_among}
-use Rattle.hlc_node.proofs.NewestLemmas.{newest_after_others, newest_before_others}
+use Rattle.hlc_rows.proofs.NewestLemmas.{newest_after_others, newest_before_others}
 use Rattle.hlc_witness.proofs.ChangeLemmas.{changes_are_found_key_by_key}
 use Rattle.hlc_draft.specs.Plan.{IsPlanOf, IsTallyOf}
 use Rattle.hlc_draft.proofs.VacuumLemmas.{newest_rows_suffice, vacuums_cost_changes}

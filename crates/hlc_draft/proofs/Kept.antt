@@ -12,9 +12,9 @@ use Rattle.std.proofs.lemmas.Slice.Eq.{bytes_eq-Decides}
 use Rattle.hlc_values.proofs.MemberLemmas.{Contains-from_filter}
 use Rattle.hlc_values.proofs.PigeonLemmas.{served, sum_by_one}
 use Rattle.hlc_clock.specs.Points.{IsPointBefore, PointsAscend, last_point}
-use Rattle.hlc_node.specs.Rows.{IsSameVersion, newest, answer}
-use Rattle.hlc_node.specs.declared.row.Row.{Row}
-use Rattle.hlc_node.proofs.NewestLemmas.{newest_is_greatest, no_later_stamp, answer_none, answer_some, answer_stays}
+use Rattle.hlc_rows.specs.Rows.{IsSameVersion, newest, answer}
+use Rattle.hlc_rows.specs.declared.row.Row.{Row}
+use Rattle.hlc_rows.proofs.NewestLemmas.{newest_is_greatest, no_later_stamp, answer_none, answer_some, answer_stays}
 use Rattle.hlc_witness.specs.Changes.{AreChanges, IsChange, answer_at}
 use Rattle.hlc_witness.specs.Fewest.{Alike}
 use Rattle.hlc_draft.specs.Vacuumed.{rows_to, KeepsNewest}

@@ -7,10 +7,10 @@ use Rattle.std.proofs.lemmas.List.Elements.{Contains-push_cases, Contains-append
 use Rattle.hlc_values.proofs.MemberLemmas.{Contains-filter, Contains-from_filter, Contains-none, Contains-cons_cases}
 use Rattle.hlc_values.proofs.MemberLemmas.{Contains-first, Contains-rest}
 use Rattle.hlc_values.proofs.PigeonLemmas.{AreApart}
-use Rattle.hlc_node.specs.Rows.{IsRowSet, IsSameVersion, newest, answer, IsNewest}
-use Rattle.hlc_node.specs.declared.row.Row.{Row}
-use Rattle.hlc_node.proofs.NewestLemmas.{newest_is_greatest, no_newest_no_row, newest_is_unique, no_later_stamp}
-use Rattle.hlc_node.proofs.NewestLemmas.{answer_none, answer_some, answer_stays}
+use Rattle.hlc_rows.specs.Rows.{IsRowSet, IsSameVersion, newest, answer, IsNewest}
+use Rattle.hlc_rows.specs.declared.row.Row.{Row}
+use Rattle.hlc_rows.proofs.NewestLemmas.{newest_is_greatest, no_newest_no_row, newest_is_unique, no_later_stamp}
+use Rattle.hlc_rows.proofs.NewestLemmas.{answer_none, answer_some, answer_stays}
 use Rattle.hlc_column.proofs.FlagLemmas.{filter-IsRowSet}
 use Rattle.hlc_draft.specs.Vacuumed.{rows_to}
 

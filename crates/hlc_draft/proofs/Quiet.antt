@@ -6,9 +6,9 @@ use Rattle.std.proofs.lemmas.Option.{none-some, same_Some, slice_get-get_or}
 use Rattle.std.proofs.lemmas.List.{length-drop, get_or-drop, get_or_default}
 use Rattle.std.proofs.lemmas.List.Elements.{All-get_or, Contains-get_or}
 use Rattle.hlc_clock.specs.Points.{PointsAscend, last_point}
-use Rattle.hlc_node.specs.declared.row.Row.{Row}
-use Rattle.hlc_node.specs.Rows.{newest, answer}
-use Rattle.hlc_node.proofs.NewestLemmas.{newest_is_greatest, answer_none, answer_stays}
+use Rattle.hlc_rows.specs.declared.row.Row.{Row}
+use Rattle.hlc_rows.specs.Rows.{newest, answer}
+use Rattle.hlc_rows.proofs.NewestLemmas.{newest_is_greatest, answer_none, answer_stays}
 use Rattle.hlc_column.specs.Cells.{Cell}
 use Rattle.hlc_column.specs.Rows.{row_of, rows_of}
 use Rattle.hlc_witness.specs.Changes.{answer_at}

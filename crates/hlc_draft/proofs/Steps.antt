@@ -8,8 +8,8 @@ use Rattle.hlc_values.proofs.MemberLemmas.{Contains-none, Contains-first, Contai
 use Rattle.std.proofs.lemmas.Bool.{cases_Bool}
 use Rattle.std.proofs.lemmas.List.{append-nil, drop_more, drop_all, length-append, map-append}
 use Rattle.std.proofs.lemmas.Option.{none-some}
-use Rattle.hlc_node.specs.declared.row.Row.{Row}
-use Rattle.hlc_node.specs.Rows.{newest, answer}
+use Rattle.hlc_rows.specs.declared.row.Row.{Row}
+use Rattle.hlc_rows.specs.Rows.{newest, answer}
 use Rattle.hlc_witness.specs.declared.witness.Witness.{Witness}
 use Rattle.hlc_witness.specs.Changes.{answer_at}
 use Rattle.hlc_clock.specs.Points.{last_point}

@@ -3,7 +3,7 @@
 -- changes.
 use Rattle.std.proofs.Common.{◌∙◌, arith, ◌≡◌, ℕ, List}
 use Rattle.hlc_clock.specs.Points.{PointsAscend, last_point}
-use Rattle.hlc_node.specs.declared.row.Row.{Row}
+use Rattle.hlc_rows.specs.declared.row.Row.{Row}
 use Rattle.hlc_witness.specs.Changes.{AreChanges}
 use Rattle.hlc_witness.specs.Cost.{rows_cost, Cheapest, changes_cost}
 use Rattle.hlc_witness.specs.Fewest.{Alike, Fewest}

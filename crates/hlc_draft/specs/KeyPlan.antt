@@ -1,7 +1,7 @@
 -- The meaning of the plan of a key's column, and of the plans of several columns together.
 use Rattle.std.specs.Prelude.{◌≡◌, ◌+◌, ◌++◌, ℕ, Bool, List, None, flat_map, length, map}
 use Rattle.std.specs.List.{items_where_true}
-use Rattle.hlc_node.specs.declared.row.Row.{Row}
+use Rattle.hlc_rows.specs.declared.row.Row.{Row}
 use Rattle.hlc_witness.specs.declared.witness.Witness.{Witness}
 use Rattle.hlc_clock.specs.Points.{last_point}
 use Rattle.hlc_witness.specs.Changes.{AreChanges}

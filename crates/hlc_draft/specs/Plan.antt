@@ -1,7 +1,7 @@
 -- The content of a plan, and the rows that it was made of.
 use Rattle.std.specs.Prelude.{◌≡◌, ℕ, List, Bool, length}
 use Rattle.std.specs.List.{items_where_true}
-use Rattle.hlc_node.specs.declared.row.Row.{Row}
+use Rattle.hlc_rows.specs.declared.row.Row.{Row}
 use Rattle.hlc_clock.specs.Points.{PointsAscend, last_point}
 use Rattle.hlc_draft.specs.Vacuumed.{IsVacuumOf, rows_to}
 use Rattle.hlc_witness.specs.Cost.{rows_cost}

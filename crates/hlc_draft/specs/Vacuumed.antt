@@ -1,7 +1,7 @@
 -- The rows that a vacuum keeps.
 use Rattle.std.specs.Prelude.{◌≡◌, ℕ, ◌<◌, ◌⊎◌, List, Some, length, Contains}
-use Rattle.hlc_node.specs.declared.row.Row.{Row}
-use Rattle.hlc_node.specs.Rows.{newest, IsRowSet}
+use Rattle.hlc_rows.specs.declared.row.Row.{Row}
+use Rattle.hlc_rows.specs.Rows.{newest, IsRowSet}
 use Rattle.hlc_witness.specs.declared.witness.Witness.{Witness}
 use Rattle.hlc_clock.specs.Points.{last_point}
 use Rattle.hlc_witness.specs.Fewest.{Alike}

@@ -5,7 +5,7 @@ ghost use Rattle.std.proofs.Common.{sym, ap, ◌∙◌};
 ghost use Rattle.hlc_witness.specs.declared.witness.Witness.{Witness as AWitness};
 
 use hlc_clock::Stamp;
-use hlc_node::Bytes;
+use hlc_rows::Bytes;
 use hlc_values::NoMemory;
 use hlc_witness::Witness;
 use std::alloc::Global;

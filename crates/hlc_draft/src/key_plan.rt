@@ -1,7 +1,7 @@
 //! The plan of one key: which rows of its column to keep for some points.
 ghost use Rattle.std.specs.Prelude.{◌≡◌, ◌↔◌, ◌<◌, ◌++◌, ◌∷◌, [], ℕ, List, length, map, nat_lt, IfOk, IfSome, IsTrue};
 ghost use Rattle.std.specs.Prelude.{OnOk, MatchOption, option_copied, slice_set, true, false};
-ghost use Rattle.hlc_node.specs.Rows.{IsRowSet};
+ghost use Rattle.hlc_rows.specs.Rows.{IsRowSet};
 ghost use Rattle.hlc_clock.specs.Points.{PointsAscend};
 ghost use Rattle.hlc_column.specs.Rows.{rows_of};
 ghost use Rattle.hlc_draft.specs.KeyPlan.{IsKeyPlan, IsKeyVacuum};

@@ -6,7 +6,7 @@ use Rattle.hlc_heads.specs.Faults.{join_code, join_word, join_text}
 use Rattle.hlc_heads.specs.declared.heads.JoinFault.{JoinFault}
 use Rattle.hlc_heads.specs.declared.heads.JoinFault.TheVariants as join_fault
 use Rattle.hlc_intake.specs.Faults.{link_code, link_word, link_text}
-use Rattle.hlc_node.specs.Faults.{body_code, body_text}
+use Rattle.hlc_rows.specs.Faults.{body_code, body_text}
 use Rattle.hlc_snapshot.specs.Faults.{snapshot_code, snapshot_text}
 use Rattle.hlc_snapshot.specs.declared.fault.SnapshotFault.{SnapshotFault}
 use Rattle.hlc_snapshot.specs.declared.fault.SnapshotFault.TheVariants as snapshot_fault

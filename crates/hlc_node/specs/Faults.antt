@@ -1,20 +1,9 @@
--- The refusals of a node and of an item's body: the number, the word and the text of each.
+-- The refusals of a node: the number, the word and the text of each.
 use Rattle.std.specs.Prelude.{ℕ, List, codes}
 use Rattle.hlc_clock.specs.Faults.{clock_code, clock_word, clock_text}
-use Rattle.hlc_node.specs.declared.item.BodyFault.{BodyFault}
-use Rattle.hlc_node.specs.declared.item.BodyFault.TheVariants.{BadKey, ValueTooLong}
+use Rattle.hlc_rows.specs.Faults.{body_code, body_text}
 use Rattle.hlc_node.specs.declared.node.NodeFault.{NodeFault}
 use Rattle.hlc_node.specs.declared.node.NodeFault.TheVariants.{Retired, Body, NumbersSpent, Clock}
-
--- the number of a refusal of a body
-abbrev pub body_code : BodyFault → ℕ
-body_code BadKey = 12
-body_code ValueTooLong = 13
-
--- its text
-abbrev pub body_text : BodyFault → List ℕ
-body_text BadKey = codes "the key is empty or longer than 255 bytes"
-body_text ValueTooLong = codes "the value is longer than 65,535 bytes"
 
 -- the number of a node's refusal
 abbrev pub node_code : NodeFault → ℕ

@@ -5,7 +5,7 @@ use Rattle.hlc_clock.specs.NextStamp.{expected_stamp}
 use Rattle.hlc_clock.specs.declared.clock.ClockFault.{ClockFault}
 use Rattle.hlc_node.specs.declared.item.Item.{Item}
 use Rattle.hlc_node.specs.declared.item.Body.{Body}
-use Rattle.hlc_node.specs.declared.item.BodyFault.{BodyFault}
+use Rattle.hlc_rows.specs.declared.limits.BodyFault.{BodyFault}
 use Rattle.hlc_node.specs.declared.node.NodeFault.{NodeFault}
 use Rattle.hlc_node.specs.declared.node.NodeFault.TheVariants.{Retired, Body as bad_body, NumbersSpent}
 use Rattle.hlc_node.specs.declared.node.NodeFault.TheVariants.{Clock as no_stamp}

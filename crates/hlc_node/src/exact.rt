@@ -1,31 +1,32 @@
 //! `==` of these types is true exactly on equal values, and each copy is equal.
 ghost use Rattle.std.proofs.Common.{rules};
 ghost use Rattle.std.proofs.lemmas.Grind.{common_steps};
+ghost use Rattle.std.specs.Prelude.{◌≡◌, ◌↔◌, IsTrue, List};
+ghost use Rattle.std.specs.Cmp.Lexicographic.{pointwise_decides};
+ghost use Rattle.hlc_rows.specs.declared.write.Write.{Write as AWrite};
 
-use crate::item::{Body, BodyFault, Item, Message};
+use crate::item::{Body, Item, Message};
 use crate::node::{NodeCore, NodeFault};
-use crate::row::Row;
-use hlc_values::Exact;
+use hlc_rows::Write;
+use hlc_values::{Exact, Listed};
 
 impl Exact for Body {
-    ghost equal = { Prim.search (rules, common_steps) };
+    ghost equal = { let writes : (x y : List AWrite) → IsTrue (⟦<Listed<Write> as PartialEq>⟧.eq x y) ↔ (x ≡ y)
+        = pointwise_decides ⟦<Write as Exact>⟧.equal in
+        Prim.search (rules, common_steps, writes) };
 
     ghost copied = { Prim.search rules };
 }
 
 impl Exact for Item {
-    ghost equal = { Prim.search (rules, common_steps) };
+    ghost equal = { let writes : (x y : List AWrite) → IsTrue (⟦<Listed<Write> as PartialEq>⟧.eq x y) ↔ (x ≡ y)
+        = pointwise_decides ⟦<Write as Exact>⟧.equal in
+        Prim.search (rules, common_steps, writes) };
 
     ghost copied = { Prim.search rules };
 }
 
 impl Exact for Message {
-    ghost equal = { Prim.search (rules, common_steps) };
-
-    ghost copied = { Prim.search rules };
-}
-
-impl Exact for BodyFault {
     ghost equal = { Prim.search (rules, common_steps) };
 
     ghost copied = { Prim.search rules };
@@ -38,12 +39,6 @@ impl Exact for NodeFault {
 }
 
 impl Exact for NodeCore {
-    ghost equal = { Prim.search (rules, common_steps) };
-
-    ghost copied = { Prim.search rules };
-}
-
-impl Exact for Row {
     ghost equal = { Prim.search (rules, common_steps) };
 
     ghost copied = { Prim.search rules };

@@ -1,38 +1,19 @@
 //! Items, which a node sends over its link, and messages to other nodes.
-ghost use Rattle.std.specs.Prelude.{◌≡◌, ◌⊎◌, option_copied};
+ghost use Rattle.std.specs.Prelude.{◌≡◌};
 ghost use Rattle.hlc_node.specs.Items.{body_refusal, retires, IsShort};
-ghost use Rattle.hlc_node.specs.Faults.{body_code};
-ghost use Rattle.hlc_node.specs.declared.item.Body.TheVariants.{Write as a_write, Report, Retire};
-ghost use Rattle.hlc_node.specs.declared.item.TheConstants.{MOST_KEY_BYTES, MOST_VALUE_BYTES};
 
 use crate::item_ref::ItemRef;
-use hlc_bytes::{Bytes, value_slice};
 use hlc_clock::Stamp;
-use hlc_values::NoMemory;
-use std::error::Error;
-use std::fmt;
-
-/// The maximum number of bytes of a key.
-pub const MOST_KEY_BYTES: usize = 255;
-
-/// The maximum number of bytes of a value.
-pub const MOST_VALUE_BYTES: usize = 65_535;
-
-/// A key has at most 255 bytes.
-pub fn most_key_bytes_are_255()
-    ensures { MOST_KEY_BYTES ≡ 255 }
-{}
-
-/// A value has at most 65,535 bytes.
-pub fn most_value_bytes_are_65535()
-    ensures { MOST_VALUE_BYTES ≡ 65535 }
-{}
+use hlc_rows::{BodyFault, Bytes, Write, batch_fault, value_slice, write_fault};
+use hlc_values::{Listed, NoMemory};
 
 /// The content of an item.
 #[derive(PartialEq, Eq, Debug, Drop)]
 pub enum Body {
     /// A new version of a key. No value is a deletion mark.
     Write { key: Bytes, value: Option<Bytes> },
+    /// New versions of 1 to 256 keys, each key once, all at the item's stamp: a snapshot shows all of them or none.
+    Batch(Listed<Write>),
     /// No write: a report of the node's latest stamp.
     Report,
     /// No write: the node's last item.
@@ -61,15 +42,6 @@ pub struct Message {
     pub stamp: Stamp,
 }
 
-/// Why no item may have this body.
-#[derive(Clone, Copy, PartialEq, Eq, Debug)]
-pub enum BodyFault {
-    /// The key has no bytes, or more than 255.
-    BadKey,
-    /// The value has more than 65,535 bytes.
-    ValueTooLong,
-}
-
 impl Clone for Body {
     ghost is_clone = { λ body copy. copy ≡ body };
 
@@ -79,6 +51,7 @@ impl Clone for Body {
         match self {
             Body::Report => Ok(Body::Report),
             Body::Retire => Ok(Body::Retire),
+            Body::Batch(writes) => Ok(Body::Batch(writes.clone()?)),
             Body::Write { key, value } => Ok(Body::Write {
                 key: key.clone()?,
                 value: value.clone()?,
@@ -87,36 +60,8 @@ impl Clone for Body {
     }
 }
 
-impl BodyFault {
-    /// Returns the number of this refusal: 12 or 13.
-    pub fn code(self) -> u32
-        ensures { result ≡ body_code self }
-    {
-        match self {
-            BodyFault::BadKey => 12,
-            BodyFault::ValueTooLong => 13,
-        }
-    }
-}
-
-impl fmt::Display for BodyFault {
-    ghost use Rattle.std.specs.Prelude.{Some};
-    ghost use Rattle.hlc_node.specs.Faults.{body_text};
-
-    ghost output = { λ fault. Some (body_text fault) };
-
-    fn fmt<W: fmt::Write>(&self, f: &mut fmt::Formatter<W>) -> fmt::Result {
-        match self {
-            BodyFault::BadKey => f.write_str("the key is empty or longer than 255 bytes"),
-            BodyFault::ValueTooLong => f.write_str("the value is longer than 65,535 bytes"),
-        }
-    }
-}
-
-impl Error for BodyFault {}
-
 impl Item {
-    /// Returns the item as a reference to the bytes of its own key and value.
+    /// Returns the item as a reference to the bytes of its own keys and values.
     #[inline]
     pub fn as_ref(&self) -> ItemRef<'_>
         ensures { result ≡ self.now }
@@ -135,23 +80,10 @@ impl Item {
                 key.as_slice(),
                 value_slice(value),
             ),
+            Body::Batch(writes) => ItemRef::batch(*node, *number, *stamp, writes.as_slice()),
             Body::Report => ItemRef::report(*node, *number, *stamp),
             Body::Retire => ItemRef::retire(*node, *number, *stamp),
         }
-    }
-}
-
-/// Returns the first reason to refuse a write of this value, or deletion mark, to this key.
-#[inline]
-pub fn write_fault(key: &[u8], value: Option<&[u8]>) -> Option<BodyFault>
-    ensures { result ≡ body_refusal (a_write key.now (option_copied value.entry)) }
-{
-    if key.is_empty() || key.len() > MOST_KEY_BYTES {
-        return Some(BodyFault::BadKey);
-    }
-    match value {
-        Some(bytes) if bytes.len() > MOST_VALUE_BYTES => Some(BodyFault::ValueTooLong),
-        _ => None,
     }
 }
 
@@ -168,6 +100,7 @@ pub fn body_fault(body: &Body) -> Option<BodyFault>
 {
     match body {
         Body::Write { key, value } => write_fault(key.as_slice(), value_slice(value)),
+        Body::Batch(writes) => batch_fault(writes.as_slice()),
         Body::Report | Body::Retire => None,
     }
 }

@@ -1,10 +1,11 @@
-//! An item that borrows its key and value.
-ghost use Rattle.std.specs.Prelude.{◌≡◌, ◌⊎◌, MatchOption, option_copied};
+//! An item that borrows its keys and values.
+ghost use Rattle.std.specs.Prelude.{◌≡◌, option_copied};
 ghost use Rattle.hlc_node.specs.Items.{an_item, body_refusal, retires};
+ghost use Rattle.hlc_node.specs.Seen.{IsContent};
 ghost use Rattle.hlc_node.specs.declared.item.Body.TheVariants as body;
 
-use crate::item::{BodyFault, write_fault};
 use hlc_clock::Stamp;
+use hlc_rows::{BodyFault, Write, batch_fault, write_fault};
 use std::marker::Model;
 
 /// The content of a write: a key with a value, or with a deletion mark.
@@ -14,6 +15,17 @@ pub struct Written<'a> {
     pub value: Option<&'a [u8]>,
 }
 
+/// What an item writes.
+#[derive(Clone, Copy, Debug)]
+pub enum Content<'a> {
+    /// It is a report or a retirement.
+    Nothing,
+    /// One key.
+    One(Written<'a>),
+    /// Several keys, all at the item's stamp.
+    Many(&'a [Write]),
+}
+
 /// The content of an item, over slices.
 #[derive(Debug, Drop)]
 pub(crate) enum BodyRef<'a> {
@@ -21,11 +33,12 @@ pub(crate) enum BodyRef<'a> {
         key: &'a [u8],
         value: Option<&'a [u8]>,
     },
+    Batch(&'a [Write]),
     Report,
     Retire,
 }
 
-/// An item that borrows its key and value, so making one needs no memory. In contracts it is the item.
+/// An item that borrows its keys and values, so making one needs no memory. In contracts it is the item.
 #[derive(Debug, Drop)]
 pub struct ItemRef<'a> {
     node: u16,
@@ -61,6 +74,19 @@ impl<'a> ItemRef<'a> {
             number,
             stamp,
             body: BodyRef::Write { key, value },
+        }
+    }
+
+    /// Returns the writes of these keys, all at the item's stamp.
+    #[inline]
+    pub fn batch(node: u16, number: u64, stamp: Stamp, writes: &'a [Write]) -> ItemRef<'a>
+        ensures { result ≡ an_item node number stamp (body.Batch writes.now) }
+    {
+        ItemRef {
+            node,
+            number,
+            stamp,
+            body: BodyRef::Batch(writes),
         }
     }
 
@@ -122,16 +148,15 @@ impl<'a> ItemRef<'a> {
         matches!(self.body, BodyRef::Retire)
     }
 
-    /// Returns the key and the value that the item writes, or none for a report or a retirement.
+    /// Returns what the item writes.
     #[inline]
-    pub fn written(&self) -> Option<Written<'a>>
-        ensures { MatchOption result
-            ((self.now.body ≡ body.Report) ⊎ (self.now.body ≡ body.Retire))
-            (λ written. self.now.body ≡ body.Write written.key.now (option_copied written.value)) }
+    pub fn content(&self) -> Content<'a>
+        ensures { IsContent result self.now.body }
     {
         match &self.body {
-            BodyRef::Write { key, value } => Some(Written { key, value: *value }),
-            BodyRef::Report | BodyRef::Retire => None,
+            BodyRef::Write { key, value } => Content::One(Written { key, value: *value }),
+            BodyRef::Batch(writes) => Content::Many(writes),
+            BodyRef::Report | BodyRef::Retire => Content::Nothing,
         }
     }
 
@@ -142,6 +167,7 @@ impl<'a> ItemRef<'a> {
     {
         match &self.body {
             BodyRef::Write { key, value } => write_fault(key, *value),
+            BodyRef::Batch(writes) => batch_fault(writes),
             BodyRef::Report | BodyRef::Retire => None,
         }
     }

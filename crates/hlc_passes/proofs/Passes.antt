@@ -14,7 +14,7 @@ use Rattle.std.proofs.lemmas.List.{length-append}
 use Rattle.std.proofs.lemmas.List.Elements.{All-head, All-tail, All-contains}
 use Rattle.hlc_values.proofs.MemberLemmas.{Contains-first, Contains-rest}
 use Rattle.hlc_clock.proofs.PointLemmas.{ArePoints-unique}
-use Rattle.hlc_node.specs.declared.row.Row.{Row}
+use Rattle.hlc_rows.specs.declared.row.Row.{Row}
 use Rattle.hlc_node.specs.declared.item.Body.TheVariants.{Write}
 use Rattle.hlc_node.specs.Items.{body_refusal}
 use Rattle.hlc_columns.specs.Answers.{in_part, part_end, last_key}

@@ -2,8 +2,8 @@
 ghost use Rattle.std.specs.Prelude.{◌≡◌, ◌+◌, ◌↔◌, ℕ, List, ◌∷◌, None, Bool, length, not};
 ghost use Rattle.hlc_clock.specs.Points.{ArePoints};
 ghost use Rattle.hlc_snapshot.specs.RegistryView.{stamps};
-ghost use Rattle.hlc_node.specs.Rows.{IsRowSet};
-ghost use Rattle.hlc_node.specs.declared.row.Row.{Row as ARow};
+ghost use Rattle.hlc_rows.specs.Rows.{IsRowSet};
+ghost use Rattle.hlc_rows.specs.declared.row.Row.{Row as ARow};
 ghost use Rattle.hlc_witness.specs.Cost.{rows_cost};
 ghost use Rattle.hlc_draft.specs.Vacuumed.{IsVacuumOf, rows_to};
 ghost use Rattle.hlc_draft.specs.declared.report.Report.{Report as AReport};

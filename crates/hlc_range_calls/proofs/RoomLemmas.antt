@@ -4,9 +4,9 @@ use Rattle.std.proofs.Common.{◌≡◌, ◌≤◌, ◌+◌, ◌*◌, ◌∙◌,
 use Rattle.std.proofs.Common.{Contains, sum_by, length, arith}
 use Rattle.std.proofs.lemmas.List.Sums.{sum_by-cons}
 use Rattle.hlc_values.proofs.PigeonLemmas.{Served, served}
-use Rattle.hlc_node.specs.declared.row.Row.{Row}
-use Rattle.hlc_node.specs.Rows.{newest, answer}
-use Rattle.hlc_node.proofs.NewestLemmas.{newest_is_greatest, answer_none, answer_some}
+use Rattle.hlc_rows.specs.declared.row.Row.{Row}
+use Rattle.hlc_rows.specs.Rows.{newest, answer}
+use Rattle.hlc_rows.proofs.NewestLemmas.{newest_is_greatest, answer_none, answer_some}
 use Rattle.hlc_column.specs.Cells.{value_bytes}
 use Rattle.hlc_columns.specs.Answers.{AreAnswers}
 use Rattle.hlc_columns.specs.Sizes.{Sizes, AreSizes, row_bytes}

@@ -4,7 +4,7 @@ use Rattle.std.proofs.Common.{length-append, drop, inl, inr}
 use Rattle.std.proofs.lemmas.List.{append-nil, append_assoc}
 use Rattle.std.proofs.lemmas.Grind.{flat_map-append}
 use Rattle.hlc_values.proofs.SortedLemmas.{same_members}
-use Rattle.hlc_node.specs.declared.row.Row.{Row}
+use Rattle.hlc_rows.specs.declared.row.Row.{Row}
 use Rattle.hlc_column.specs.Cells.{Cell}
 use Rattle.hlc_column.specs.Versions.{IsNewer, AreVersions}
 use Rattle.hlc_core.specs.StoreView.{StoreView}

@@ -4,8 +4,8 @@ use Rattle.std.proofs.Common.{List, [], ◌∷◌, ◌++◌, drop}
 use Rattle.std.proofs.Common.{refl, length, arith, length-append, Option, Some, Bool, true, false, reverse}
 use Rattle.std.proofs.lemmas.List.{append-nil, append_assoc, length-drop}
 use Rattle.std.proofs.lemmas.Grind.{flat_map-append}
-use Rattle.hlc_node.specs.declared.row.Row.{Row}
-use Rattle.hlc_node.specs.Rows.{answer}
+use Rattle.hlc_rows.specs.declared.row.Row.{Row}
+use Rattle.hlc_rows.specs.Rows.{answer}
 use Rattle.hlc_columns.specs.Answers.{AreAnswers, AreAnswersBack, IsBetween}
 use Rattle.hlc_range_calls.specs.Listing.{narrowed, pair_bytes, with_bytes}
 use Rattle.hlc_range_calls.specs.Scan.{end_of, part_bytes, parts_bytes, ReturnsFitting, ReturnsScan, ReturnsCount}

@@ -1,6 +1,6 @@
 -- How the differences between two snapshots are returned: as many whole ones as the buffer has room for.
 use Rattle.std.specs.Prelude.{◌≡◌, ℕ, List, ◌++◌, Option, Some, None}
-use Rattle.hlc_node.specs.declared.row.Row.{Row}
+use Rattle.hlc_rows.specs.declared.row.Row.{Row}
 use Rattle.hlc_columns.specs.Answers.{IsBetween}
 use Rattle.hlc_core.specs.Differences.{Difference, AreDifferences}
 use Rattle.hlc_range_calls.specs.Listing.{sized, answer_bytes}

@@ -6,12 +6,12 @@ use Rattle.std.specs.Prelude.{Contains}
 use Rattle.std.proofs.lemmas.Bool.{cases_eq}
 use Rattle.std.proofs.lemmas.List.Elements.{Contains-append_left, Contains-append_right, Contains-append_cases}
 use Rattle.hlc_values.proofs.MemberLemmas.{Contains-none, Contains-first, Contains-rest, Contains-cons_cases}
-use Rattle.hlc_node.specs.declared.row.Row.{Row}
+use Rattle.hlc_rows.specs.declared.row.Row.{Row}
 use Rattle.hlc_node.specs.declared.item.Item.{Item}
 use Rattle.hlc_node.specs.declared.item.Body.{Body}
 use Rattle.hlc_node.specs.declared.item.Body.TheVariants.{Write, Report, Retire}
-use Rattle.hlc_node.specs.Rows.{newest, answer, IsRowSet}
-use Rattle.hlc_node.proofs.NewestLemmas.{newest_is_greatest, answer_none, answer_some}
+use Rattle.hlc_rows.specs.Rows.{newest, answer, IsRowSet}
+use Rattle.hlc_rows.proofs.NewestLemmas.{newest_is_greatest, answer_none, answer_some}
 use Rattle.hlc_draft.proofs.PartLemmas.{newest_in_part, none_in_part}
 use Rattle.hlc_core.specs.Past.{Step, Took, Opened, Closed, Vacuumed, Trimmed, Joined, writes, body_rows, item_rows}
 use Rattle.hlc_core.proofs.PastLemmas.{body_rows-are, writes-row_set}

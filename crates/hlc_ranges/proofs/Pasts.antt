@@ -5,7 +5,7 @@ use Rattle.std.specs.Prelude.{Contains, ◌==◌}
 use Rattle.std.proofs.lemmas.Bool.{cond-true, cond-false, eq-eqb, ne_eqb, cases_eq}
 use Rattle.std.proofs.lemmas.List.Elements.{Contains-append_left, Contains-append_right, Contains-append_cases}
 use Rattle.hlc_values.proofs.MemberLemmas.{Contains-none, Contains-first, Contains-rest, Contains-cons_cases}
-use Rattle.hlc_node.specs.declared.row.Row.{Row}
+use Rattle.hlc_rows.specs.declared.row.Row.{Row}
 use Rattle.hlc_node.specs.declared.item.Item.{Item}
 use Rattle.hlc_core.specs.Past.{Step, Took, Opened, Closed, Vacuumed, Trimmed, Joined, count, retired, writes}
 use Rattle.hlc_core.specs.Past.{item_rows}

@@ -2,7 +2,7 @@
 #![tactic(auto)]
 
 ghost use Rattle.std.specs.Prelude.{◌≡◌, ◌≢◌, ◌<◌, ◌≤◌, ◌∷◌, ◌++◌, ℕ, List, Ok, None};
-ghost use Rattle.hlc_node.specs.Rows.{answer};
+ghost use Rattle.hlc_rows.specs.Rows.{answer};
 ghost use Rattle.hlc_node.specs.Node.{NodeView, expected_issue};
 ghost use Rattle.hlc_node.specs.declared.item.Body.{Body as ABody};
 ghost use Rattle.hlc_node.specs.declared.item.Item.{Item as AnItem};

@@ -18,9 +18,9 @@ use Rattle.std.proofs.lemmas.Map.Keys.{IsDistinct-IsPermutation, apart_from_dist
 use Rattle.std.proofs.lemmas.Map.Views.{tells_apart}
 use Rattle.hlc_values.proofs.MemberLemmas.{Contains-none, Contains-first, Contains-rest, Contains-cons_cases}
 use Rattle.hlc_values.proofs.MemberLemmas.{Contains-map}
-use Rattle.hlc_node.specs.declared.row.Row.{Row}
-use Rattle.hlc_node.specs.Rows.{answer}
-use Rattle.hlc_node.proofs.NewestLemmas.{answer_none}
+use Rattle.hlc_rows.specs.declared.row.Row.{Row}
+use Rattle.hlc_rows.specs.Rows.{answer}
+use Rattle.hlc_rows.proofs.NewestLemmas.{answer_none}
 use Rattle.hlc_column.proofs.FirstLemmas.{newest_nil}
 use Rattle.hlc_columns.specs.Answers.{IsBetween, AreAnswers}
 use Rattle.hlc_columns.specs.View.{Seen}

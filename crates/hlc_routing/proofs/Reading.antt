@@ -1,7 +1,7 @@
 -- A read in a snapshot of a key's store, at a cut, is of the newest of all issued writes.
 use Rattle.std.proofs.Common.{◌≡◌, ℕ, ◌≤◌, List, Some, Option, Result, ap, sym, ◌∙◌, subst, arith}
 use Rattle.std.specs.Prelude.{MatchOption, IsErr, IsOkAnd}
-use Rattle.hlc_node.specs.Rows.{answer}
+use Rattle.hlc_rows.specs.Rows.{answer}
 use Rattle.hlc_core.specs.Past.{stamp_of, writes}
 use Rattle.hlc_ranges.specs.Run.{Layout, Turn, past_of, issued_writes}
 use Rattle.hlc_ranges.specs.Cut.{AreNewestIssued}

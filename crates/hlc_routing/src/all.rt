@@ -1,7 +1,7 @@
 //! Calls of all stores.
 ghost use Rattle.std.specs.Prelude.{◌≡◌, ◌≤◌, ◌<◌, ◌↔◌, ℕ, List, [], Some, length, vec_len, vec_capacity, get_or};
 ghost use Rattle.std.specs.Prelude.{IsTrue, IfOk, IfErr, OnOk, OnErr, IsOkAnd, MatchResult, option_copied};
-ghost use Rattle.hlc_node.specs.Rows.{answer};
+ghost use Rattle.hlc_rows.specs.Rows.{answer};
 ghost use Rattle.hlc_core.specs.Past.{Vacuumed, stamp_of};
 ghost use Rattle.hlc_ranges.specs.Run.{Layout, Turn, issued_writes, past_of};
 ghost use Rattle.hlc_ranges.specs.Cut.{IsConsistent};

@@ -1,7 +1,7 @@
 //! Stores with one key space.
 ghost use Rattle.std.specs.Prelude.{◌≡◌, ◌≢◌, ◌↔◌, ◌∷◌, ◌<◌, List, length, min, IsTrue, IfErr, OnOk, OnErr};
 ghost use Rattle.std.specs.Prelude.{ℕ, Some, IfSome, IfNone, IsOkAnd, option_copied, slice_get};
-ghost use Rattle.hlc_node.specs.Rows.{answer};
+ghost use Rattle.hlc_rows.specs.Rows.{answer};
 ghost use Rattle.hlc_node.specs.declared.item.Body.{Body as ABody};
 ghost use Rattle.hlc_core.specs.Past.{Took, stamp_of};
 ghost use Rattle.hlc_ranges.specs.Run.{Layout, Turn, Stepped, IsIssuedStep, past_of, issued_writes};

@@ -3,7 +3,7 @@ use Rattle.std.proofs.Common.{◌≡◌, ℕ, List, [], ◌∷◌, ◌++◌, len
 use Rattle.std.proofs.Common.{append_assoc, ◌<◌, ◌+◌}
 use Rattle.std.specs.List.{flat_map}
 use Rattle.std.proofs.lemmas.List.{take_more, drop_at, append-nil}
-use Rattle.hlc_node.specs.declared.row.Row.{Row}
+use Rattle.hlc_rows.specs.declared.row.Row.{Row}
 use Rattle.hlc_core.specs.StoreView.{StoreView}
 use Rattle.hlc_frame.specs.Frame.{front_bytes}
 use Rattle.hlc_frame.specs.Writing.{HasPut}

@@ -1,7 +1,7 @@
 //! What is true of checkpoints that are written in pieces.
 ghost use Rattle.std.specs.Prelude.{◌≡◌, ◌++◌, ℕ, List};
 ghost use Rattle.std.specs.List.{flat_map};
-ghost use Rattle.hlc_node.specs.declared.row.Row.{Row as ARow};
+ghost use Rattle.hlc_rows.specs.declared.row.Row.{Row as ARow};
 ghost use Rattle.hlc_core.specs.StoreView.{StoreView};
 ghost use Rattle.hlc_body.specs.Spelling.{row_bytes, saved_bytes};
 ghost use Rattle.hlc_saved.specs.Writing.{begin_bytes, end_bytes};

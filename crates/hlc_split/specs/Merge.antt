@@ -1,6 +1,6 @@
 -- When two checkpoints are joined into one, and the first reason why they are not.
 use Rattle.std.specs.Prelude.{◌≡◌, ◌≢◌, ℕ, List, codes, true, All, MatchOption, ⊤, slice_get}
-use Rattle.hlc_node.specs.declared.row.Row.{Row}
+use Rattle.hlc_rows.specs.declared.row.Row.{Row}
 use Rattle.hlc_core.specs.StoreView.{StoreView}
 use Rattle.hlc_split.specs.Split.{is_under, is_from}
 use Rattle.hlc_split.specs.declared.joining.MergeFault.{MergeFault}

@@ -5,7 +5,7 @@ mod halves;
 mod joining;
 
 ghost use Rattle.std.specs.Prelude.{◌≡◌, ◌<◌, ◌≤◌, ◌++◌, ℕ, Bool, true, not, List};
-ghost use Rattle.hlc_node.specs.Rows.{answer};
+ghost use Rattle.hlc_rows.specs.Rows.{answer};
 ghost use Rattle.hlc_core.specs.Past.{Step, IsLegal, writes, floor, horizon, open_snapshots};
 ghost use Rattle.hlc_core.specs.StoreView.{StoreView, nodes, with_rows_left, Represents};
 ghost use Rattle.hlc_checkpoint.specs.Checkpoint.{IsCheckpoint};

@@ -4,7 +4,7 @@ use Rattle.std.proofs.Common.{false, arith, ap, ◌∙◌}
 use Rattle.std.proofs.lemmas.Bool.Decides.{nat_tests}
 use Rattle.hlc_clock.specs.Stamp.{physical}
 use Rattle.hlc_clock.specs.NextStamp.{next_stamp, is_carried, expected_stamp}
-use Rattle.hlc_node.specs.declared.item.BodyFault.{BodyFault}
+use Rattle.hlc_rows.specs.declared.limits.BodyFault.{BodyFault}
 use Rattle.hlc_node.specs.Node.{issue_after}
 use Rattle.hlc_storm.specs.Written.{stamp_at, after_writes}
 

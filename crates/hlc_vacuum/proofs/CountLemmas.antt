@@ -5,8 +5,8 @@ use Rattle.std.proofs.Common.{filter, ◌≡◌, ℕ, ◌≤◌, List, [], ◌�
 use Rattle.std.proofs.lemmas.Bool.{cases_lt, ltb-true, lt-leb, lt-ltb, le-leb, le-ltb}
 use Rattle.hlc_values.proofs.MemberLemmas.{Contains-filter, Contains-from_filter}
 use Rattle.hlc_values.proofs.PigeonLemmas.{served, sum_by_one}
-use Rattle.hlc_node.specs.Rows.{IsRowSet, IsSameVersion}
-use Rattle.hlc_node.specs.declared.row.Row.{Row}
+use Rattle.hlc_rows.specs.Rows.{IsRowSet, IsSameVersion}
+use Rattle.hlc_rows.specs.declared.row.Row.{Row}
 use Rattle.hlc_column.proofs.FlagLemmas.{filter-IsRowSet}
 use Rattle.hlc_vacuum.specs.Representing.{count_above}
 use Rattle.hlc_draft.specs.Vacuumed.{rows_to}

@@ -16,8 +16,8 @@ use Rattle.std.proofs.lemmas.List.Elements.{filter-append, All-head, All-tail, A
 use Rattle.std.proofs.lemmas.List.Sums.{length-filter}
 use Rattle.std.proofs.lemmas.Map.Keys.{sorted_head, sorted_tail}
 use Rattle.std.proofs.lemmas.Slice.Eq.{bytes_eq-Decides}
-use Rattle.hlc_node.specs.declared.row.Row.{Row}
-use Rattle.hlc_node.specs.Rows.{IsRowSet}
+use Rattle.hlc_rows.specs.declared.row.Row.{Row}
+use Rattle.hlc_rows.specs.Rows.{IsRowSet}
 use Rattle.hlc_column.specs.Cells.{Cell}
 use Rattle.hlc_column.specs.Rows.{row_of, rows_of, rows_with, KeyCells, rows_in_one, rows_in, keys_in, KeysAscend}
 use Rattle.std.proofs.Common.{Contains, Option, Some, None, zero, suc, get_or, ◌≤◌, ◌<◌, ◌-◌}

@@ -1,7 +1,7 @@
 -- The plans of pieces and the tallies of drafts.
 use Rattle.std.proofs.Common.{◌≡◌, ◌∙◌, ℕ, List, length, ap, sym, subst}
-use Rattle.hlc_node.specs.declared.row.Row.{Row}
-use Rattle.hlc_node.specs.Rows.{IsRowSet}
+use Rattle.hlc_rows.specs.declared.row.Row.{Row}
+use Rattle.hlc_rows.specs.Rows.{IsRowSet}
 use Rattle.hlc_clock.specs.Points.{PointsAscend}
 use Rattle.hlc_column.specs.Rows.{KeyCells, KeysAscend, rows_in}
 use Rattle.hlc_draft.specs.Plan.{PlanView, TallyView, IsPlanOf, IsTallyOf}

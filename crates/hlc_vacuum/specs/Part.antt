@@ -1,8 +1,8 @@
 -- The plan of the columns of some keys, and what is done by it.
 use Rattle.std.specs.Prelude.{◌≡◌, ◌+◌, ◌≤◌, ◌∷◌, [], ℕ, Bool, List, ⊤, length, take, drop, filter}
 use Rattle.std.specs.Prelude.{not, Contains}
-use Rattle.hlc_node.specs.declared.row.Row.{Row}
-use Rattle.hlc_node.specs.Rows.{IsRowSet}
+use Rattle.hlc_rows.specs.declared.row.Row.{Row}
+use Rattle.hlc_rows.specs.Rows.{IsRowSet}
 use Rattle.hlc_witness.specs.Cost.{rows_cost}
 use Rattle.hlc_columns.specs.Answers.{AreNext, part_end}
 use Rattle.hlc_column.specs.Rows.{rows_with, KeyCells, keys_in, rows_in}

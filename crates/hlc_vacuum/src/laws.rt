@@ -2,8 +2,8 @@
 ghost use Rattle.std.specs.Prelude.{◌≡◌, ◌↔◌, ◌⊎◌, ◌+◌, ◌<◌, ◌≤◌, ℕ, List, [], ◌∷◌, ◌++◌, length, Contains};
 ghost use Rattle.std.specs.List.Sorted.{IsPermutation};
 ghost use Rattle.hlc_clock.specs.Points.{PointsAscend, last_point};
-ghost use Rattle.hlc_node.specs.declared.row.Row.{Row as ARow};
-ghost use Rattle.hlc_node.specs.Rows.{IsRowSet};
+ghost use Rattle.hlc_rows.specs.declared.row.Row.{Row as ARow};
+ghost use Rattle.hlc_rows.specs.Rows.{IsRowSet};
 ghost use Rattle.hlc_witness.specs.declared.witness.Witness.{Witness as AWitness};
 ghost use Rattle.hlc_witness.specs.Fewest.{Fewest};
 ghost use Rattle.hlc_witness.specs.Cost.{Cheapest, AreInLimits, changes_cost, rows_cost};

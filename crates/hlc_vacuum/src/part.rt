@@ -14,7 +14,7 @@ use hlc_clock::Stamp;
 use hlc_columns::{Keyed, Table};
 use hlc_draft::{Numbers, Report, Unlisted};
 use hlc_flags::Flags;
-use hlc_node::Bytes;
+use hlc_rows::Bytes;
 use hlc_values::NoMemory;
 use std::alloc::Global;
 

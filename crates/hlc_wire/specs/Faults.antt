@@ -1,6 +1,6 @@
 -- The number and the text of each fault.
 use Rattle.std.specs.Prelude.{ℕ, List, codes}
-use Rattle.hlc_node.specs.Faults.{body_text}
+use Rattle.hlc_rows.specs.Faults.{body_text}
 use Rattle.hlc_wire.specs.declared.fault.WireFault.{WireFault}
 use Rattle.hlc_wire.specs.declared.fault.WireFault.TheVariants.{Short, Version, Kind, EmptyKey, Flag, Trailing, Damaged}
 use Rattle.hlc_wire.specs.declared.fault.DecodeError.{DecodeError}

@@ -1,6 +1,6 @@
 -- Why nothing is written.
 use Rattle.std.specs.Prelude.{◌≡◌, Option, Some, None}
-use Rattle.hlc_node.specs.declared.item.BodyFault.{BodyFault}
+use Rattle.hlc_rows.specs.declared.limits.BodyFault.{BodyFault}
 use Rattle.hlc_wire.specs.declared.fault.EncodeError.{EncodeError}
 use Rattle.hlc_wire.specs.declared.fault.EncodeError.TheVariants.{BadBody, NoMemory}
 

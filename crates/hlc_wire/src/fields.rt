@@ -2,7 +2,7 @@
 //! returns what it read and the bytes after it.
 ghost use Rattle.std.specs.Prelude.{◌≡◌, ◌++◌, option_copied, IfOk, OnOk, IsOk, IsErrOf};
 ghost use Rattle.std.specs.Int.{w16, w32, w64};
-ghost use Rattle.hlc_node.specs.Items.{IsShortValue};
+ghost use Rattle.hlc_rows.specs.Limits.{IsShortValue};
 ghost use Rattle.hlc_wire.specs.Spelling.{flag_bytes, key_bytes, value_bytes, KeyFits, ValueFits};
 ghost use Rattle.hlc_wire.specs.Reading.{Gives, byte_at, bytes_at, number_at, flag_at, key_at, value_at};
 

@@ -8,8 +8,8 @@ use Rattle.std.proofs.lemmas.Cmp.{nat_cmp_total, nat_list_cmp_total, tied_itself
 use Rattle.std.proofs.lemmas.List.Elements.{All-contains, All-from_recursion, All-weaker}
 use Rattle.std.proofs.lemmas.Map.Keys.{sorted_head, sorted_tail}
 use Rattle.hlc_clock.specs.Points.{PointsAscend}
-use Rattle.hlc_node.specs.Rows.{IsRowSet, IsSameVersion}
-use Rattle.hlc_node.specs.declared.row.Row.{Row}
+use Rattle.hlc_rows.specs.Rows.{IsRowSet, IsSameVersion}
+use Rattle.hlc_rows.specs.declared.row.Row.{Row}
 use Rattle.hlc_witness.specs.Certificate.{IsCertificate, RowsAscend, NoneAbove, row_cmp}
 use Rattle.hlc_witness.specs.Changes.{AreChanges, IsChange}
 use Rattle.hlc_witness.specs.Cost.{AreInLimits, Cheapest}

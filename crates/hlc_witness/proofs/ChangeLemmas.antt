@@ -11,8 +11,8 @@ use Rattle.std.proofs.lemmas.Map.Keys.{Less-from_sorted}
 use Rattle.hlc_values.proofs.SortedLemmas.{same_members}
 use Rattle.hlc_values.proofs.PigeonLemmas.{served, sum_by_one}
 use Rattle.hlc_clock.specs.Points.{IsPointBefore, PointsAscend}
-use Rattle.hlc_node.specs.Rows.{answer}
-use Rattle.hlc_node.specs.declared.row.Row.{Row}
+use Rattle.hlc_rows.specs.Rows.{answer}
+use Rattle.hlc_rows.specs.declared.row.Row.{Row}
 use Rattle.hlc_witness.specs.AllChanges.{changes_of, keys_of, all_changes}
 use Rattle.hlc_witness.specs.Changes.{AreChanges, ChangesAscend, IsChange, change_cmp, answer_at}
 use Rattle.hlc_witness.specs.Fewest.{Alike}

@@ -4,7 +4,7 @@
 use Rattle.std.proofs.Common.{All, Less, length, sym, arith, ◌≡◌, ℕ, ◌≤◌, List, ap₂}
 use Rattle.std.proofs.lemmas.List.Elements.{All-contains}
 use Rattle.hlc_values.proofs.PigeonLemmas.{served, served_all}
-use Rattle.hlc_node.specs.declared.row.Row.{Row}
+use Rattle.hlc_rows.specs.declared.row.Row.{Row}
 use Rattle.hlc_witness.specs.Changes.{ChangesAscend, IsChange, change_cmp}
 use Rattle.hlc_witness.specs.Cost.{cost_of, row_cost, rows_cost, Cheapest, change_cost, changes_cost}
 use Rattle.hlc_witness.specs.Fewest.{Alike}

@@ -5,7 +5,7 @@ use Rattle.std.proofs.Common.{length-append}
 use Rattle.std.proofs.Math.Seq.{get_or-append_seam}
 use Rattle.std.proofs.lemmas.List.{get_or_append_left}
 use Rattle.std.proofs.lemmas.Map.Keys.{Less-from_sorted}
-use Rattle.hlc_node.specs.declared.row.Row.{Row}
+use Rattle.hlc_rows.specs.declared.row.Row.{Row}
 use Rattle.hlc_witness.specs.Changes.{ChangesAscend, IsChange, change_cmp}
 use Rattle.hlc_witness.specs.Reasons.{IsAbove, IsFault}
 use Rattle.hlc_witness.specs.declared.reason.NotShown.{NotShown}

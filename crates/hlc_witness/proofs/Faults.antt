@@ -4,7 +4,7 @@ use Rattle.std.proofs.Common.{All, length, get_or, drop, sym, ap, ◌∙◌, sub
 use Rattle.std.proofs.Common.{◌<◌, ◌+◌, ◌++◌}
 use Rattle.std.proofs.lemmas.List.{take_more}
 use Rattle.std.proofs.lemmas.List.Elements.{All-push}
-use Rattle.hlc_node.specs.declared.row.Row.{Row}
+use Rattle.hlc_rows.specs.declared.row.Row.{Row}
 use Rattle.hlc_witness.specs.Certificate.{IsCertificate}
 use Rattle.hlc_witness.specs.Changes.{ChangesAscend, IsChange}
 use Rattle.hlc_witness.specs.Reasons.{IsFault, IsFirstFault, IsFirstReason, AreSorted}

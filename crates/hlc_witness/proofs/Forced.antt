@@ -10,10 +10,10 @@ use Rattle.std.proofs.lemmas.List.Elements.{All-contains, All-from_recursion}
 use Rattle.std.proofs.lemmas.Map.Keys.{sorted_head, sorted_tail}
 use Rattle.hlc_values.proofs.PigeonLemmas.{AreApart, Served}
 use Rattle.hlc_clock.specs.Points.{IsPointBefore}
-use Rattle.hlc_node.specs.Rows.{newest, answer, IsNewest}
-use Rattle.hlc_node.specs.declared.row.Row.{Row}
-use Rattle.hlc_node.proofs.NewestLemmas.{newest_is_greatest, no_newest_no_row, no_later_stamp, answer_none}
-use Rattle.hlc_node.proofs.NewestLemmas.{answer_some, answer_stays}
+use Rattle.hlc_rows.specs.Rows.{newest, answer, IsNewest}
+use Rattle.hlc_rows.specs.declared.row.Row.{Row}
+use Rattle.hlc_rows.proofs.NewestLemmas.{newest_is_greatest, no_newest_no_row, no_later_stamp, answer_none}
+use Rattle.hlc_rows.proofs.NewestLemmas.{answer_some, answer_stays}
 use Rattle.hlc_witness.specs.Changes.{ChangesAscend, IsChange, change_cmp, answer_at}
 use Rattle.hlc_witness.specs.Fewest.{Alike}
 use Rattle.hlc_witness.specs.declared.witness.Witness.{Witness}

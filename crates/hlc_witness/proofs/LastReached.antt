@@ -15,9 +15,9 @@ use Rattle.std.proofs.lemmas.Cmp.{nat_cmp_total, nat_list_cmp_total, on_total, t
 use Rattle.std.proofs.lemmas.List.{get_or_default}
 use Rattle.std.proofs.lemmas.List.Elements.{Contains-get_or}
 use Rattle.std.proofs.lemmas.Map.Keys.{Less-from_sorted}
-use Rattle.hlc_node.specs.Rows.{newest, IsNoLater}
-use Rattle.hlc_node.specs.declared.row.Row.{Row}
-use Rattle.hlc_node.proofs.NewestLemmas.{newest_is_greatest, newest_is_unique}
+use Rattle.hlc_rows.specs.Rows.{newest, IsNoLater}
+use Rattle.hlc_rows.specs.declared.row.Row.{Row}
+use Rattle.hlc_rows.proofs.NewestLemmas.{newest_is_greatest, newest_is_unique}
 use Rattle.hlc_witness.specs.Certificate.{RowsAscend, row_cmp}
 use Rattle.hlc_witness.specs.Reached.{is_reached}
 use Rattle.hlc_witness.proofs.CertificateLemmas.{ascending_rows_are_a_row_set}

@@ -15,9 +15,9 @@ use Rattle.std.proofs.lemmas.List.Elements.{recursion_from_All, Contains-append_
 use Rattle.std.proofs.lemmas.Map.Keys.{sorted_from_strictly_increasing}
 use Rattle.hlc_values.proofs.MemberLemmas.{Contains-none, Contains-cons_cases, Contains-first, Contains-rest}
 use Rattle.hlc_clock.specs.Points.{IsPointBefore, PointsAscend}
-use Rattle.hlc_node.specs.Rows.{newest, answer}
-use Rattle.hlc_node.specs.declared.row.Row.{Row}
-use Rattle.hlc_node.proofs.NewestLemmas.{newest_is_greatest, no_newest_no_row, answer_none, answer_stays}
+use Rattle.hlc_rows.specs.Rows.{newest, answer}
+use Rattle.hlc_rows.specs.declared.row.Row.{Row}
+use Rattle.hlc_rows.proofs.NewestLemmas.{newest_is_greatest, no_newest_no_row, answer_none, answer_stays}
 use Rattle.hlc_witness.specs.AllChanges.{is_same_answer, key_changes, changes_of}
 use Rattle.hlc_witness.specs.Changes.{IsChange, change_cmp, answer_at}
 use Rattle.hlc_witness.specs.declared.witness.Witness.{Witness}

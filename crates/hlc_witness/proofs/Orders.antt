@@ -1,7 +1,7 @@
 -- The orders of changes and of rows are total.
 use Rattle.std.specs.Cmp.{IsTotalOrder}
 use Rattle.std.proofs.lemmas.Cmp.{nat_cmp_total, nat_list_cmp_total, on_total, then_total}
-use Rattle.hlc_node.specs.declared.row.Row.{Row}
+use Rattle.hlc_rows.specs.declared.row.Row.{Row}
 use Rattle.hlc_witness.specs.Certificate.{row_cmp}
 use Rattle.hlc_witness.specs.Changes.{change_cmp}
 use Rattle.hlc_witness.specs.declared.witness.Witness.{Witness}

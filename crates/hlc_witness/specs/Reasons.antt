@@ -1,8 +1,8 @@
 -- Why rows, points and witnesses are no certificate: the first reason that applies.
 use Rattle.std.specs.Prelude.{◌≡◌, ◌≢◌, ℕ, List, ◌∷◌, ◌++◌, length, All, codes}
 use Rattle.std.specs.declared.cmp.Ordering.TheVariants.{Less}
-use Rattle.hlc_node.specs.declared.row.Row.{Row}
-use Rattle.hlc_node.specs.Rows.{answer}
+use Rattle.hlc_rows.specs.declared.row.Row.{Row}
+use Rattle.hlc_rows.specs.Rows.{answer}
 use Rattle.hlc_witness.specs.declared.witness.Witness.{Witness}
 use Rattle.hlc_witness.specs.declared.reason.NotShown.{NotShown}
 use Rattle.hlc_witness.specs.declared.reason.NotShown.TheVariants.{PointsNotAscending, RowsNotAscending}

@@ -1,6 +1,6 @@
 //! The checker of certificates.
 ghost use Rattle.std.specs.Prelude.{◌≡◌, ◌↔◌, IsTrue, IsOk, IfOk, IfErr, IsNone, MatchOption, length};
-ghost use Rattle.hlc_node.specs.Rows.{answer};
+ghost use Rattle.hlc_rows.specs.Rows.{answer};
 ghost use Rattle.hlc_clock.specs.Points.{PointsAscend};
 ghost use Rattle.hlc_witness.specs.Fewest.{Fewest};
 ghost use Rattle.hlc_witness.specs.Cost.{Cheapest, rows_cost};
@@ -15,7 +15,7 @@ use crate::search::{value_at, value_in};
 use crate::shown::Shown;
 use crate::witness::Witness;
 use hlc_clock::Stamp;
-use hlc_node::Row;
+use hlc_rows::Row;
 
 /// Checks that the witnesses show as many changes as there are rows, so that the rows are the
 /// fewest and the cheapest that answer as they do at the points. It needs no memory, and trusts

@@ -1,12 +1,12 @@
 //! The newest row of a key, and its value, in ascending rows.
 ghost use Rattle.std.specs.Prelude.{◌≡◌, option_copied};
-ghost use Rattle.hlc_node.specs.Rows.{newest, answer};
+ghost use Rattle.hlc_rows.specs.Rows.{newest, answer};
 ghost use Rattle.hlc_witness.specs.Changes.{answer_at};
 ghost use Rattle.hlc_witness.specs.Certificate.{RowsAscend};
 ghost use Rattle.hlc_witness.specs.Reached.{is_reached};
 
 use hlc_clock::Stamp;
-use hlc_node::{Bytes, Row};
+use hlc_rows::{Bytes, Row};
 
 /// Returns the newest value of a key at a point, or none if there is no point.
 pub(crate) fn value_at<'a>(rows: &'a [Row], key: &Bytes, point: Option<Stamp>) -> Option<&'a [u8]>

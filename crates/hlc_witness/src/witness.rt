@@ -1,7 +1,7 @@
 //! What shows that a row is needed.
 
 use hlc_clock::Stamp;
-use hlc_node::Bytes;
+use hlc_rows::Bytes;
 
 /// A change: a key, and a point at which its answer differs from that at the point before.
 #[derive(Clone, PartialEq, Eq, Debug, Drop)]

@@ -1,7 +1,7 @@
 -- What is promised about a whole schedule. The store is faithful to its history, which contains each event that asked
 -- something of it; and at each moment what can be read is closed under happened-before.
 use Rattle.std.specs.Prelude.{◌≡◌, ℕ, List, ◌++◌}
-use Rattle.hlc_node.specs.declared.row.Row.{Row}
+use Rattle.hlc_rows.specs.declared.row.Row.{Row}
 use Rattle.hlc_core.specs.Headline.{IsMoment as IsStoreMoment, IsFaithful as IsStoreFaithful}
 use Rattle.hlc_world.specs.Schedule.{Event}
 use Rattle.hlc_world.specs.declared.reply.Reply.{Reply}

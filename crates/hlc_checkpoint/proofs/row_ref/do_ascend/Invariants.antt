@@ -1,6 +1,6 @@
 -- Each of the rows so far is below the next.
 use Rattle.std.proofs.Common.{◌≡◌, ℕ, ◌<◌, ◌+◌, get_or, Less}
-use Rattle.hlc_node.specs.declared.row.Row.{Row}
+use Rattle.hlc_rows.specs.declared.row.Row.{Row}
 use Rattle.hlc_witness.specs.Certificate.{row_cmp}
 use Rattle.hlc_checkpoint.proofs.row_ref.do_ascend.Given as goal
 

@@ -2,7 +2,7 @@
 use Rattle.std.proofs.Common.{is_lt, rules}
 use Rattle.std.proofs.lemmas.Fn.{always_returns_same}
 use Rattle.std.proofs.lemmas.List.Sorted.{ranks_by}
-use Rattle.hlc_node.specs.declared.row.Row.{Row}
+use Rattle.hlc_rows.specs.declared.row.Row.{Row}
 use Rattle.hlc_witness.specs.Certificate.{row_cmp}
 use Rattle.hlc_checkpoint.proofs.AscendLemmas.{row_cmp_total, sorted-ascend}
 use Rattle.hlc_checkpoint.proofs.sorted.sort.Goals as goal

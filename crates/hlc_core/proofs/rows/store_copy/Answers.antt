@@ -1,7 +1,7 @@
 -- The row of a write is the item's.
 use Rattle.std.proofs.Common.{sym, subst, Contains, [], option_copied}
 use Rattle.hlc_values.proofs.MemberLemmas.{Contains-first}
-use Rattle.hlc_node.specs.declared.row.Row.{Row}
+use Rattle.hlc_rows.specs.declared.row.Row.{Row}
 use Rattle.hlc_node.specs.declared.item.Body.{Body}
 use Rattle.hlc_core.specs.Past.{body_rows}
 use Rattle.hlc_core.proofs.rows.store_copy.Goals as goal

@@ -4,7 +4,7 @@ use Rattle.std.proofs.Common.{get_or, inl, inr, true≢false, option_copied}
 use Rattle.std.specs.Prelude.{IfSome}
 use Rattle.std.proofs.lemmas.Bool.{cases_Bool}
 use Rattle.std.proofs.lemmas.List.{length-map, get_or_default}
-use Rattle.hlc_node.specs.Rows.{answer, newest}
+use Rattle.hlc_rows.specs.Rows.{answer, newest}
 use Rattle.hlc_witness.specs.Changes.{answer_at}
 use Rattle.hlc_clock.specs.Points.{last_point}
 use Rattle.hlc_column.specs.Cells.{Cell}

@@ -1,7 +1,7 @@
 -- The parts add up to the whole.
 use Rattle.std.proofs.Common.{ap, ◌∙◌, length, List}
 use Rattle.std.specs.List.{flat_map}
-use Rattle.hlc_node.specs.declared.row.Row.{Row}
+use Rattle.hlc_rows.specs.declared.row.Row.{Row}
 use Rattle.hlc_body.specs.Spelling.{Preamble, row_bytes, preamble_bytes}
 use Rattle.hlc_saved.proofs.Sizes.{all_take, some_iff}
 use Rattle.hlc_saved.proofs.size.checkpoint_size.Goals as goal

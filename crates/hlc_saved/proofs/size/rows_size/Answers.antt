@@ -2,7 +2,7 @@
 use Rattle.std.proofs.Common.{◌≡◌, length, arith, ap, ◌∙◌}
 use Rattle.std.specs.List.{flat_map}
 use Rattle.std.proofs.lemmas.List.{take_all}
-use Rattle.hlc_node.specs.declared.row.Row.{Row}
+use Rattle.hlc_rows.specs.declared.row.Row.{Row}
 use Rattle.hlc_body.specs.Spelling.{row_bytes}
 use Rattle.hlc_saved.proofs.Sizes.{size_within}
 use Rattle.hlc_saved.proofs.size.rows_size.Goals as goal

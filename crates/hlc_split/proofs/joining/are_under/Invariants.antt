@@ -1,6 +1,6 @@
 -- Each of the keys so far is below it.
 use Rattle.std.proofs.Common.{◌≡◌, ℕ, ◌<◌, get_or, true}
-use Rattle.hlc_node.specs.declared.row.Row.{Row}
+use Rattle.hlc_rows.specs.declared.row.Row.{Row}
 use Rattle.hlc_split.specs.Split.{is_under}
 use Rattle.hlc_split.proofs.joining.are_under.Given as goal
 

@@ -1,6 +1,6 @@
 -- The plan is of the columns listed.
 use Rattle.std.proofs.Common.{◌≡◌, ◌∙◌, ap, refl, rules, subst}
-use Rattle.hlc_node.specs.Rows.{IsRowSet}
+use Rattle.hlc_rows.specs.Rows.{IsRowSet}
 use Rattle.hlc_column.proofs.FlagLemmas.{filter-IsRowSet}
 use Rattle.hlc_columns.specs.Answers.{in_part, part_end}
 use Rattle.hlc_column.specs.Rows.{keys_in, rows_in}

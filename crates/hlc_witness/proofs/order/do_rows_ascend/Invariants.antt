@@ -1,6 +1,6 @@
 -- What is known of the rows that were checked.
 use Rattle.std.proofs.Common.{◌≡◌, ℕ, ◌<◌, ◌+◌, get_or, Less}
-use Rattle.hlc_node.specs.declared.row.Row.{Row}
+use Rattle.hlc_rows.specs.declared.row.Row.{Row}
 use Rattle.hlc_witness.specs.Certificate.{row_cmp}
 use Rattle.hlc_witness.proofs.order.do_rows_ascend.Given as goal
 

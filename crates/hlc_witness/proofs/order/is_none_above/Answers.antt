@@ -1,6 +1,6 @@
 -- The last position has the last point.
 use Rattle.std.proofs.Common.{◌≡◌, ◌<◌, ◌≤◌, true≢false, sym, ap, refl, arith, get_or}
-use Rattle.hlc_node.specs.declared.row.Row.{Row}
+use Rattle.hlc_rows.specs.declared.row.Row.{Row}
 use Rattle.hlc_clock.specs.Points.{last_point}
 use Rattle.hlc_witness.proofs.PlaceLemmas.{last_point-is}
 use Rattle.hlc_witness.proofs.Ascending.{is_gt-above}

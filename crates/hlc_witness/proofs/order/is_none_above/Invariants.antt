@@ -1,6 +1,6 @@
 -- What is known of the rows that were checked.
 use Rattle.std.proofs.Common.{ℕ, ◌<◌, ◌≤◌, get_or}
-use Rattle.hlc_node.specs.declared.row.Row.{Row}
+use Rattle.hlc_rows.specs.declared.row.Row.{Row}
 use Rattle.hlc_witness.proofs.order.is_none_above.Given as goal
 
 -- none of the rows so far is above the last point

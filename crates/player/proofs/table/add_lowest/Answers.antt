@@ -3,7 +3,7 @@ use Rattle.std.proofs.Common.{◌≡◌, ◌∙◌, ◌<◌, ℕ, zero, suc, Lis
 use Rattle.std.proofs.Common.{get_or, true≢false, inl, inr, nat_le}
 use Rattle.std.specs.Prelude.{Contains, filter}
 use Rattle.std.proofs.lemmas.Bool.{cases_Bool, le-leb}
-use Rattle.hlc_node.specs.declared.row.Row.{Row}
+use Rattle.hlc_rows.specs.declared.row.Row.{Row}
 use Rattle.player.proofs.table.add_lowest.Goals as goal
 
 no_row_at : (bound : ℕ) (rows : List Row) → length (filter (λ (row : Row). nat_le row.stamp bound) rows) ≡ 0

@@ -1,6 +1,6 @@
 -- The table is a row set, whose rows an item may write.
 use Rattle.std.proofs.Common.{subst, sym}
-use Rattle.hlc_node.specs.Rows.{IsRowSet}
+use Rattle.hlc_rows.specs.Rows.{IsRowSet}
 use Rattle.hlc_witness.specs.Cost.{AreInLimits}
 use Rattle.hlc_columns.specs.Table.{columns_in}
 use Rattle.hlc_checkpoint.specs.StoreView.{StoreView}

@@ -2,7 +2,7 @@
 use Rattle.std.proofs.Common.{sym}
 use Rattle.std.specs.Prelude.{option_copied}
 use Rattle.hlc_column.specs.Rows.{rows_of}
-use Rattle.hlc_node.proofs.NewestLemmas.{answer_none}
+use Rattle.hlc_rows.proofs.NewestLemmas.{answer_none}
 use Rattle.hlc_column.proofs.Beside.{answer_there}
 use Rattle.hlc_column.proofs.lanes.Lanes.answer.Goals as goal
 

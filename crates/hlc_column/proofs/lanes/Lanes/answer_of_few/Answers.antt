@@ -1,7 +1,7 @@
 -- The answer is the value of the newest of all rows.
 use Rattle.std.proofs.Common.{Some, None, sym}
 use Rattle.std.specs.Prelude.{option_copied}
-use Rattle.hlc_node.proofs.NewestLemmas.{answer_none}
+use Rattle.hlc_rows.proofs.NewestLemmas.{answer_none}
 use Rattle.hlc_column.specs.Rows.{rows_of}
 use Rattle.hlc_column.proofs.Beside.{answer_there}
 use Rattle.hlc_column.proofs.NewestRow.{placed}

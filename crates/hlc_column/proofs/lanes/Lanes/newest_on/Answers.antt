@@ -1,7 +1,7 @@
 -- The best of all rows is the newest row.
 use Rattle.std.proofs.Common.{◌≡◌, ◌<◌, ℕ, List, length}
 use Rattle.std.specs.Prelude.{IfSome}
-use Rattle.hlc_node.specs.Rows.{newest}
+use Rattle.hlc_rows.specs.Rows.{newest}
 use Rattle.hlc_column.specs.Rows.{rows_of, at_place}
 use Rattle.hlc_column.proofs.NewestRow.{placed}
 use Rattle.hlc_column.proofs.lanes.Lanes.newest_on.Goals as goal

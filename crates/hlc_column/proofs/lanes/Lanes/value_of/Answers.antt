@@ -2,7 +2,7 @@
 use Rattle.std.proofs.Common.{◌<◌, sym, ap, ◌∙◌, subst, length}
 use Rattle.std.specs.Prelude.{option_copied, IfSome}
 use Rattle.hlc_column.specs.Rows.{rows_of, at_place}
-use Rattle.hlc_node.proofs.NewestLemmas.{answer_none}
+use Rattle.hlc_rows.proofs.NewestLemmas.{answer_none}
 use Rattle.hlc_column.proofs.Beside.{answer_there}
 use Rattle.hlc_column.proofs.lanes.Lanes.value_of.Goals as goal
 

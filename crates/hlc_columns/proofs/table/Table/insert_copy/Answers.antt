@@ -2,8 +2,8 @@
 use Rattle.std.proofs.Common.{◌≡◌, ◌∙◌, subst, option_copied}
 use Rattle.std.specs.Prelude.{OnOk, OnErr}
 use Rattle.std.proofs.lemmas.Result.{on_ok_weaker, on_err_weaker}
-use Rattle.hlc_node.specs.declared.row.Row.{Row as ARow}
-use Rattle.hlc_node.specs.Rows.{IsRowSet}
+use Rattle.hlc_rows.specs.declared.row.Row.{Row as ARow}
+use Rattle.hlc_rows.specs.Rows.{IsRowSet}
 use Rattle.hlc_columns.specs.Table.{indexed_rows, Inserted}
 use Rattle.hlc_columns.proofs.Inserted.{inserted-IsPermutation, either-IsRowSet}
 use Rattle.hlc_columns.proofs.table.Table.insert_copy.Goals as goal

@@ -1,8 +1,8 @@
 -- Rows of the key go, or the key has none.
 use Rattle.std.proofs.Common.{◌≡◌, ◌∙◌, List, [], ap, sym, subst, length, arith, take, drop, get_or}
 use Rattle.std.proofs.lemmas.List.{length-map, length-take-le, get_or-map}
-use Rattle.hlc_node.specs.declared.row.Row.{Row}
-use Rattle.hlc_node.specs.Rows.{IsRowSet}
+use Rattle.hlc_rows.specs.declared.row.Row.{Row}
+use Rattle.hlc_rows.specs.Rows.{IsRowSet}
 use Rattle.hlc_index.specs.Entries.{entries_in}
 use Rattle.hlc_column.specs.Rows.{row_of, rows_with}
 use Rattle.hlc_columns.specs.Table.{rows_kept, cells_at}

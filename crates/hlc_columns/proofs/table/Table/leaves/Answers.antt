@@ -2,7 +2,7 @@
 use Rattle.std.proofs.Common.{◌≡◌, ◌<◌, ◌∙◌, List, All, length, map, ap, sym, subst}
 use Rattle.std.proofs.lemmas.List.Elements.{All-map}
 use Rattle.std.proofs.lemmas.Result.{IfOk-weaker}
-use Rattle.hlc_node.specs.Rows.{newest}
+use Rattle.hlc_rows.specs.Rows.{newest}
 use Rattle.hlc_index.specs.Entries.{entries_in}
 use Rattle.hlc_column.specs.Rows.{KeyCells, KeysAscend, AreAlone, rows_in}
 use Rattle.hlc_columns.specs.Table.{columns_in, keyed}

@@ -1,6 +1,6 @@
 -- The stored rows answer at an open snapshot as all accepted writes do.
 use Rattle.std.proofs.Common.{◌≡◌, Some, sym, ap, ◌∙◌, subst, ℕ, List}
-use Rattle.hlc_node.specs.Rows.{answer}
+use Rattle.hlc_rows.specs.Rows.{answer}
 use Rattle.hlc_columns.specs.View.{Seen}
 use Rattle.hlc_core.specs.Past.{stamp_of, writes}
 use Rattle.hlc_snapshot.specs.RegistryView.{stamp_in}

@@ -3,13 +3,13 @@ use Rattle.std.proofs.Common.{◌≡◌, ◌<◌, ◌+◌, ◌++◌, ◌∷◌, 
 use Rattle.std.proofs.Common.{get_or, option_copied, Option, Some, None, Bool, true, set, ap₂, true≢false, rules, arith}
 use Rattle.std.specs.Prelude.{IfSome, MatchOption}
 use Rattle.std.proofs.lemmas.List.{length-map, get_or_default, length-append, length-set}
-use Rattle.hlc_node.specs.Rows.{answer, newest}
+use Rattle.hlc_rows.specs.Rows.{answer, newest}
 use Rattle.hlc_witness.specs.Changes.{answer_at}
 use Rattle.hlc_witness.specs.Cost.{cost_of}
 use Rattle.hlc_clock.specs.Points.{last_point}
 use Rattle.hlc_column.specs.Cells.{Cell}
 use Rattle.hlc_column.specs.Rows.{row_of, rows_of}
-use Rattle.hlc_node.specs.declared.row.Row.{Row}
+use Rattle.hlc_rows.specs.declared.row.Row.{Row}
 use Rattle.hlc_witness.specs.declared.witness.Witness.{Witness}
 use Rattle.hlc_draft.specs.declared.draft.Draft.{Draft}
 use Rattle.hlc_draft.proofs.SoFar.{point_before, AddedSoFar}

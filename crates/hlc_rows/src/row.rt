@@ -1,6 +1,6 @@
 //! What a table stores of a write.
 ghost use Rattle.std.specs.Prelude.{◌≡◌, ◌≤◌, length, option_copied};
-ghost use Rattle.hlc_node.specs.Items.{IsShortValue};
+ghost use Rattle.hlc_rows.specs.Limits.{IsShortValue};
 
 use hlc_bytes::{Bytes, value_slice};
 use hlc_clock::Stamp;

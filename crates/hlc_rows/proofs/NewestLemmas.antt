@@ -6,10 +6,10 @@ use Rattle.std.specs.Prelude.{Contains, option_and_then, if◌then◌else◌}
 use Rattle.std.proofs.lemmas.Bool.{cond-false}
 use Rattle.std.proofs.lemmas.List.{append-nil}
 use Rattle.hlc_values.proofs.MemberLemmas.{Contains-first, Contains-rest}
-use Rattle.hlc_node.specs.declared.row.Row.{Row}
-use Rattle.hlc_node.specs.Rows.{is_candidate, later, newest, answer, IsNewest, IsNoLater, IsRowSet}
-use Rattle.hlc_node.proofs.CandidateLemmas.{other-misses}
-use Rattle.hlc_node.proofs.Newest.{newest-says, newest-from_says, candidate-same}
+use Rattle.hlc_rows.specs.declared.row.Row.{Row}
+use Rattle.hlc_rows.specs.Rows.{is_candidate, later, newest, answer, IsNewest, IsNoLater, IsRowSet}
+use Rattle.hlc_rows.proofs.CandidateLemmas.{other-misses}
+use Rattle.hlc_rows.proofs.Newest.{newest-says, newest-from_says, candidate-same}
 
 -- the newest row of a list is the greatest one
 pub newest_is_greatest : (rows : List Row) (key : List ℕ) (bound : ℕ) (row : Row) → newest rows key bound ≡ Some row

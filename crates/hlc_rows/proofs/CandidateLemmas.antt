@@ -4,8 +4,8 @@ use Rattle.std.specs.Prelude.{nat_le}
 use Rattle.std.specs.Str.{bytes_eq}
 use Rattle.std.proofs.lemmas.Bool.{cases_Bool, and_parts, and_from, leb-true, le-leb}
 use Rattle.std.proofs.lemmas.Slice.Eq.{bytes_eq-Decides}
-use Rattle.hlc_node.specs.declared.row.Row.{Row}
-use Rattle.hlc_node.specs.Rows.{is_candidate}
+use Rattle.hlc_rows.specs.declared.row.Row.{Row}
+use Rattle.hlc_rows.specs.Rows.{is_candidate}
 
 pub candidate_true : (key : List ℕ) (bound : ℕ) (row : Row) → is_candidate key bound row ≡ true
     → (row.key ≡ key) × (row.stamp ≤ bound)

@@ -8,9 +8,9 @@ use Rattle.std.proofs.lemmas.Bool.{cases_Bool, cond-true, cond-false, and_parts,
 use Rattle.std.proofs.lemmas.Bool.{ltb-true, lt-ltb, eqb-true, eq-eqb, both_ways, cases_lt, cases_order, or_left}
 use Rattle.std.proofs.lemmas.Bool.{or_right}
 use Rattle.hlc_values.proofs.MemberLemmas.{Contains-none, Contains-first, Contains-rest, Contains-cons_cases}
-use Rattle.hlc_node.specs.declared.row.Row.{Row}
-use Rattle.hlc_node.specs.Rows.{is_candidate, is_before, later, newest, IsNoLater, IsNewest, IsSameVersion, IsRowSet}
-use Rattle.hlc_node.proofs.CandidateLemmas.{candidate_true, candidate_from}
+use Rattle.hlc_rows.specs.declared.row.Row.{Row}
+use Rattle.hlc_rows.specs.Rows.{is_candidate, is_before, later, newest, IsNoLater, IsNewest, IsSameVersion, IsRowSet}
+use Rattle.hlc_rows.proofs.CandidateLemmas.{candidate_true, candidate_from}
 
 -- a row that the test puts before another is no later than it
 before-true : (a b : Row) → is_before a b ≡ true → IsNoLater a b

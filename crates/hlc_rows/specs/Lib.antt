@@ -1,0 +1,4 @@
+pub mod Limits
+pub mod Faults
+pub mod Rows
+pub mod Writes

@@ -1,0 +1,46 @@
+-- Several writes that have one stamp, and the rows that they make.
+use Rattle.std.specs.Prelude.{ℕ, List, [], ◌∷◌, length, map, Bool, false, ◌==◌, ◌||◌, nat_lt, Option, Some, None}
+use Rattle.std.specs.Prelude.{if◌then◌else◌}
+use Rattle.std.specs.Str.{bytes_eq}
+use Rattle.hlc_rows.specs.declared.limits.BodyFault.{BodyFault}
+use Rattle.hlc_rows.specs.declared.limits.BodyFault.TheVariants.{NoWrites, TooManyWrites, KeyTwice}
+use Rattle.hlc_rows.specs.declared.limits.TheConstants.{MOST_WRITES}
+use Rattle.hlc_rows.specs.declared.row.Row.{Row}
+use Rattle.hlc_rows.specs.declared.write.Write.{Write}
+use Rattle.hlc_rows.specs.Limits.{write_refusal}
+
+-- one of the writes is of this key
+abbrev pub writes_key : List ℕ → List Write → Bool
+writes_key key [] = false
+writes_key key (write ∷ writes) = bytes_eq write.key key || writes_key key writes
+
+-- two of the writes are of one key
+abbrev pub writes_twice : List Write → Bool
+writes_twice [] = false
+writes_twice (write ∷ writes) = writes_key write.key writes || writes_twice writes
+
+-- the first of two reasons
+abbrev pub first_of : Option BodyFault → Option BodyFault → Option BodyFault
+first_of None second = second
+first_of (Some fault) second = Some fault
+
+-- the first reason to refuse one of the writes by itself
+abbrev pub writes_refusal : List Write → Option BodyFault
+writes_refusal [] = None
+writes_refusal (write ∷ writes) = first_of (write_refusal write.key write.value) (writes_refusal writes)
+
+-- the first reason to refuse the writes of a batch: there are none; there are more than 256; two are of one key; one is
+-- refused by itself
+abbrev pub batch_refusal : List Write → Option BodyFault
+batch_refusal writes =
+    if length writes == 0 then Some NoWrites
+    else if nat_lt MOST_WRITES (length writes) then Some TooManyWrites
+    else if writes_twice writes then Some KeyTwice else writes_refusal writes
+
+-- the row of a write by this node at this stamp
+abbrev pub row_written : ℕ → ℕ → Write → Row
+row_written node stamp write = record { key = write.key; stamp = stamp; node = node; value = write.value }
+
+-- the rows of the writes by this node at this stamp, in their order
+abbrev pub rows_written : ℕ → ℕ → List Write → List Row
+rows_written node stamp writes = map (row_written node stamp) writes

@@ -1,0 +1,20 @@
+//! Stored rows, the row that answers a read, and the writes that make rows.
+#![tactic(auto)]
+
+mod exact;
+mod laws;
+mod limits;
+mod row;
+mod write;
+
+pub use hlc_bytes::{Bytes, MOST_SHORT_BYTES, ValueOrMark, most_short_bytes_are_30, value_slice};
+pub use hlc_clock::Stamp;
+pub use laws::{
+    newest_is_greatest, newest_is_unique, newest_stays, no_newest_no_row, other_keys_do_not_count,
+};
+pub use limits::{
+    BodyFault, MOST_KEY_BYTES, MOST_VALUE_BYTES, MOST_WRITES, most_key_bytes_are_255,
+    most_value_bytes_are_65535, most_writes_are_256, write_fault,
+};
+pub use row::Row;
+pub use write::{Write, batch_fault};
