@@ -4,7 +4,7 @@ use Rattle.std.specs.Prelude.{Some, None, if◌then◌else◌, Result, Ok, Err, 
 use Rattle.hlc_rows.specs.declared.row.Row.{Row}
 use Rattle.hlc_node.specs.declared.item.Item.{Item}
 use Rattle.hlc_node.specs.declared.item.Body.{Body}
-use Rattle.hlc_node.specs.declared.item.Body.TheVariants.{Write, Report, Retire}
+use Rattle.hlc_node.specs.declared.item.Body.TheVariants.{Write, Batch, Report, Retire}
 use Rattle.hlc_events.specs.declared.fault.CoreFault.{CoreFault}
 use Rattle.hlc_events.specs.declared.fault.CoreFault.TheVariants.{NoMemory, NoNode, NoSnapshot}
 use Rattle.hlc_events.specs.declared.fault.NoNode.{NoNode as NoSuchNode}
@@ -39,9 +39,10 @@ abbrev pub Makes : ℕ → Result StoreView CoreFault → Type 0
 Makes count (Ok core) = (new_refusal count ≡ None) × (nodes core ≡ count) × Represents core []
 Makes count (Err fault) = IsRefusal (new_refusal count) ⊤ fault
 
--- a write or a deletion: only these need a row
+-- a write, a deletion or a batch of them: only these need rows
 abbrev pub IsWrite : Body → Type 0
 IsWrite (Write key value) = ⊤
+IsWrite (Batch writes) = ⊤
 IsWrite Report = ⊥
 IsWrite Retire = ⊥
 

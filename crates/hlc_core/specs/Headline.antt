@@ -1,9 +1,10 @@
 -- What is promised of a whole history: each read, each vacuum and each part of one, against everything that was
 -- accepted before it, whatever vacuums dropped.
-use Rattle.std.specs.Prelude.{◌≡◌, ℕ, ◌≤◌, List, ◌∷◌, ◌++◌, length, Option, Some, None}
+use Rattle.std.specs.Prelude.{◌≡◌, ℕ, ◌≤◌, ⊥, ◌⊎◌, List, ◌∷◌, ◌++◌, Contains, length, Option, Some, None}
 use Rattle.hlc_columns.specs.Answers.{in_part}
 use Rattle.hlc_rows.specs.declared.row.Row.{Row}
-use Rattle.hlc_rows.specs.Rows.{answer, IsRowSet}
+use Rattle.hlc_rows.specs.Rows.{answer, newest, IsNoLater, IsRowSet}
+use Rattle.hlc_node.specs.declared.item.Item.{Item}
 use Rattle.hlc_witness.specs.Fewest.{Alike}
 use Rattle.hlc_witness.specs.Cost.{rows_cost}
 use Rattle.hlc_draft.specs.declared.report.Report.{Report}
@@ -13,7 +14,7 @@ use Rattle.hlc_events.specs.declared.event.CoreEvent.TheVariants.{VacuumPart}
 use Rattle.hlc_core.specs.declared.listing.Pair.{Pair}
 use Rattle.hlc_core.specs.declared.reply.CoreReply.{CoreReply}
 use Rattle.hlc_core.specs.declared.reply.CoreReply.TheVariants.{Answer, Listing, Vacuumed, VacuumedPart}
-use Rattle.hlc_core.specs.Past.{Step, floor, stamp_of, writes}
+use Rattle.hlc_core.specs.Past.{Step, Took, floor, stamp_of, item_rows, writes}
 use Rattle.hlc_core.specs.Stored.{IsReport, LeavesFewest}
 use Rattle.hlc_core.specs.Parts.{IsPartReport, rows_of_keys}
 use Rattle.hlc_core.specs.History.{past_of}
@@ -40,6 +41,21 @@ pub record SnapshotsStay (history : List (CoreEvent × CoreReply)) : Type 0 wher
   pub listings : (before between : List (CoreEvent × CoreReply)) (id : ℕ) (listing again : List Pair)
       → IsMoment history ((ListAll id, Listing again) ∷ (between ++ ((ListAll id, Listing listing) ∷ before)))
       → again ≡ listing
+
+-- a reader at this stamp sees each of these rows or a later one of its key, or none of them and no later one
+abbrev pub AreSeenWhole : List Row → ℕ → List Row → Type 0
+AreSeenWhole all stamp rows =
+    ((row : Row) → Contains rows row → (seen : Row) × (newest all row.key stamp ≡ Some seen) × IsNoLater row seen)
+    ⊎ ((row seen : Row) → Contains rows row → newest all row.key stamp ≡ Some seen → IsNoLater row seen → ⊥)
+
+-- each snapshot shows, of each item accepted so far, all its writes or later ones of their keys, or none of them
+abbrev pub SnapshotsShowWhole : List (CoreEvent × CoreReply) → Type 0
+SnapshotsShowWhole history =
+    (before : List (CoreEvent × CoreReply)) (id stamp : ℕ) (item : Item)
+    → IsMoment history before
+    → stamp_of id (past_of before) ≡ Some stamp
+    → Contains (past_of before) (Took item)
+    → AreSeenWhole (writes (past_of before)) stamp (item_rows item)
 
 -- the stamp up to which an event asks to vacuum, if it does
 abbrev pub vacuum_stamp : ℕ → List Step → CoreEvent → Option ℕ
@@ -100,6 +116,7 @@ FewestAreLeftByParts history rows =
 pub record IsFaithful (nodes : ℕ) (history : List (CoreEvent × CoreReply)) (rows : List Row) : Type 0 where
   pub reads : ReadsAreNewest history
   pub stays : SnapshotsStay history
+  pub whole : SnapshotsShowWhole history
   pub vacuums : VacuumsAreFewest nodes history
   pub bytes : VacuumsAreCheapest history
   pub fewest : FewestAreLeft history rows

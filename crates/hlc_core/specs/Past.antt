@@ -4,8 +4,9 @@ use Rattle.std.specs.Prelude.{nat_lt, Option, Some, None, if◌then◌else◌, �
 use Rattle.hlc_node.specs.declared.item.Item.{Item}
 use Rattle.hlc_rows.specs.declared.row.Row.{Row}
 use Rattle.hlc_node.specs.declared.item.Body.{Body}
-use Rattle.hlc_node.specs.declared.item.Body.TheVariants.{Write, Report, Retire}
+use Rattle.hlc_node.specs.declared.item.Body.TheVariants.{Write, Batch, Report, Retire}
 use Rattle.hlc_rows.specs.declared.limits.BodyFault.{BodyFault}
+use Rattle.hlc_rows.specs.Writes.{rows_written}
 use Rattle.hlc_node.specs.Items.{body_refusal, retires}
 use Rattle.hlc_heads.specs.Low.{low}
 use Rattle.hlc_heads.specs.declared.heads.TheConstants.{MOST_NUMBERS}
@@ -97,13 +98,14 @@ trimmed (Vacuumed at ∷ past) = 0
 trimmed (Trimmed at dropped ∷ past) = dropped + trimmed past
 trimmed (_ ∷ past) = trimmed past
 
--- the row of the body of an item with this node and stamp
+-- the rows of the body of an item with this node and stamp: all of them have this stamp
 abbrev pub body_rows : ℕ → ℕ → Body → List Row
 body_rows node stamp (Write key value) = record { key = key; stamp = stamp; node = node; value = value } ∷ []
+body_rows node stamp (Batch writes) = rows_written node stamp writes
 body_rows node stamp Report = []
 body_rows node stamp Retire = []
 
--- the row of an item, if it is a write
+-- the rows of an item: one of a write, one of each write of a batch, none of others
 abbrev pub item_rows : Item → List Row
 item_rows item = body_rows item.node item.stamp item.body
 
