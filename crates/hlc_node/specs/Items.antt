@@ -1,5 +1,5 @@
 -- An item, and what its body may be.
-use Rattle.std.specs.Prelude.{ℕ, ◌≤◌, ⊤, ⊥, Bool, true, false, length, Option, None}
+use Rattle.std.specs.Prelude.{ℕ, ◌≤◌, ⊤, Bool, true, false, length, Option, None}
 use Rattle.hlc_rows.specs.declared.limits.BodyFault.{BodyFault}
 use Rattle.hlc_rows.specs.Limits.{write_refusal, IsShortValue}
 use Rattle.hlc_rows.specs.Writes.{batch_refusal}

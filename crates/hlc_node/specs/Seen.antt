@@ -3,7 +3,7 @@ use Rattle.std.specs.Prelude.{◌≡◌, ◌⊎◌, option_copied}
 use Rattle.hlc_node.specs.declared.item.Body.{Body}
 use Rattle.hlc_node.specs.declared.item.Body.TheVariants as a_body
 use Rattle.hlc_node.specs.declared.item_ref.BodyRef.{BodyRef}
-use Rattle.hlc_node.specs.declared.item_ref.BodyRef.TheVariants.{Write, Batch, Report, Retire}
+use Rattle.hlc_node.specs.declared.item_ref.BodyRef.TheVariants.{Write, Batch, OwnBatch, Report, Retire}
 use Rattle.hlc_node.specs.declared.item_ref.Content.{Content}
 use Rattle.hlc_node.specs.declared.item_ref.Content.TheVariants.{Nothing, One, Many}
 
@@ -11,6 +11,7 @@ use Rattle.hlc_node.specs.declared.item_ref.Content.TheVariants.{Nothing, One, M
 abbrev pub body_seen : BodyRef → Body
 body_seen (Write key value) = a_body.Write key.now (option_copied value)
 body_seen (Batch writes) = a_body.Batch writes.now
+body_seen (OwnBatch writes) = a_body.Batch writes
 body_seen Report = a_body.Report
 body_seen Retire = a_body.Retire
 

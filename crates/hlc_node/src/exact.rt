@@ -3,6 +3,7 @@ ghost use Rattle.std.proofs.Common.{rules};
 ghost use Rattle.std.proofs.lemmas.Grind.{common_steps};
 ghost use Rattle.std.specs.Prelude.{◌≡◌, ◌↔◌, IsTrue, List};
 ghost use Rattle.std.specs.Cmp.Lexicographic.{pointwise_decides};
+ghost use Rattle.hlc_rows.specs.contracts.exact.WriteExact.TheImpl.Laws.{equal-law as write_equal};
 ghost use Rattle.hlc_rows.specs.declared.write.Write.{Write as AWrite};
 
 use crate::item::{Body, Item, Message};
@@ -12,7 +13,7 @@ use hlc_values::{Exact, Listed};
 
 impl Exact for Body {
     ghost equal = { let writes : (x y : List AWrite) → IsTrue (⟦<Listed<Write> as PartialEq>⟧.eq x y) ↔ (x ≡ y)
-        = pointwise_decides ⟦<Write as Exact>⟧.equal in
+        = pointwise_decides write_equal in
         Prim.search (rules, common_steps, writes) };
 
     ghost copied = { Prim.search rules };
@@ -20,7 +21,7 @@ impl Exact for Body {
 
 impl Exact for Item {
     ghost equal = { let writes : (x y : List AWrite) → IsTrue (⟦<Listed<Write> as PartialEq>⟧.eq x y) ↔ (x ≡ y)
-        = pointwise_decides ⟦<Write as Exact>⟧.equal in
+        = pointwise_decides write_equal in
         Prim.search (rules, common_steps, writes) };
 
     ghost copied = { Prim.search rules };

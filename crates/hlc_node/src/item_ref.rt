@@ -6,6 +6,7 @@ ghost use Rattle.hlc_node.specs.declared.item.Body.TheVariants as body;
 
 use hlc_clock::Stamp;
 use hlc_rows::{BodyFault, Write, batch_fault, write_fault};
+use hlc_values::Listed;
 use std::marker::Model;
 
 /// The content of a write: a key with a value, or with a deletion mark.
@@ -34,11 +35,13 @@ pub(crate) enum BodyRef<'a> {
         value: Option<&'a [u8]>,
     },
     Batch(&'a [Write]),
+    OwnBatch(Listed<Write>),
     Report,
     Retire,
 }
 
-/// An item that borrows its keys and values, so making one needs no memory. In contracts it is the item.
+/// An item that borrows its keys and values, so making one needs no memory; a batch may also have writes of its own. In
+/// contracts it is the item.
 #[derive(Debug, Drop)]
 pub struct ItemRef<'a> {
     node: u16,
@@ -87,6 +90,24 @@ impl<'a> ItemRef<'a> {
             number,
             stamp,
             body: BodyRef::Batch(writes),
+        }
+    }
+
+    /// Returns the writes of these keys, which it owns, all at the item's stamp.
+    #[inline]
+    pub fn own_batch(
+        node: u16,
+        number: u64,
+        stamp: Stamp,
+        writes: Listed<Write>,
+    ) -> ItemRef<'a>
+        ensures { result ≡ an_item node number stamp (body.Batch writes) }
+    {
+        ItemRef {
+            node,
+            number,
+            stamp,
+            body: BodyRef::OwnBatch(writes),
         }
     }
 
@@ -150,12 +171,13 @@ impl<'a> ItemRef<'a> {
 
     /// Returns what the item writes.
     #[inline]
-    pub fn content(&self) -> Content<'a>
+    pub fn content(&self) -> Content<'_>
         ensures { IsContent result self.now.body }
     {
         match &self.body {
             BodyRef::Write { key, value } => Content::One(Written { key, value: *value }),
             BodyRef::Batch(writes) => Content::Many(writes),
+            BodyRef::OwnBatch(writes) => Content::Many(writes.as_slice()),
             BodyRef::Report | BodyRef::Retire => Content::Nothing,
         }
     }
@@ -168,6 +190,7 @@ impl<'a> ItemRef<'a> {
         match &self.body {
             BodyRef::Write { key, value } => write_fault(key, *value),
             BodyRef::Batch(writes) => batch_fault(writes),
+            BodyRef::OwnBatch(writes) => batch_fault(writes.as_slice()),
             BodyRef::Report | BodyRef::Retire => None,
         }
     }

@@ -4,16 +4,18 @@ use Rattle.std.proofs.Common.{Ok, Err, refl, sym, ap, subst, ◌∙◌, append_a
 use Rattle.std.proofs.Common.{length-append}
 use Rattle.std.specs.Prelude.{IfOk, IsOk}
 use Rattle.std.specs.Int.{w16, w64, to_be_bytes}
-use Rattle.hlc_node.specs.Items.{an_item}
+use Rattle.hlc_node.specs.Items.{an_item, body_refusal}
 use Rattle.hlc_node.specs.declared.item.Item.{Item}
 use Rattle.hlc_node.specs.declared.item.Message.{Message}
 use Rattle.hlc_node.specs.declared.item.Body.{Body}
-use Rattle.hlc_node.specs.declared.item.Body.TheVariants.{Write, Report, Retire}
+use Rattle.hlc_node.specs.declared.item.Body.TheVariants.{Write, Batch, Report, Retire}
 use Rattle.hlc_wire.specs.declared.fault.WireFault.{WireFault}
 use Rattle.hlc_wire.specs.declared.fault.DecodeError.{DecodeError}
 use Rattle.hlc_wire.specs.Spelling.{key_bytes, value_bytes, body_bytes, item_bytes, message_bytes}
-use Rattle.hlc_wire.specs.Spelling.{BodyFits, ItemFits, MessageFits}
-use Rattle.hlc_wire.specs.Reading.{◌>>=◌, Gives, number_at, key_at, value_at, body_at, item_rest_at, item_at}
+use Rattle.hlc_wire.specs.Spelling.{BodyFits, ItemFits, MessageFits, batch_bytes, most_bytes}
+use Rattle.hlc_wire.proofs.BatchLemmas.{batch_reader, batch_fits, write_fits, writes_length}
+use Rattle.hlc_wire.specs.Reading.{◌>>=◌, Gives, number_at, key_at, value_at, batch_at, body_at}
+use Rattle.hlc_wire.specs.Reading.{item_rest_at, item_at}
 use Rattle.hlc_wire.specs.Reading.{message_rest_at, message_at, whole}
 use Rattle.hlc_wire.proofs.FieldLemmas.{IsBytes, IsBytes-rest, bind_ok, done, ok_is, Takes, Takes-then, Takes-cons, IsReader}
 use Rattle.hlc_wire.proofs.FieldLemmas.{wide16, wide64, number_reader, key_reader, value_reader, whole_takes}
@@ -43,12 +45,19 @@ body_takes (suc zero ∷ bytes) x fits e =
 body_takes (suc (suc zero) ∷ bytes) x fits e =
     subst (λ (y : Body × List ℕ). Takes (2 ∷ bytes) (body_bytes y.0) y.1 × BodyFits y.0) (ok_is (Retire, bytes) x e)
     (record { parts = refl; rest_fits = IsBytes-rest 2 bytes fits }, tt)
-body_takes (suc (suc (suc b)) ∷ bytes) x fits e = absurd cc
+body_takes (suc (suc (suc zero)) ∷ bytes) x fits e =
+    let a = bind_ok (batch_at bytes) (λ writes. Ok (Batch writes.0, writes.1)) x e in
+    let t = batch_reader.takes bytes a.0 (IsBytes-rest 3 bytes fits) a.1 in
+    subst (λ (y : Body × List ℕ). Takes (3 ∷ bytes) (body_bytes y.0) y.1 × BodyFits y.0)
+    (ok_is (Batch a.0.0, a.0.1) x a.2)
+    (Takes-cons 3 bytes (batch_bytes a.0.0) a.0.1 t.0, t.1)
+body_takes (suc (suc (suc (suc b))) ∷ bytes) x fits e = absurd cc
 
 body_again : (body : Body) (rest : List ℕ) → BodyFits body → body_at (body_bytes body ++ rest) ≡ Ok (body, rest)
 unfolding body_at
 body_again Report rest h = refl
 body_again Retire rest h = refl
+body_again (Batch writes) rest h = rw (batch_reader.again writes rest h) refl
 body_again (Write key value) rest h =
     let regrouped : (key_bytes key ++ value_bytes value) ++ rest ≡ key_bytes key ++ (value_bytes value ++ rest) =
     append_assoc (key_bytes key) (value_bytes value) rest in
@@ -57,6 +66,13 @@ body_again (Write key value) rest h =
 
 pub body_reader : IsReader body_at body_bytes BodyFits
 body_reader = record { takes = body_takes; again = body_again }
+
+-- a body that is not refused has an encoding
+pub body_fits : (body : Body) → body_refusal body ≡ None → BodyFits body
+body_fits (Write key value) h = write_fits key value h
+body_fits (Batch writes) h = batch_fits writes h
+body_fits Report h = tt
+body_fits Retire h = tt
 
 -- an item after its version
 abbrev item_rest : Item → List ℕ
@@ -199,9 +215,11 @@ message_written old one both new message first second third =
 
 -- ---- the number of bytes
 
-body_length : (body : Body) → BodyFits body → length (body_bytes body) ≤ 65795
+body_length : (body : Body) → BodyFits body → length (body_bytes body) + 19 ≤ most_bytes body
 body_length Report fits = omega arith
 body_length Retire fits = omega arith
+body_length (Batch writes) fits =
+    omega (arith, fits.1, writes_length writes fits.2)
 body_length (Write key None) fits =
     let k : length key < 256 = fits.0.1 in
     let e : length (key_bytes key ++ value_bytes None) ≡ length (key_bytes key) + 1 =
@@ -217,10 +235,10 @@ body_length (Write key (Some value)) fits =
     length-append (to_be_bytes w16 (length value)) value in
     omega arith
 
--- an item that fits has at most 65,814 bytes
-pub item_length : (item : Item) → ItemFits item → length (item_bytes item) ≤ 65814
+-- an item that fits has at most 65,814 bytes, and one of a batch at most 16,843,285
+pub item_length : (item : Item) → ItemFits item → length (item_bytes item) ≤ most_bytes item.body
 item_length item fits =
-    let d : length (body_bytes item.body) ≤ 65795 = body_length item.body fits.body in
+    let d : length (body_bytes item.body) + 19 ≤ most_bytes item.body = body_length item.body fits.body in
     let rest : List ℕ = to_be_bytes w64 item.stamp ++ body_bytes item.body in
     omega arith
 

@@ -1,3 +1,4 @@
+pub mod BatchLemmas
 pub mod FieldLemmas
 pub mod ItemLemmas
 pub mod SteadyLemmas

@@ -7,13 +7,15 @@ use Rattle.std.specs.Int.{Width, w16, w64, byte_len, from_be_bytes}
 use Rattle.std.proofs.lemmas.Bool.{ltb-false, le-ltb}
 use Rattle.std.proofs.lemmas.List.{take-append-le, drop-append-le, append-nil, nil_from_length}
 use Rattle.hlc_node.specs.Items.{an_item}
-use Rattle.hlc_node.specs.declared.item.Body.TheVariants.{Write, Report, Retire}
+use Rattle.hlc_node.specs.declared.item.Body.TheVariants.{Write, Batch, Report, Retire}
 use Rattle.hlc_wire.specs.declared.fault.WireFault.{WireFault}
 use Rattle.hlc_wire.specs.declared.fault.WireFault.TheVariants.{Short, Version, Kind, EmptyKey, Flag, Trailing, Damaged}
 use Rattle.hlc_wire.specs.Reading.{◌>>=◌, byte_at, number_at, bytes_at, flag_at, key_at, value_at, body_at}
+use Rattle.hlc_wire.specs.Reading.{write_at, writes_at, batch_at}
 use Rattle.hlc_wire.specs.Reading.{item_rest_at, item_at, message_rest_at, message_at}
 use Rattle.hlc_wire.proofs.FieldLemmas.{bind_ok, guard_ok, done, ok_is, IsReader}
 use Rattle.hlc_wire.proofs.ItemLemmas.{a_message}
+use Rattle.hlc_wire.proofs.BatchLemmas.{a_write}
 
 pub record IsSteady {A : Type 0} (read : List ℕ → Result (A × List ℕ) WireFault) : Type 0 where
   pub more : (bytes after : List ℕ) (x : A × List ℕ) → read bytes ≡ Ok x
@@ -184,12 +186,30 @@ value_steady = steady_head value_at refl value_each
 
 -- ---- items and messages
 
+write_steady : IsSteady write_at
+write_steady = steady_then _ key_steady (λ key. steady_then _ value_steady (λ value. steady_done (a_write key value)))
+
+writes_steady : (count : ℕ) → IsSteady (writes_at count)
+unfolding writes_at
+writes_steady zero = steady_done []
+writes_steady (suc count) =
+    steady_then _ write_steady (λ write. steady_then _ (writes_steady count) (λ writes. steady_done (write ∷ writes)))
+
+batch_each : (b : ℕ) → IsSteady (λ (rest : List ℕ). batch_at (b ∷ rest))
+unfolding batch_at
+batch_each b = writes_steady (suc b)
+
+batch_steady : IsSteady batch_at
+unfolding batch_at
+batch_steady = steady_head batch_at refl batch_each
+
 body_each : (b : ℕ) → IsSteady (λ (rest : List ℕ). body_at (b ∷ rest))
 unfolding body_at
 body_each zero = steady_then _ key_steady (λ key. steady_then _ value_steady (λ value. steady_done (Write key value)))
 body_each (suc zero) = steady_done Report
 body_each (suc (suc zero)) = steady_done Retire
-body_each (suc (suc (suc b))) = steady_fail Kind
+body_each (suc (suc (suc zero))) = steady_then _ batch_steady (λ writes. steady_done (Batch writes))
+body_each (suc (suc (suc (suc b)))) = steady_fail Kind
 
 pub body_steady : IsSteady body_at
 unfolding body_at

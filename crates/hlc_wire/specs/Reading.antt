@@ -1,11 +1,13 @@
 -- Reading from left to right, up to the first fault.
-use Rattle.std.specs.Prelude.{◌≡◌, ℕ, zero, suc, Bool, true, false, List, [], ◌∷◌, length, take, drop}
-use Rattle.std.specs.Prelude.{Option, Some, None, Result, Ok, Err, nat_lt, ◌==◌, if◌then◌else◌}
+use Rattle.std.specs.Prelude.{◌≡◌, ◌⊎◌, ℕ, zero, suc, slice_get, Bool, true, false, List, [], ◌∷◌, ◌++◌}
+use Rattle.std.specs.Prelude.{length, take, drop}
+use Rattle.std.specs.Prelude.{IsOk, Option, Some, None, Result, Ok, Err, nat_lt, ◌==◌, if◌then◌else◌}
 use Rattle.std.specs.Int.{Width, w16, w64, byte_len, from_be_bytes}
 use Rattle.hlc_node.specs.declared.item.Item.{Item}
 use Rattle.hlc_node.specs.declared.item.Message.{Message}
 use Rattle.hlc_node.specs.declared.item.Body.{Body}
-use Rattle.hlc_node.specs.declared.item.Body.TheVariants.{Write, Report, Retire}
+use Rattle.hlc_node.specs.declared.item.Body.TheVariants.{Write as a_write, Batch, Report, Retire}
+use Rattle.hlc_rows.specs.declared.write.Write.{Write}
 use Rattle.hlc_wire.specs.declared.fault.WireFault.{WireFault}
 use Rattle.hlc_wire.specs.declared.fault.WireFault.TheVariants.{Short, Version, Kind, EmptyKey, Flag, Trailing}
 use Rattle.hlc_wire.specs.declared.fault.DecodeError.{DecodeError}
@@ -65,16 +67,45 @@ value_at (suc zero ∷ rest) = do
   Ok (Some value.0, value.1)
 value_at (suc (suc b) ∷ rest) = Err Flag
 
+-- a write of a batch
+abbrev pub write_at : List ℕ → Result (Write × List ℕ) WireFault
+write_at bytes = do
+  key ← key_at bytes
+  value ← value_at key.1
+  Ok (record { key = key.0; value = value.0 }, value.1)
+
+-- so many writes
+unfoldable pub writes_at : ℕ → List ℕ → Result (List Write × List ℕ) WireFault
+writes_at zero bytes = Ok ([], bytes)
+writes_at (suc count) bytes = do
+  write ← write_at bytes
+  writes ← writes_at count write.1
+  Ok (write.0 ∷ writes.0, writes.1)
+
+-- so many writes after others
+abbrev pub writes_after : List Write → ℕ → List ℕ → Result (List Write × List ℕ) WireFault
+writes_after others count bytes = do
+  writes ← writes_at count bytes
+  Ok (others ++ writes.0, writes.1)
+
+-- a batch: one less than the number of its writes, and the writes
+unfoldable pub batch_at : List ℕ → Result (List Write × List ℕ) WireFault
+batch_at [] = Err Short
+batch_at (count ∷ rest) = writes_at (suc count) rest
+
 -- the body of an item
 unfoldable pub body_at : List ℕ → Result (Body × List ℕ) WireFault
 body_at [] = Err Short
 body_at (zero ∷ rest) = do
   key ← key_at rest
   value ← value_at key.1
-  Ok (Write key.0 value.0, value.1)
+  Ok (a_write key.0 value.0, value.1)
 body_at (suc zero ∷ rest) = Ok (Report, rest)
 body_at (suc (suc zero) ∷ rest) = Ok (Retire, rest)
-body_at (suc (suc (suc b)) ∷ rest) = Err Kind
+body_at (suc (suc (suc zero)) ∷ rest) = do
+  writes ← batch_at rest
+  Ok (Batch writes.0, writes.1)
+body_at (suc (suc (suc (suc b))) ∷ rest) = Err Kind
 
 -- the body of an item that has these numbers
 abbrev pub numbered_at : ℕ → ℕ → ℕ → List ℕ → Result (Item × List ℕ) WireFault
@@ -114,3 +145,8 @@ message_at (suc (suc b) ∷ rest) = Err Version
 -- all of the bytes
 abbrev pub whole : {A : Type 0} → Result (A × List ℕ) WireFault → Result A WireFault
 whole read = read >>= λ x. if length x.1 == 0 then Ok x.0 else Err Trailing
+
+-- where memory may run out: for a write, byte 19 being the kind of an item, if these are all bytes of one; or for a batch
+abbrev pub MemoryRanOut : List ℕ → Type 0
+MemoryRanOut bytes =
+    ((slice_get bytes 19 ≡ Some 0) × IsOk (whole (item_at bytes))) ⊎ (slice_get bytes 19 ≡ Some 3)

@@ -3,32 +3,41 @@ ghost use Rattle.std.specs.Prelude.{◌≡◌, ◌≤◌, length, slice_get, IfO
 ghost use Rattle.std.specs.Prelude.{Ok, None, Some, IsSome, MatchResult};
 ghost use Rattle.hlc_node.specs.Items.{body_refusal, IsShort};
 ghost use Rattle.hlc_node.specs.declared.item.Item.{Item as AnItem};
-ghost use Rattle.hlc_wire.specs.Spelling.{item_bytes, ItemFits};
+ghost use Rattle.hlc_wire.specs.Spelling.{item_bytes, most_bytes, ItemFits};
 ghost use Rattle.hlc_wire.specs.Placing.{PutsFront};
-ghost use Rattle.hlc_wire.specs.Reading.{Gives, item_at, item_rest_at, numbered_at, whole};
+ghost use Rattle.hlc_wire.specs.Reading.{Gives, item_at, item_rest_at, numbered_at, whole, MemoryRanOut};
 ghost use Rattle.hlc_wire.specs.Refusal.{IsRefusal};
 
+use crate::batch::{batch_at, write_size, writes_size};
 use crate::fault::{DecodeError, EncodeError, WireFault};
 use crate::fields::{copy_value, key_slice_at, u16_at, u64_at, value_slice_at};
 use crate::placing::{put_body, put_bytes, put_numbers};
 use hlc_clock::Stamp;
-use hlc_node::{Body, BodyFault, Bytes, Item, ItemRef};
-use hlc_values::NoMemory;
+use hlc_node::{Body, BodyFault, Bytes, Content, Item, ItemRef};
+use hlc_values::{Listed, NoMemory};
 use std::alloc::Global;
 
-/// The maximum number of bytes of an item.
+/// The maximum number of bytes of an item that is no batch.
 pub const MOST_ITEM_BYTES: usize = 65_814;
 
-/// An item has at most 65,814 bytes: 1 of version, 2 of node, 8 of number, 8 of stamp, 1 of kind,
+/// The maximum number of bytes of an item.
+pub const MOST_BATCH_BYTES: usize = 16_843_285;
+
+/// An item of one write has at most 65,814 bytes: 1 of version, 2 of node, 8 of number, 8 of stamp, 1 of kind,
 /// 1 and at most 255 of key, 1 and 2 and at most 65,535 of value.
 pub fn most_item_bytes_are_65814()
     ensures { MOST_ITEM_BYTES ≡ 65814 }
 {}
 
+/// An item of a batch has at most 16,843,285 bytes: 20 up to the kind, 1 of count, and at most 256 writes of 65,794.
+pub fn most_batch_bytes_are_16843285()
+    ensures { MOST_BATCH_BYTES ≡ 16843285 }
+{}
+
 /// Reads the item from its encoding, which is all of the bytes.
 ///
 /// The error is the first fault from the left; or, if there is none, that memory ran out for the copy of a write's key
-/// or value.
+/// or value. Memory for a batch may run out before a fault further right is seen.
 pub fn decode_item(alloc: Global, bytes: &[u8]) -> Result<Item, DecodeError>
     // The bytes are the encoding of the item that is read.
     ensures found { IfOk result (λ item. ItemFits item × (bytes.now ≡ item_bytes item)) }
@@ -37,9 +46,8 @@ pub fn decode_item(alloc: Global, bytes: &[u8]) -> Result<Item, DecodeError>
         → Gives (λ item. item) result (Ok item) }
     // The fault is exactly this one.
     ensures exact { Gives (λ item. item) result (whole (item_at bytes.now)) }
-    // Only a write needs memory, byte 19 being the kind of the item, and only if there is no fault.
-    ensures memory { IsErrOf result DecodeError.NoMemory
-        → (slice_get bytes.now 19 ≡ Some 0) × IsOk (whole (item_at bytes.now)) }
+    // Only a write needs memory, byte 19 being the kind of the item, and only if there is no fault; or a batch.
+    ensures memory { IsErrOf result DecodeError.NoMemory → MemoryRanOut bytes.now }
 {
     all(alloc, bytes)
 }
@@ -47,10 +55,9 @@ pub fn decode_item(alloc: Global, bytes: &[u8]) -> Result<Item, DecodeError>
 /// Reads an item from all of the bytes.
 fn all(alloc: Global, bytes: &[u8]) -> Result<Item, DecodeError>
     ensures read { Gives (λ item. item) result (whole (item_at bytes.now)) }
-    ensures memory { IsErrOf result DecodeError.NoMemory
-        → (slice_get bytes.now 19 ≡ Some 0) × IsOk (whole (item_at bytes.now)) }
+    ensures memory { IsErrOf result DecodeError.NoMemory → MemoryRanOut bytes.now }
 {
-    let (item, rest) = item_ref_at(bytes)?;
+    let (item, rest) = item_ref_at(alloc, bytes)?;
     if !rest.is_empty() {
         return Err(DecodeError::Fault(WireFault::Trailing));
     }
@@ -58,12 +65,12 @@ fn all(alloc: Global, bytes: &[u8]) -> Result<Item, DecodeError>
     Ok(copy)
 }
 
-/// Returns the one encoding of an item, of at most `MOST_ITEM_BYTES` bytes.
+/// Returns the one encoding of an item, of at most `MOST_ITEM_BYTES` bytes, or `MOST_BATCH_BYTES` for a batch.
 ///
-/// Refused, in this order: a bad key; a value that is too long; out of memory.
+/// Refused, in this order: the first reason to refuse its body; out of memory.
 pub fn encode_item(alloc: Global, item: &Item) -> Result<Vec<u8>, EncodeError>
     ensures ok { IfOk result (λ bytes. ItemFits item.now × (bytes.items ≡ item_bytes item.now)) }
-    ensures size { IfOk result (λ bytes. length bytes.items ≤ MOST_ITEM_BYTES) }
+    ensures size { IfOk result (λ bytes. length bytes.items ≤ most_bytes item.now.body) }
     ensures err { IfErr result (λ fault. IsRefusal (body_refusal item.now.body) fault) }
 {
     let item = item.as_ref();
@@ -81,7 +88,7 @@ pub fn item_size(item: &ItemRef<'_>) -> Result<usize, BodyFault>
     ensures size { MatchResult result
         (λ size. (body_refusal item.now.body ≡ None) × (size ≡ length (item_bytes item.now)))
         (λ fault. body_refusal item.now.body ≡ Some fault) }
-    ensures most { IfOk result (λ size. size ≤ MOST_ITEM_BYTES) }
+    ensures most { IfOk result (λ size. size ≤ most_bytes item.now.body) }
 {
     match item.body_fault() {
         Some(fault) => Err(fault),
@@ -93,14 +100,12 @@ pub fn item_size(item: &ItemRef<'_>) -> Result<usize, BodyFault>
 fn size_of(item: &ItemRef<'_>) -> usize
     requires { body_refusal item.now.body ≡ None }
     ensures size { result ≡ length (item_bytes item.now) }
-    ensures most { result ≤ MOST_ITEM_BYTES }
+    ensures most { result ≤ most_bytes item.now.body }
 {
-    match item.written() {
-        None => 20,
-        Some(written) => match written.value {
-            None => 22 + written.key.len(),
-            Some(value) => 24 + written.key.len() + value.len(),
-        },
+    match item.content() {
+        Content::Nothing => 20,
+        Content::One(written) => 20 + write_size(written.key, written.value),
+        Content::Many(writes) => 21 + writes_size(writes),
     }
 }
 
@@ -126,12 +131,13 @@ pub fn copy_item(alloc: Global, item: &ItemRef<'_>) -> Result<Item, NoMemory>
     ensures ok { IfOk result (λ copy. copy ≡ item.now) }
     ensures short { IsShort item.now.body → IsOk result }
 {
-    let body = match item.written() {
-        Some(written) => Body::Write {
+    let body = match item.content() {
+        Content::One(written) => Body::Write {
             key: Bytes::from_slice(alloc, written.key)?,
             value: copy_value(alloc, written.value)?,
         },
-        None => {
+        Content::Many(writes) => Body::Batch(Listed::from_slice(alloc, writes)?),
+        Content::Nothing => {
             if item.retires() {
                 Body::Retire
             } else {
@@ -147,45 +153,47 @@ pub fn copy_item(alloc: Global, item: &ItemRef<'_>) -> Result<Item, NoMemory>
     })
 }
 
-/// Reads the item at the front of some bytes, and returns it with the bytes after it. Its key and value are those in
-/// the bytes: nothing is copied.
+/// Reads the item at the front of some bytes, and returns it with the bytes after it. The key and value of a write are
+/// those in the bytes: only the writes of a batch are copied.
 ///
-/// The error is the first fault from the left, and never `NoMemory`: no memory is needed.
+/// The error is the first fault from the left; or that memory ran out for the writes of a batch, which may be before a
+/// fault further right is seen.
 #[tactic(auto, unfolding(crate::specs::Reading::item_at))]
-pub fn item_ref_at(bytes: &[u8]) -> Result<(ItemRef<'_>, &[u8]), DecodeError>
+pub fn item_ref_at(alloc: Global, bytes: &[u8]) -> Result<(ItemRef<'_>, &[u8]), DecodeError>
     ensures read { Gives (λ x. (x.0, x.1.now)) result (item_at bytes.now) }
-    ensures memory { ¬ IsErrOf result DecodeError.NoMemory }
+    ensures memory { IsErrOf result DecodeError.NoMemory → slice_get bytes.now 19 ≡ Some 3 }
 {
     match bytes {
         [] => Err(DecodeError::Fault(WireFault::Short)),
-        [1, rest @ ..] => item_rest_at(rest),
+        [1, rest @ ..] => item_rest_at(alloc, rest),
         [_, ..] => Err(DecodeError::Fault(WireFault::Version)),
     }
 }
 
 /// Reads an item after its version.
 #[tactic(auto, unfolding(crate::specs::Reading::item_rest_at))]
-fn item_rest_at(bytes: &[u8]) -> Result<(ItemRef<'_>, &[u8]), DecodeError>
+fn item_rest_at(alloc: Global, bytes: &[u8]) -> Result<(ItemRef<'_>, &[u8]), DecodeError>
     ensures read { Gives (λ x. (x.0, x.1.now)) result (item_rest_at bytes.now) }
-    ensures memory { ¬ IsErrOf result DecodeError.NoMemory }
+    ensures memory { IsErrOf result DecodeError.NoMemory → slice_get bytes.now 18 ≡ Some 3 }
 {
     let (node, rest) = u16_at(bytes)?;
     let (number, rest) = u64_at(rest)?;
     let (stamp, rest) = u64_at(rest)?;
     let stamp = Stamp::from_bits(stamp);
-    numbered_at(node, number, stamp, rest)
+    numbered_at(alloc, node, number, stamp, rest)
 }
 
 /// Reads the body of an item that has these numbers.
 #[tactic(auto, unfolding(crate::specs::Reading::body_at))]
 fn numbered_at(
+    alloc: Global,
     node: u16,
     number: u64,
     stamp: Stamp,
     bytes: &[u8],
 ) -> Result<(ItemRef<'_>, &[u8]), DecodeError>
     ensures read { Gives (λ x. (x.0, x.1.now)) result (numbered_at node number stamp bytes.now) }
-    ensures memory { ¬ IsErrOf result DecodeError.NoMemory }
+    ensures memory { IsErrOf result DecodeError.NoMemory → slice_get bytes.now 0 ≡ Some 3 }
 {
     match bytes {
         [] => Err(DecodeError::Fault(WireFault::Short)),
@@ -196,6 +204,10 @@ fn numbered_at(
         }
         [1, rest @ ..] => Ok((ItemRef::report(node, number, stamp), rest)),
         [2, rest @ ..] => Ok((ItemRef::retire(node, number, stamp), rest)),
+        [3, rest @ ..] => {
+            let (writes, rest) = batch_at(alloc, rest)?;
+            Ok((ItemRef::own_batch(node, number, stamp, writes), rest))
+        }
         [_, ..] => Err(DecodeError::Fault(WireFault::Kind)),
     }
 }

@@ -7,7 +7,8 @@ ghost use Rattle.hlc_wire.specs.Spelling.{body_bytes, value_bytes, numbers_bytes
 ghost use Rattle.hlc_wire.specs.Spelling.{NumbersFit};
 ghost use Rattle.hlc_wire.specs.Placing.{with_bytes};
 
-use hlc_node::ItemRef;
+use crate::batch::put_batch;
+use hlc_node::{Content, ItemRef};
 
 /// Writes bytes.
 pub fn put_bytes(out: &mut [u8], at: usize, bytes: &[u8]) -> usize
@@ -40,9 +41,13 @@ pub(crate) fn put_body(out: &mut [u8], at: usize, item: &ItemRef<'_>) -> usize
     ensures end { result ≡ at + length (body_bytes item.now.body) }
     ensures put { out.new ≡ with_bytes at (body_bytes item.now.body) out.old }
 {
-    match item.written() {
-        Some(written) => put_write(out, at, written.key, written.value),
-        None => {
+    match item.content() {
+        Content::One(written) => put_write(out, at, written.key, written.value),
+        Content::Many(writes) => {
+            let at_batch = put_bytes(out, at, &[3]);
+            put_batch(out, at_batch, writes)
+        }
+        Content::Nothing => {
             let kind = if item.retires() { 2 } else { 1 };
             put_bytes(out, at, &[kind])
         }
@@ -64,7 +69,7 @@ fn put_write(out: &mut [u8], at: usize, key: &[u8], value: Option<&[u8]>) -> usi
 }
 
 /// Writes a value of at most 65,535 bytes, or a deletion mark.
-fn put_value(out: &mut [u8], at: usize, value: Option<&[u8]>) -> usize
+pub(crate) fn put_value(out: &mut [u8], at: usize, value: Option<&[u8]>) -> usize
     requires value { ValueFits (option_copied value) }
     requires room { at + length (value_bytes (option_copied value)) ≤ length out.now }
     ensures end { result ≡ at + length (value_bytes (option_copied value.entry)) }
