@@ -4,7 +4,7 @@ ghost use Rattle.hlc_node.specs.Items.{body_refusal, retires, IsShort};
 
 use crate::item_ref::ItemRef;
 use hlc_clock::Stamp;
-use hlc_rows::{BodyFault, Bytes, Write, batch_fault, value_slice, write_fault};
+use hlc_rows::{BodyFault, Bytes, Write, Writes, batch_fault, value_slice, write_fault};
 use hlc_values::{Listed, NoMemory};
 
 /// The content of an item.
@@ -80,7 +80,12 @@ impl Item {
                 key.as_slice(),
                 value_slice(value),
             ),
-            Body::Batch(writes) => ItemRef::batch(*node, *number, *stamp, writes.as_slice()),
+            Body::Batch(writes) => ItemRef::batch(
+                *node,
+                *number,
+                *stamp,
+                Writes::of(writes.as_slice()),
+            ),
             Body::Report => ItemRef::report(*node, *number, *stamp),
             Body::Retire => ItemRef::retire(*node, *number, *stamp),
         }
@@ -100,7 +105,7 @@ pub fn body_fault(body: &Body) -> Option<BodyFault>
 {
     match body {
         Body::Write { key, value } => write_fault(key.as_slice(), value_slice(value)),
-        Body::Batch(writes) => batch_fault(writes.as_slice()),
+        Body::Batch(writes) => batch_fault(Writes::of(writes.as_slice())),
         Body::Report | Body::Retire => None,
     }
 }

@@ -5,26 +5,18 @@ ghost use Rattle.hlc_node.specs.Seen.{IsContent};
 ghost use Rattle.hlc_node.specs.declared.item.Body.TheVariants as body;
 
 use hlc_clock::Stamp;
-use hlc_rows::{BodyFault, Write, batch_fault, write_fault};
-use hlc_values::Listed;
+use hlc_rows::{BodyFault, Writes, Written, batch_fault, write_fault};
 use std::marker::Model;
 
-/// The content of a write: a key with a value, or with a deletion mark.
-#[derive(Clone, Copy, Debug)]
-pub struct Written<'a> {
-    pub key: &'a [u8],
-    pub value: Option<&'a [u8]>,
-}
-
 /// What an item writes.
-#[derive(Clone, Copy, Debug)]
+#[derive(Debug, Drop)]
 pub enum Content<'a> {
     /// It is a report or a retirement.
     Nothing,
     /// One key.
     One(Written<'a>),
     /// Several keys, all at the item's stamp.
-    Many(&'a [Write]),
+    Many(Writes<'a>),
 }
 
 /// The content of an item, over slices.
@@ -34,14 +26,12 @@ pub(crate) enum BodyRef<'a> {
         key: &'a [u8],
         value: Option<&'a [u8]>,
     },
-    Batch(&'a [Write]),
-    OwnBatch(Listed<Write>),
+    Batch(Writes<'a>),
     Report,
     Retire,
 }
 
-/// An item that borrows its keys and values, so making one needs no memory; a batch may also have writes of its own. In
-/// contracts it is the item.
+/// An item that borrows its keys and values, so making one needs no memory. In contracts it is the item.
 #[derive(Debug, Drop)]
 pub struct ItemRef<'a> {
     node: u16,
@@ -82,32 +72,14 @@ impl<'a> ItemRef<'a> {
 
     /// Returns the writes of these keys, all at the item's stamp.
     #[inline]
-    pub fn batch(node: u16, number: u64, stamp: Stamp, writes: &'a [Write]) -> ItemRef<'a>
-        ensures { result ≡ an_item node number stamp (body.Batch writes.now) }
+    pub fn batch(node: u16, number: u64, stamp: Stamp, writes: Writes<'a>) -> ItemRef<'a>
+        ensures { result ≡ an_item node number stamp (body.Batch writes.entry) }
     {
         ItemRef {
             node,
             number,
             stamp,
             body: BodyRef::Batch(writes),
-        }
-    }
-
-    /// Returns the writes of these keys, which it owns, all at the item's stamp.
-    #[inline]
-    pub fn own_batch(
-        node: u16,
-        number: u64,
-        stamp: Stamp,
-        writes: Listed<Write>,
-    ) -> ItemRef<'a>
-        ensures { result ≡ an_item node number stamp (body.Batch writes) }
-    {
-        ItemRef {
-            node,
-            number,
-            stamp,
-            body: BodyRef::OwnBatch(writes),
         }
     }
 
@@ -171,13 +143,12 @@ impl<'a> ItemRef<'a> {
 
     /// Returns what the item writes.
     #[inline]
-    pub fn content(&self) -> Content<'_>
+    pub fn content(&self) -> Content<'a>
         ensures { IsContent result self.now.body }
     {
         match &self.body {
             BodyRef::Write { key, value } => Content::One(Written { key, value: *value }),
-            BodyRef::Batch(writes) => Content::Many(writes),
-            BodyRef::OwnBatch(writes) => Content::Many(writes.as_slice()),
+            BodyRef::Batch(writes) => Content::Many(writes.lend()),
             BodyRef::Report | BodyRef::Retire => Content::Nothing,
         }
     }
@@ -189,8 +160,7 @@ impl<'a> ItemRef<'a> {
     {
         match &self.body {
             BodyRef::Write { key, value } => write_fault(key, *value),
-            BodyRef::Batch(writes) => batch_fault(writes),
-            BodyRef::OwnBatch(writes) => batch_fault(writes.as_slice()),
+            BodyRef::Batch(writes) => batch_fault(writes.lend()),
             BodyRef::Report | BodyRef::Retire => None,
         }
     }

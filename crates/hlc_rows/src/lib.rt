@@ -6,6 +6,7 @@ mod laws;
 mod limits;
 mod row;
 mod write;
+mod writes;
 
 pub use hlc_bytes::{Bytes, MOST_SHORT_BYTES, ValueOrMark, most_short_bytes_are_30, value_slice};
 pub use hlc_clock::Stamp;
@@ -18,3 +19,4 @@ pub use limits::{
 };
 pub use row::Row;
 pub use write::{Write, batch_fault};
+pub use writes::{Writes, Written};

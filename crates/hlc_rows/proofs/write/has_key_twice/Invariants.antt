@@ -4,7 +4,7 @@ use Rattle.hlc_rows.specs.Writes.{writes_twice}
 use Rattle.hlc_rows.proofs.write.has_key_twice.Given as goal
 
 abbrev pub invariant-loop-first : goal.invariant-loop-first
-invariant-loop-first l = writes_twice l.writes ≡ writes_twice l.rest
+invariant-loop-first l = writes_twice l.fn.writes ≡ writes_twice l.rest
 
 abbrev pub decreases-loop-first : goal.decreases-loop-first
 decreases-loop-first l = length l.rest
