@@ -1,12 +1,12 @@
 -- The result of reading some bytes has that encoding, and an encoding is read back.
 use Rattle.std.proofs.Common.{◌≡◌, ℕ, ◌+◌, ◌<◌, ◌≤◌, zero, suc, List, [], ◌∷◌, ◌++◌, length, Some, Ok, refl, sym}
-use Rattle.std.proofs.Common.{ap, subst, ◌∙◌, arith}
+use Rattle.std.proofs.Common.{ap, subst, ◌∙◌, arith, inl, inr}
 use Rattle.std.proofs.lemmas.List.{append_assoc}
 use Rattle.std.specs.Int.{w16, w64, to_be_bytes}
 use Rattle.hlc_node.specs.Items.{an_item, IsShort}
 use Rattle.hlc_node.specs.declared.item.Item.{Item as AnItem}
 use Rattle.hlc_node.specs.declared.item.Body.{Body}
-use Rattle.hlc_node.specs.declared.item.Body.TheVariants.{Write, Report, Retire}
+use Rattle.hlc_node.specs.declared.item.Body.TheVariants.{Write, Batch, Report, Retire}
 use Rattle.hlc_wire.specs.Reading.{◌>>=◌, number_at, item_at}
 use Rattle.hlc_wire.specs.Spelling.{item_bytes, ItemFits}
 use Rattle.hlc_wire.proofs.FieldLemmas.{IsBytes, IsBytes-rest, bind_ok, ok_is, Takes, Takes-then, Takes-cons, IsReader}
@@ -102,7 +102,8 @@ record_reader = record { takes = record_takes; again = record_again }
 
 kind_of : (node number stamp : ℕ) (body : Body) (rest : List ℕ) → (IsShort body → ⊥)
     → StartsWithWrite (item_bytes (an_item node number stamp body) ++ rest)
-kind_of node number stamp (Write key value) rest long = record { item = refl; kind = refl }
+kind_of node number stamp (Write key value) rest long = record { item = refl; kind = inl refl }
+kind_of node number stamp (Batch writes) rest long = record { item = refl; kind = inr refl }
 kind_of node number stamp Report rest long = absurd (long tt)
 kind_of node number stamp Retire rest long = absurd (long tt)
 
@@ -112,7 +113,7 @@ write_of (Item item) rest long = kind_of item.node item.number item.stamp item.b
 write_of (Join node start) rest long = absurd (long tt)
 write_of (Threshold at) rest long = absurd (long tt)
 
--- a record whose copy may need memory is a write
+-- a record whose copy may need memory is a write or a batch
 pub write_at : (bytes rest : List ℕ) (entry : Record) → IsBytes bytes → record_at bytes ≡ Ok (entry, rest)
     → (IsShortRecord entry → ⊥) → StartsWithWrite bytes
 write_at bytes rest entry fits read long =

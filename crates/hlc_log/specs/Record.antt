@@ -8,7 +8,7 @@ use Rattle.hlc_node.specs.Items.{body_refusal, IsShort}
 use Rattle.hlc_wire.specs.declared.fault.WireFault.{WireFault}
 use Rattle.hlc_wire.specs.declared.fault.WireFault.TheVariants.{Short, Version}
 use Rattle.hlc_wire.specs.Spelling.{item_bytes, ItemFits}
-use Rattle.hlc_wire.specs.Reading.{◌>>=◌, number_at, item_at}
+use Rattle.hlc_wire.specs.Reading.{◌>>=◌, number_at, item_at, NeedsMemory}
 use Rattle.hlc_log.specs.declared.record.Record.{Record}
 use Rattle.hlc_log.specs.declared.record.Record.TheVariants.{Item, Join, Threshold}
 use Rattle.hlc_log.specs.declared.record.RecordRef.{RecordRef}
@@ -73,7 +73,7 @@ record_at (suc (suc zero) ∷ rest) = join_at rest
 record_at (suc (suc (suc zero)) ∷ rest) = threshold_at rest
 record_at (suc (suc (suc (suc b))) ∷ rest) = Err Version
 
--- a write or a deletion is at the front of some bytes: byte 0 of an item is 1, and byte 19 its kind, 0 for these
+-- a write, a deletion or a batch is at the front of some bytes: byte 0 of an item is 1, and byte 19 says its kind
 pub record StartsWithWrite (bytes : List ℕ) : Type 0 where
   pub item : slice_get bytes 0 ≡ Some 1
-  pub kind : slice_get bytes 19 ≡ Some 0
+  pub kind : NeedsMemory bytes

@@ -1,10 +1,10 @@
 -- A batch that is read is the batch that was written, and what was written is read again.
 use Rattle.std.proofs.Common.{◌≡◌, ℕ, zero, suc, ◌+◌, ◌<◌, ◌≤◌, ◌*◌, ◌-◌, List, [], ◌∷◌, ◌++◌, length, Some, None, Ok, Err, Result}
 use Rattle.std.proofs.Common.{refl, sym, ap, subst, ◌∙◌, append_assoc, arith, length-append}
-use Rattle.std.proofs.Common.{rules, Bool, true, false, cond, eqb, ltb}
+use Rattle.std.proofs.Common.{rules, Bool, true, false, cond, eqb, ltb, take, drop}
 use Rattle.std.proofs.lemmas.Bool.{eqb-false, ltb-false}
 use Rattle.std.proofs.lemmas.Grind.{common_steps}
-use Rattle.std.specs.Int.{w16, to_be_bytes}
+use Rattle.std.specs.Int.{w16, to_be_bytes, from_be_bytes}
 use Rattle.hlc_rows.specs.declared.limits.BodyFault.{BodyFault}
 use Rattle.hlc_rows.specs.declared.limits.BodyFault.TheVariants.{NoWrites, TooManyWrites, KeyTwice}
 use Rattle.hlc_rows.specs.declared.limits.TheConstants.{MOST_WRITES}
@@ -12,16 +12,18 @@ use Rattle.hlc_rows.specs.Limits.{write_refusal}
 use Rattle.hlc_rows.specs.Writes.{first_of, writes_twice, writes_refusal, batch_refusal}
 use Rattle.std.specs.Prelude.{Option}
 use Rattle.hlc_rows.specs.declared.write.Write.{Write}
+use Rattle.hlc_rows.specs.Spelled.{a_write, value_of, key_in, value_in, long_in, writes_in}
+use Rattle.hlc_rows.proofs.SpelledLemmas.{front}
+use Rattle.hlc_wire.specs.declared.fault.WireFault.TheVariants.{Short}
+use Rattle.hlc_wire.specs.declared.fault.DecodeError.{DecodeError}
+use Rattle.hlc_wire.specs.declared.fault.DecodeError.TheVariants as errors
 use Rattle.hlc_wire.specs.Spelling.{key_bytes, value_bytes, write_bytes, writes_bytes, batch_bytes}
 use Rattle.hlc_wire.specs.Spelling.{KeyFits, ValueFits, WritesFit, BatchFits}
-use Rattle.hlc_wire.specs.Reading.{◌>>=◌, key_at, value_at, write_at, writes_at, writes_after, batch_at}
+use Rattle.hlc_wire.specs.Reading.{◌>>=◌, Gives, number_at, bytes_at, key_at, value_at, write_at, writes_at, batch_at}
 use Rattle.hlc_wire.specs.declared.fault.WireFault.{WireFault}
-use Rattle.hlc_wire.proofs.FieldLemmas.{done}
+use Rattle.hlc_wire.proofs.FieldLemmas.{guard_ok}
 use Rattle.hlc_wire.proofs.FieldLemmas.{IsBytes, IsBytes-rest, bind_ok, ok_is, Takes, Takes-then, Takes-cons, IsReader}
 use Rattle.hlc_wire.proofs.FieldLemmas.{key_reader, value_reader}
-
-abbrev pub a_write : List ℕ → Option (List ℕ) → Write
-a_write key value = record { key = key; value = value }
 
 abbrev WriteFits : Write → Type 0
 WriteFits write = KeyFits write.key × ValueFits write.value
@@ -121,25 +123,64 @@ writes_length (write ∷ writes) fits =
 
 -- ---- reading in steps
 
--- some writes that were read, after others
-abbrev added : List Write → List Write × List ℕ → Result (List Write × List ℕ) WireFault
-added others found = Ok (others ++ found.0, found.1)
+key_is : (bytes : List ℕ) (x : List ℕ × List ℕ) → key_at bytes ≡ Ok x → key_in bytes ≡ x
+unfolding key_at key_in
+key_is [] x read = absurd cc
+key_is (zero ∷ rest) x read = absurd cc
+key_is (suc n ∷ rest) x read =
+    (guard_ok (ltb (length rest) (suc n)) Short (take (suc n) rest, drop (suc n) rest) x read).1
 
--- a write that is read after others belongs to them
-shift : (others : List Write) (write : Write) (read : Result (List Write × List ℕ) WireFault)
-    → ((read >>= added (write ∷ [])) >>= added others) ≡ (read >>= added (others ++ write ∷ []))
-shift others write (Ok ws) =
-    ap (λ (all : List Write). done {A = List Write × List ℕ} (all, ws.1)) (sym (append_assoc others (write ∷ []) ws.0))
-shift others write (Err fault) = refl
+abbrev some_value : List ℕ × List ℕ → Option (List ℕ) × List ℕ
+some_value cut = (Some cut.0, cut.1)
 
-pub writes_more : (others : List Write) (count : ℕ) (bytes : List ℕ) (write : Write) (rest : List ℕ)
-    → (count ≡ 0 → ⊥) → write_at bytes ≡ Ok (write, rest)
-    → writes_after others count bytes ≡ writes_after (others ++ write ∷ []) (count - 1) rest
+value_is : (bytes : List ℕ) (x : Option (List ℕ) × List ℕ) → value_at bytes ≡ Ok x → value_in bytes ≡ x
+unfolding value_at value_in long_in
+value_is [] x read = absurd cc
+value_is (zero ∷ rest) x read = ok_is (None, rest) x read
+value_is (suc zero ∷ []) x read = absurd cc
+value_is (suc zero ∷ high ∷ []) x read = absurd cc
+value_is (suc zero ∷ high ∷ low ∷ rest) x read =
+    let a = bind_ok (number_at w16 (high ∷ low ∷ rest)) (λ n. bytes_at n.0 n.1 >>= λ value. Ok (some_value value)) x read in
+    let c = guard_ok (ltb (length (high ∷ low ∷ rest)) 2) Short (from_be_bytes w16 (high ∷ low ∷ []), rest) a.0 a.1 in
+    let b = bind_ok (bytes_at a.0.0 a.0.1) (λ value. Ok (some_value value)) x a.2 in
+    let g = guard_ok (ltb (length a.0.1) a.0.0) Short (take a.0.0 a.0.1, drop a.0.0 a.0.1) b.0 b.1 in
+    ap (λ (n : ℕ × List ℕ). value_of n.0 n.1) c.1 ∙ ap some_value g.1 ∙ ok_is (some_value b.0) x b.2
+value_is (suc (suc b) ∷ rest) x read = absurd cc
+
+-- a write is read, and then the others
+writes_step : (count : ℕ) (bytes key after : List ℕ) (value : Option (List ℕ)) (rest : List ℕ) → (count ≡ 0 → ⊥)
+    → key_at bytes ≡ Ok (key, after) → value_at after ≡ Ok (value, rest)
+    → writes_at count bytes ≡ (writes_at (count - 1) rest >>= λ ws. Ok (a_write key value ∷ ws.0, ws.1))
 unfolding writes_at
-writes_more others zero bytes write rest some read = absurd (some refl)
-writes_more others (suc count) bytes write rest some read =
+writes_step zero bytes key after value rest some at_key at_value = absurd (some refl)
+writes_step (suc count) bytes key after value rest some at_key at_value =
     let less : suc count - 1 ≡ count = omega arith in
-    rw (read, less) (shift others write (writes_at count rest))
+    rw (at_key, at_value, less) refl
+
+pub writes_zero : (count : ℕ) (bytes : List ℕ) → count ≡ 0 → writes_at count bytes ≡ Ok (writes_in count bytes, bytes)
+unfolding writes_at writes_in
+writes_zero zero bytes none = refl
+writes_zero (suc count) bytes none = absurd cc
+
+gives_more : {X : Type 0} (view : X → List ℕ) (write : Write) (writes : List Write) (result : Result X DecodeError)
+    (read : Result (List Write × List ℕ) WireFault)
+    → Gives {Y = List Write × List ℕ} (λ x. (writes, view x)) result read
+    → Gives {Y = List Write × List ℕ} (λ x. (write ∷ writes, view x)) result (read >>= λ ws. Ok (write ∷ ws.0, ws.1))
+gives_more view write writes (Ok x) read is = rw is refl
+gives_more view write writes (Err errors.NoMemory) read is = tt
+gives_more view write writes (Err (errors.Fault fault)) read is = rw is refl
+
+pub writes_more : {X : Type 0} (view : X → List ℕ) (count : ℕ) (bytes key after : List ℕ) (value : Option (List ℕ))
+    (rest : List ℕ) (result : Result X DecodeError) → (count ≡ 0 → ⊥)
+    → key_at bytes ≡ Ok (key, after) → value_at after ≡ Ok (value, rest)
+    → Gives {Y = List Write × List ℕ} (λ x. (writes_in (count - 1) rest, view x)) result (writes_at (count - 1) rest)
+    → Gives {Y = List Write × List ℕ} (λ x. (writes_in count bytes, view x)) result (writes_at count bytes)
+writes_more view count bytes key after value rest result some at_key at_value is =
+    rw (
+      writes_step count bytes key after value rest some at_key at_value,
+      front count bytes key after value rest some (sym (key_is bytes (key, after) at_key))
+          (sym (value_is after (value, rest) at_value)),
+    ) (gives_more view (a_write key value) (writes_in (count - 1) rest) result (writes_at (count - 1) rest) is)
 
 -- ---- bodies that are not refused have an encoding
 

@@ -15,7 +15,7 @@ use Rattle.hlc_wire.specs.Reading.{write_at, writes_at, batch_at}
 use Rattle.hlc_wire.specs.Reading.{item_rest_at, item_at, message_rest_at, message_at}
 use Rattle.hlc_wire.proofs.FieldLemmas.{bind_ok, guard_ok, done, ok_is, IsReader}
 use Rattle.hlc_wire.proofs.ItemLemmas.{a_message}
-use Rattle.hlc_wire.proofs.BatchLemmas.{a_write}
+use Rattle.hlc_rows.specs.Spelled.{a_write}
 
 pub record IsSteady {A : Type 0} (read : List ℕ → Result (A × List ℕ) WireFault) : Type 0 where
   pub more : (bytes after : List ℕ) (x : A × List ℕ) → read bytes ≡ Ok x

@@ -1,7 +1,7 @@
 -- Reading from left to right, up to the first fault.
 use Rattle.std.specs.Prelude.{◌≡◌, ◌⊎◌, ℕ, zero, suc, slice_get, Bool, true, false, List, [], ◌∷◌, ◌++◌}
 use Rattle.std.specs.Prelude.{length, take, drop}
-use Rattle.std.specs.Prelude.{IsOk, Option, Some, None, Result, Ok, Err, nat_lt, ◌==◌, if◌then◌else◌}
+use Rattle.std.specs.Prelude.{Option, Some, None, Result, Ok, Err, nat_lt, ◌==◌, if◌then◌else◌}
 use Rattle.std.specs.Int.{Width, w16, w64, byte_len, from_be_bytes}
 use Rattle.hlc_node.specs.declared.item.Item.{Item}
 use Rattle.hlc_node.specs.declared.item.Message.{Message}
@@ -82,12 +82,6 @@ writes_at (suc count) bytes = do
   writes ← writes_at count write.1
   Ok (write.0 ∷ writes.0, writes.1)
 
--- so many writes after others
-abbrev pub writes_after : List Write → ℕ → List ℕ → Result (List Write × List ℕ) WireFault
-writes_after others count bytes = do
-  writes ← writes_at count bytes
-  Ok (others ++ writes.0, writes.1)
-
 -- a batch: one less than the number of its writes, and the writes
 unfoldable pub batch_at : List ℕ → Result (List Write × List ℕ) WireFault
 batch_at [] = Err Short
@@ -146,7 +140,6 @@ message_at (suc (suc b) ∷ rest) = Err Version
 abbrev pub whole : {A : Type 0} → Result (A × List ℕ) WireFault → Result A WireFault
 whole read = read >>= λ x. if length x.1 == 0 then Ok x.0 else Err Trailing
 
--- where memory may run out: for a write, byte 19 being the kind of an item, if these are all bytes of one; or for a batch
-abbrev pub MemoryRanOut : List ℕ → Type 0
-MemoryRanOut bytes =
-    ((slice_get bytes 19 ≡ Some 0) × IsOk (whole (item_at bytes))) ⊎ (slice_get bytes 19 ≡ Some 3)
+-- byte 19 says that an item is a write or a batch
+abbrev pub NeedsMemory : List ℕ → Type 0
+NeedsMemory bytes = (slice_get bytes 19 ≡ Some 0) ⊎ (slice_get bytes 19 ≡ Some 3)

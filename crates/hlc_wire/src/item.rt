@@ -5,16 +5,16 @@ ghost use Rattle.hlc_node.specs.Items.{body_refusal, IsShort};
 ghost use Rattle.hlc_node.specs.declared.item.Item.{Item as AnItem};
 ghost use Rattle.hlc_wire.specs.Spelling.{item_bytes, most_bytes, ItemFits};
 ghost use Rattle.hlc_wire.specs.Placing.{PutsFront};
-ghost use Rattle.hlc_wire.specs.Reading.{Gives, item_at, item_rest_at, numbered_at, whole, MemoryRanOut};
+ghost use Rattle.hlc_wire.specs.Reading.{Gives, item_at, item_rest_at, numbered_at, whole, NeedsMemory};
 ghost use Rattle.hlc_wire.specs.Refusal.{IsRefusal};
 
-use crate::batch::{batch_at, write_size, writes_size};
+use crate::batch::{batch_at, copy_batch, write_size, writes_size};
 use crate::fault::{DecodeError, EncodeError, WireFault};
 use crate::fields::{copy_value, key_slice_at, u16_at, u64_at, value_slice_at};
 use crate::placing::{put_body, put_bytes, put_numbers};
 use hlc_clock::Stamp;
 use hlc_node::{Body, BodyFault, Bytes, Content, Item, ItemRef};
-use hlc_values::{Listed, NoMemory};
+use hlc_values::NoMemory;
 use std::alloc::Global;
 
 /// The maximum number of bytes of an item that is no batch.
@@ -36,8 +36,8 @@ pub fn most_batch_bytes_are_16843285()
 
 /// Reads the item from its encoding, which is all of the bytes.
 ///
-/// The error is the first fault from the left; or, if there is none, that memory ran out for the copy of a write's key
-/// or value. Memory for a batch may run out before a fault further right is seen.
+/// The error is the first fault from the left; or, if there is none, that memory ran out for a batch, or for the copy of
+/// a write's key or value.
 pub fn decode_item(alloc: Global, bytes: &[u8]) -> Result<Item, DecodeError>
     // The bytes are the encoding of the item that is read.
     ensures found { IfOk result (λ item. ItemFits item × (bytes.now ≡ item_bytes item)) }
@@ -46,8 +46,9 @@ pub fn decode_item(alloc: Global, bytes: &[u8]) -> Result<Item, DecodeError>
         → Gives (λ item. item) result (Ok item) }
     // The fault is exactly this one.
     ensures exact { Gives (λ item. item) result (whole (item_at bytes.now)) }
-    // Only a write needs memory, byte 19 being the kind of the item, and only if there is no fault; or a batch.
-    ensures memory { IsErrOf result DecodeError.NoMemory → MemoryRanOut bytes.now }
+    // Only a write or a batch needs memory, byte 19 being the kind of the item, and only if there is no fault.
+    ensures memory { IsErrOf result DecodeError.NoMemory
+        → NeedsMemory bytes.now × IsOk (whole (item_at bytes.now)) }
 {
     all(alloc, bytes)
 }
@@ -55,9 +56,10 @@ pub fn decode_item(alloc: Global, bytes: &[u8]) -> Result<Item, DecodeError>
 /// Reads an item from all of the bytes.
 fn all(alloc: Global, bytes: &[u8]) -> Result<Item, DecodeError>
     ensures read { Gives (λ item. item) result (whole (item_at bytes.now)) }
-    ensures memory { IsErrOf result DecodeError.NoMemory → MemoryRanOut bytes.now }
+    ensures memory { IsErrOf result DecodeError.NoMemory
+        → NeedsMemory bytes.now × IsOk (whole (item_at bytes.now)) }
 {
-    let (item, rest) = item_ref_at(alloc, bytes)?;
+    let (item, rest) = item_ref_at(bytes)?;
     if !rest.is_empty() {
         return Err(DecodeError::Fault(WireFault::Trailing));
     }
@@ -126,7 +128,7 @@ pub fn put_item(item: &ItemRef<'_>, out: &mut [u8]) -> Option<usize>
     Some(size)
 }
 
-/// Copies an item, with its key and value.
+/// Copies an item, with its keys and values.
 pub fn copy_item(alloc: Global, item: &ItemRef<'_>) -> Result<Item, NoMemory>
     ensures ok { IfOk result (λ copy. copy ≡ item.now) }
     ensures short { IsShort item.now.body → IsOk result }
@@ -136,7 +138,7 @@ pub fn copy_item(alloc: Global, item: &ItemRef<'_>) -> Result<Item, NoMemory>
             key: Bytes::from_slice(alloc, written.key)?,
             value: copy_value(alloc, written.value)?,
         },
-        Content::Many(writes) => Body::Batch(Listed::from_slice(alloc, writes)?),
+        Content::Many(writes) => Body::Batch(copy_batch(alloc, writes)?),
         Content::Nothing => {
             if item.retires() {
                 Body::Retire
@@ -153,47 +155,45 @@ pub fn copy_item(alloc: Global, item: &ItemRef<'_>) -> Result<Item, NoMemory>
     })
 }
 
-/// Reads the item at the front of some bytes, and returns it with the bytes after it. The key and value of a write are
-/// those in the bytes: only the writes of a batch are copied.
+/// Reads the item at the front of some bytes, and returns it with the bytes after it. Its keys and values are those
+/// in the bytes: nothing is copied.
 ///
-/// The error is the first fault from the left; or that memory ran out for the writes of a batch, which may be before a
-/// fault further right is seen.
+/// The error is the first fault from the left, and never `NoMemory`: no memory is needed.
 #[tactic(auto, unfolding(crate::specs::Reading::item_at))]
-pub fn item_ref_at(alloc: Global, bytes: &[u8]) -> Result<(ItemRef<'_>, &[u8]), DecodeError>
+pub fn item_ref_at(bytes: &[u8]) -> Result<(ItemRef<'_>, &[u8]), DecodeError>
     ensures read { Gives (λ x. (x.0, x.1.now)) result (item_at bytes.now) }
-    ensures memory { IsErrOf result DecodeError.NoMemory → slice_get bytes.now 19 ≡ Some 3 }
+    ensures memory { ¬ IsErrOf result DecodeError.NoMemory }
 {
     match bytes {
         [] => Err(DecodeError::Fault(WireFault::Short)),
-        [1, rest @ ..] => item_rest_at(alloc, rest),
+        [1, rest @ ..] => item_rest_at(rest),
         [_, ..] => Err(DecodeError::Fault(WireFault::Version)),
     }
 }
 
 /// Reads an item after its version.
 #[tactic(auto, unfolding(crate::specs::Reading::item_rest_at))]
-fn item_rest_at(alloc: Global, bytes: &[u8]) -> Result<(ItemRef<'_>, &[u8]), DecodeError>
+fn item_rest_at(bytes: &[u8]) -> Result<(ItemRef<'_>, &[u8]), DecodeError>
     ensures read { Gives (λ x. (x.0, x.1.now)) result (item_rest_at bytes.now) }
-    ensures memory { IsErrOf result DecodeError.NoMemory → slice_get bytes.now 18 ≡ Some 3 }
+    ensures memory { ¬ IsErrOf result DecodeError.NoMemory }
 {
     let (node, rest) = u16_at(bytes)?;
     let (number, rest) = u64_at(rest)?;
     let (stamp, rest) = u64_at(rest)?;
     let stamp = Stamp::from_bits(stamp);
-    numbered_at(alloc, node, number, stamp, rest)
+    numbered_at(node, number, stamp, rest)
 }
 
 /// Reads the body of an item that has these numbers.
 #[tactic(auto, unfolding(crate::specs::Reading::body_at))]
 fn numbered_at(
-    alloc: Global,
     node: u16,
     number: u64,
     stamp: Stamp,
     bytes: &[u8],
 ) -> Result<(ItemRef<'_>, &[u8]), DecodeError>
     ensures read { Gives (λ x. (x.0, x.1.now)) result (numbered_at node number stamp bytes.now) }
-    ensures memory { IsErrOf result DecodeError.NoMemory → slice_get bytes.now 0 ≡ Some 3 }
+    ensures memory { ¬ IsErrOf result DecodeError.NoMemory }
 {
     match bytes {
         [] => Err(DecodeError::Fault(WireFault::Short)),
@@ -205,8 +205,8 @@ fn numbered_at(
         [1, rest @ ..] => Ok((ItemRef::report(node, number, stamp), rest)),
         [2, rest @ ..] => Ok((ItemRef::retire(node, number, stamp), rest)),
         [3, rest @ ..] => {
-            let (writes, rest) = batch_at(alloc, rest)?;
-            Ok((ItemRef::own_batch(node, number, stamp, writes), rest))
+            let (writes, rest) = batch_at(rest)?;
+            Ok((ItemRef::batch(node, number, stamp, writes), rest))
         }
         [_, ..] => Err(DecodeError::Fault(WireFault::Kind)),
     }

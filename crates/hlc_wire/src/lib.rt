@@ -15,7 +15,7 @@ pub use fields::{
     byte_at, bytes_at, flag_at, key_at, put_flag, put_key, put_value, u16_at, u32_at, u64_at,
     value_at,
 };
-pub use hlc_node::{Body, BodyFault, Bytes, Item, ItemRef, Listed, Message, Write};
+pub use hlc_node::{Body, BodyFault, Bytes, Item, ItemRef, Listed, Message, Write, Writes};
 pub use item::{
     MOST_BATCH_BYTES, MOST_ITEM_BYTES, copy_item, decode_item, encode_item, item_ref_at, item_size,
     most_batch_bytes_are_16843285, most_item_bytes_are_65814, put_item,

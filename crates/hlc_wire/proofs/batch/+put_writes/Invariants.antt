@@ -3,4 +3,4 @@ use Rattle.std.specs.Prelude.{length}
 use Rattle.hlc_wire.proofs.batch.+put_writes.Given as goal
 
 abbrev pub decreases-put_writes : goal.decreases-put_writes
-decreases-put_writes l = length l.writes.now
+decreases-put_writes l = length l.writes

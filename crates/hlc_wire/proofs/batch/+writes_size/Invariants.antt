@@ -3,4 +3,4 @@ use Rattle.std.specs.Prelude.{length}
 use Rattle.hlc_wire.proofs.batch.+writes_size.Given as goal
 
 abbrev pub decreases-writes_size : goal.decreases-writes_size
-decreases-writes_size l = length l.writes.now
+decreases-writes_size l = length l.writes

@@ -1,5 +1,5 @@
 -- Where the copy of an item needs memory, it is a write or a batch.
-use Rattle.std.proofs.Common.{sym, arith, inl, inr}
+use Rattle.std.proofs.Common.{sym, arith}
 use Rattle.std.proofs.lemmas.Bool.{eqb-true, false≢true}
 use Rattle.std.proofs.lemmas.List.{nil_from_length}
 use Rattle.hlc_wire.proofs.ItemLemmas.{whole_is_ok}
@@ -8,15 +8,9 @@ use Rattle.hlc_wire.specs.Reading.{item_at}
 use Rattle.hlc_wire.proofs.item.all.Goals as goal
 
 pub returns-in_err-copy-clause-memory : goal.returns-in_err-copy-clause-memory
-returns-in_err-copy-clause-memory c = λ e.
-    elim (kind_at c.args.bytes.now c.in_ok-item.rest.now c.in_ok-item.item (λ i. omega (arith, c.type_inv.bytes i))
-    c.in_ok-item.ensures.read (λ short. false≢true (c.in_err-copy.ensures.short short))) [
-      | inl write ↦
-          inl (
-            write,
-            whole_is_ok (item_at c.args.bytes.now) (c.in_ok-item.item, c.in_ok-item.rest.now)
-                c.in_ok-item.ensures.read
-                (nil_from_length c.in_ok-item.rest.now (eqb-true _ _ (sym c.if-not-is_empty.ensures))),
-          )
-      | inr batch ↦ inr batch
-    ]
+returns-in_err-copy-clause-memory c = λ e. (
+  kind_at c.args.bytes.now c.in_ok-item.rest.now c.in_ok-item.item (λ i. omega (arith, c.type_inv.bytes i))
+      c.in_ok-item.ensures.read (λ short. false≢true (c.in_err-copy.ensures.short short)),
+  whole_is_ok (item_at c.args.bytes.now) (c.in_ok-item.item, c.in_ok-item.rest.now) c.in_ok-item.ensures.read
+      (nil_from_length c.in_ok-item.rest.now (eqb-true _ _ (sym c.if-not-is_empty.ensures))),
+)

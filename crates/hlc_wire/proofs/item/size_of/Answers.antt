@@ -4,4 +4,4 @@ use Rattle.hlc_wire.proofs.item.size_of.Goals as goal
 
 pub writes_size-requires-clause-fits : goal.writes_size-requires-clause-fits
 writes_size-requires-clause-fits c =
-    (batch_fits c.in-Many.writes.now (rw c.in-Many.ensures at c.requires)).2
+    (batch_fits c.in-Many.writes (rw c.in-Many.ensures at c.requires)).2

@@ -9,6 +9,6 @@ returns-in-Many-clause-put c =
     let is = c.in-Many.ensures in
     let room = rw is at c.requires.room in
     rw is
-    (put_both c.args.at c.put_bytes-at_batch.result (3 ∷ []) (batch_bytes c.in-Many.writes.now) c.args.out.now
+    (put_both c.args.at c.put_bytes-at_batch.result (3 ∷ []) (batch_bytes c.in-Many.writes) c.args.out.now
     c.put_bytes-at_batch.new.out c.put_batch.new.out c.put_bytes-at_batch.ensures.put c.put_bytes-at_batch.ensures.end
     c.put_batch.ensures.put room)
