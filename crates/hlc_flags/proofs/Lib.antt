@@ -1,2 +1,3 @@
 pub mod BitLemmas
 pub mod WordLemmas
+pub mod RunLemmas

@@ -1,12 +1,12 @@
 //! Lent flags.
 ghost use Rattle.std.specs.Prelude.{◌≡◌, ◌≤◌, ◌<◌, ◌-◌, ◌*◌, ◌/◌, length, take, drop, slice_index_or, false};
-ghost use Rattle.std.specs.Prelude.{count_by, not};
+ghost use Rattle.std.specs.Prelude.{count_by, not, ◌+◌, ◌^◌, ◌++◌, replicate, true};
 ghost use Rattle.std.specs.List.{list_all};
 ghost use Rattle.hlc_flags.specs.Bits.{bit_in, bits_in};
 
 use std::marker::Model;
 
-/// Lent flags, a byte or a bit for each. In contracts they are the list of them.
+/// Lent flags, a byte or a bit for each, or a run without memory. In contracts they are the list of them.
 #[derive(Drop)]
 pub struct Flags<'a> {
     form: Form<'a>,
@@ -18,6 +18,8 @@ enum Form<'a> {
     Bytes(&'a [bool]),
     /// The bits from a position on, up to another.
     Bits(&'a [u64], usize, usize),
+    /// So many flags that are set, and then so many that are not.
+    Run(usize, usize),
 }
 
 impl<'a> Model for Flags<'a> {
@@ -41,6 +43,16 @@ impl<'a> Flags<'a> {
         }
     }
 
+    /// Returns so many set flags, and then so many that are not. It needs no memory.
+    pub fn run(set: usize, unset: usize) -> Flags<'a>
+        requires { set + unset < 2 ^ 64 }
+        ensures { result ≡ replicate set true ++ replicate unset false }
+    {
+        Flags {
+            form: Form::Run(set, unset),
+        }
+    }
+
     /// Returns the bits of some words from a position on, up to another.
     pub(crate) fn of_bits(words: &'a [u64], from: usize, to: usize) -> Flags<'a>
         requires order { from ≤ to }
@@ -59,6 +71,7 @@ impl<'a> Flags<'a> {
         match self.form {
             Form::Bytes(flags) => flags.len(),
             Form::Bits(_, from, to) => to - from,
+            Form::Run(set, unset) => set + unset,
         }
     }
 
@@ -70,6 +83,7 @@ impl<'a> Flags<'a> {
         match self.form {
             Form::Bytes(flags) => flags[at],
             Form::Bits(words, from, _) => bit_of(words, from + at),
+            Form::Run(set, _) => at < set,
         }
     }
 
@@ -116,6 +130,14 @@ impl<'a> Flags<'a> {
                 (
                     Flags::of_bits(words, from, middle),
                     Flags::of_bits(words, middle, to),
+                )
+            }
+            Form::Run(set, unset) => {
+                let first = set.min(count);
+                let others = count - first;
+                (
+                    Flags::run(first, others),
+                    Flags::run(set - first, unset - others),
                 )
             }
         }

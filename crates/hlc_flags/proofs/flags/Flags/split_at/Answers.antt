@@ -1,10 +1,13 @@
--- The bits up to a position, and those from there on.
+-- The bits up to a position, and those from there on; of a run two runs.
 use Rattle.std.proofs.Common.{◌≡◌, ◌+◌, ◌-◌, ◌*◌, ◌^◌, ◌<◌, ◌≤◌, ◌∙◌, ap, sym, subst, arith, length, take, drop}
 use Rattle.hlc_flags.specs.Bits.{bits_in}
 use Rattle.hlc_flags.specs.Forms.{flags_in, IsInWords}
+use Rattle.std.proofs.Common.{replicate, true, false, length-append}
+use Rattle.std.proofs.lemmas.List.{length-replicate}
 use Rattle.hlc_flags.proofs.BitLemmas.{bits_length, bits_take, bits_drop}
+use Rattle.hlc_flags.proofs.RunLemmas.{run, run_take, run_drop}
 use Rattle.hlc_flags.proofs.flags.Flags.split_at.Goals as goal
-use Rattle.hlc_flags.proofs.flags.Flags.split_at.Goals.{In-Bits, After-of_bits}
+use Rattle.hlc_flags.proofs.flags.Flags.split_at.Goals.{In-Bits, In-Run, After-of_bits}
 
 bits_are : (c : In-Bits) → bits_in c.in-Bits.words.now c.in-Bits.from (c.in-Bits.to - c.in-Bits.from) ≡ c.args.self
 bits_are c = ap flags_in (sym c.in-Bits.is) ∙ c.self.view_is
@@ -67,3 +70,33 @@ returns-in-Bits-clause-others c =
     ∙ ap (bits_in c.in-Bits.words.now (c.in-Bits.from + c.args.count)) rest
     ∙ sym (bits_drop c.in-Bits.words.now c.in-Bits.from (c.in-Bits.to - c.in-Bits.from) c.args.count (few at))
     ∙ ap (drop c.args.count) (bits_are at)
+
+-- a run
+run_is : (c : In-Run) → run c.in-Run.set c.in-Run.unset ≡ c.args.self
+run_is c = ap flags_in (sym c.in-Run.is) ∙ c.self.view_is
+
+in_run : (c : In-Run) → c.args.count ≤ c.in-Run.set + c.in-Run.unset
+in_run c =
+    let many = ap length (sym (run_is c)) ∙ length-append (replicate c.in-Run.set true) (replicate c.in-Run.unset false) in
+    let sets = length-replicate c.in-Run.set true in
+    let others = length-replicate c.in-Run.unset false in
+    let le = c.requires in
+    omega (arith, many, sets, others, le)
+
+pub returns-in-Run-clause-first : goal.returns-in-Run-clause-first
+returns-in-Run-clause-first c =
+    let le = in_run ((goal.at.returns-in-Run-clause-first c).In-Run) in
+    let least = c.min-first.ensures in
+    c.run.ensures
+    ∙ sym (run_take c.in-Run.set c.in-Run.unset c.args.count c.min-first.result (c.args.count - c.min-first.result)
+    (omega (arith, least)) (omega (arith, least)) (omega (arith, le, least)) (λ lt. omega (arith, least, lt)))
+    ∙ ap (take c.args.count) (run_is ((goal.at.returns-in-Run-clause-first c).In-Run))
+
+pub returns-in-Run-clause-others : goal.returns-in-Run-clause-others
+returns-in-Run-clause-others c =
+    let le = in_run ((goal.at.returns-in-Run-clause-others c).In-Run) in
+    let least = c.min-first.ensures in
+    c.run-in-Run.ensures
+    ∙ sym (run_drop c.in-Run.set c.in-Run.unset c.args.count c.min-first.result (c.args.count - c.min-first.result)
+    (omega (arith, least)) (omega (arith, least)) (omega (arith, le, least)) (λ lt. omega (arith, least, lt)))
+    ∙ ap (drop c.args.count) (run_is ((goal.at.returns-in-Run-clause-others c).In-Run))
