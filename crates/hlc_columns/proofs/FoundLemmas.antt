@@ -72,7 +72,7 @@ none_in_table key s (e ∷ es) h =
     (λ row m same. other_key key e.0 p.0 (sym same ∙ row_key e.0 e.1 row m))
     ∙ none_in_table key s es p.1
 
-none_past : (key : List ℕ) (es : List (List ℕ × List Cell))
+pub none_past : (key : List ℕ) (es : List (List ℕ × List Cell))
     → AllByRecursion (λ y. slice_cmp nat_cmp key y ≡ Less) (keys_of es) → lookup (test key) es ≡ None
 none_past key [] h = refl
 none_past key (e ∷ es) h = ap (λ o. cond (is_eq o) (Some e.1) (lookup (test key) es)) h.0 ∙ none_past key es h.1

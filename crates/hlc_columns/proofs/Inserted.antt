@@ -1,4 +1,5 @@
--- One more row: at the end of its key's column, or as a column of its own. The rows before and after it do not change.
+-- One more row: at the end of its key's column, or as a column of its own. The rows before and after it do not change,
+-- and none after it has its key.
 use Rattle.std.proofs.Common.{◌≡◌, ℕ, ◌<◌, Bool, true, false, cond, List, [], ◌∷◌}
 use Rattle.std.proofs.Common.{◌++◌, Some, None, length, refl, sym}
 use Rattle.std.proofs.Common.{ap, ◌∙◌, subst, inl, inr, arith, All, true≢false, Ordering, Less, Equal, Greater, nat_cmp}
@@ -17,28 +18,31 @@ use Rattle.hlc_rows.specs.declared.row.Row.{Row}
 use Rattle.hlc_rows.specs.Rows.{IsRowSet}
 use Rattle.hlc_column.specs.Cells.{Cell}
 use Rattle.hlc_column.specs.Rows.{row_of, rows_of}
-use Rattle.std.specs.List.Sorted.{IsPermutation}
+use Rattle.std.specs.List.Sorted.{IsPermutation, IsStrictlySortedBy}
+use Rattle.std.specs.Map.{keys_of}
+use Rattle.std.proofs.lemmas.Map.Keys.{sorted_head, sorted_tail}
 use Rattle.std.proofs.lemmas.List.Sorted.{IsPermutation-append_right, IsPermutation-append_comm}
 use Rattle.std.proofs.lemmas.List.Elements.{Contains-append_cases, Contains-append_left, Contains-append_right}
-use Rattle.hlc_columns.specs.Table.{table_rows, HasNoVersion, Inserted}
-use Rattle.hlc_columns.proofs.FoundLemmas.{test, same_key, none_here}
+use Rattle.hlc_columns.specs.Table.{table_rows, HasNoVersion, InsertedLast}
+use Rattle.hlc_columns.proofs.FoundLemmas.{test, same_key, none_here, none_past, no_row}
 use Rattle.hlc_values.proofs.MemberLemmas.{Contains-rest, Contains-cons_cases}
 
-more_before : (xs : List Row) (old : List Row) (row : Row) (new : List Row) → Inserted old row new
-    → Inserted (xs ++ old) row (xs ++ new)
-more_before xs old row new (front, back, was, is) = (
+more_before : (xs : List Row) (old : List Row) (row : Row) (new : List Row) → InsertedLast old row new
+    → InsertedLast (xs ++ old) row (xs ++ new)
+more_before xs old row new (front, back, was, is, others) = (
   xs ++ front,
   back,
   ap (λ ys. xs ++ ys) was ∙ sym (append_assoc xs front back),
   ap (λ ys. xs ++ ys) is ∙ sym (append_assoc xs front (row ∷ back)),
+  others,
 )
 
 -- one more row at the end of a key's column
 pub pushed : (key : List ℕ) (cell : Cell) (cells : List Cell) (es : List (List ℕ × List Cell))
-    → lookup (test key) es ≡ Some cells
-    → Inserted (table_rows es) (row_of key cell) (table_rows (set_value (test key) es (cells ++ cell ∷ [])))
-pushed key cell cells [] h = absurd (none-some cells h)
-pushed key cell cells (e ∷ es) h =
+    → IsStrictlySortedBy (λ a b. slice_cmp nat_cmp a b) (keys_of es) → lookup (test key) es ≡ Some cells
+    → InsertedLast (table_rows es) (row_of key cell) (table_rows (set_value (test key) es (cells ++ cell ∷ [])))
+pushed key cell cells [] up h = absurd (none-some cells h)
+pushed key cell cells (e ∷ es) up h =
     elim (cases_Bool (test key e.0)) [
       | inl t ↦
           let same = same_key key e.0 t in
@@ -53,10 +57,14 @@ pushed key cell cells (e ∷ es) h =
                 ∙ ap (λ rows. rows ++ table_rows es) (map-append (row_of e.0) e.1 (cell ∷ []))
                 ∙ append_assoc (rows_of e.0 e.1) (row_of e.0 cell ∷ []) (table_rows es)
                 ∙ ap (λ k. rows_of e.0 e.1 ++ row_of k cell ∷ table_rows es) (sym same),
+            no_row key es (none_past key es
+                (subst (λ k. AllByRecursion (λ y. slice_cmp nat_cmp k y ≡ Less) (keys_of es)) (sym same)
+                (sorted_head (λ a b. slice_cmp nat_cmp a b) e.0 (keys_of es) up))),
           )
       | inr n ↦
-          let rest = pushed key cell cells es (sym (ap (λ b. cond b (Some e.1) (lookup (test key) es)) n) ∙ h) in
-          subst (λ b. Inserted (table_rows (e ∷ es)) (row_of key cell) (table_rows
+          let rest = pushed key cell cells es (sorted_tail (λ a b. slice_cmp nat_cmp a b) e.0 (keys_of es) up)
+          (sym (ap (λ b. cond b (Some e.1) (lookup (test key) es)) n) ∙ h) in
+          subst (λ b. InsertedLast (table_rows (e ∷ es)) (row_of key cell) (table_rows
           (cond b ((e.0, cells ++ cell ∷ []) ∷ es) (e ∷ set_value (test key) es (cells ++ cell ∷ []))))) (sym n)
           (more_before (rows_of e.0 e.1) (table_rows es) (row_of key cell)
           (table_rows (set_value (test key) es (cells ++ cell ∷ []))) rest)
@@ -64,16 +72,16 @@ pushed key cell cells (e ∷ es) h =
 
 -- a column of one row for a new key
 pub added : (k : List ℕ) (cell : Cell) (es : List (List ℕ × List Cell)) → lookup (test k) es ≡ None
-    → Inserted (table_rows es) (row_of k cell)
+    → InsertedLast (table_rows es) (row_of k cell)
     (table_rows (insert_entry (λ a b. slice_cmp nat_cmp a b) es k (cell ∷ [])))
-added k cell [] h = ([], [], refl, refl)
+added k cell [] h = ([], [], refl, refl, no_row k [] h)
 added k cell (e ∷ es) h =
     let p = none_here k e es h in
     elim (slice_cmp nat_cmp k e.0) as (λ o. slice_cmp nat_cmp k e.0 ≡ o
-    → Inserted (table_rows (e ∷ es)) (row_of k cell)
+    → InsertedLast (table_rows (e ∷ es)) (row_of k cell)
     (table_rows (match_ordering o ((k, cell ∷ []) ∷ e ∷ es) ((e.0, cell ∷ []) ∷ es)
     (e ∷ insert_entry (λ a b. slice_cmp nat_cmp a b) es k (cell ∷ []))))) [
-      | Less ↦ λ is. ([], table_rows (e ∷ es), refl, refl)
+      | Less ↦ λ is. ([], table_rows (e ∷ es), refl, refl, no_row k (e ∷ es) h)
       | Equal ↦ λ is. absurd (true≢false (ap is_eq (sym is) ∙ p.0))
       | Greater ↦ λ is. more_before (rows_of e.0 e.1) (table_rows es) (row_of k cell)
           (table_rows (insert_entry (λ a b. slice_cmp nat_cmp a b) es k (cell ∷ []))) (added k cell es p.1)
@@ -131,14 +139,15 @@ cell_of row = record { stamp = row.stamp; node = row.node; value = row.value }
 
 module _ (row : Row) (es after : List (List ℕ × List Cell)) (old : List Row)
     (was : table_rows es ≡ old) where
-  pub pushed_as : (key : List ℕ) (cells new : List Cell) → key ≡ row.key → Some cells ≡ lookup (test key) es
+  pub pushed_as : IsStrictlySortedBy (λ a b. slice_cmp nat_cmp a b) (keys_of es)
+      → (key : List ℕ) (cells new : List Cell) → key ≡ row.key → Some cells ≡ lookup (test key) es
       → after ≡ set_value (test key) es new → new ≡ cells ++ cell_of row ∷ []
-      → Inserted old row (table_rows after)
-  pushed_as key cells new same found is more =
-      subst (λ o. Inserted o row (table_rows after)) was
-      (subst (λ k. Inserted (table_rows es) (row_of k (cell_of row)) (table_rows after)) same
-      (subst (λ a. Inserted (table_rows es) (row_of key (cell_of row)) (table_rows a))
-      (sym (is ∙ ap (set_value (test key) es) more)) (pushed key (cell_of row) cells es (sym found))))
+      → InsertedLast old row (table_rows after)
+  pushed_as up key cells new same found is more =
+      subst (λ o. InsertedLast o row (table_rows after)) was
+      (subst (λ k. InsertedLast (table_rows es) (row_of k (cell_of row)) (table_rows after)) same
+      (subst (λ a. InsertedLast (table_rows es) (row_of key (cell_of row)) (table_rows a))
+      (sym (is ∙ ap (set_value (test key) es) more)) (pushed key (cell_of row) cells es up (sym found))))
 
   pub kept_as : (key : List ℕ) (cells new : List Cell) → Some cells ≡ lookup (test key) es
       → after ≡ set_value (test key) es new → new ≡ cells → table_rows after ≡ old
@@ -148,11 +157,11 @@ module _ (row : Row) (es after : List (List ℕ × List Cell)) (old : List Row)
   pub added_as : (key : List ℕ) (k : List ℕ) (cells : List Cell) → key ≡ row.key → k ≡ row.key
       → None ≡ lookup (test key) es → after ≡ insert_entry (λ a b. slice_cmp nat_cmp a b) es k cells
       → cells ≡ cell_of row ∷ []
-      → Inserted old row (table_rows after)
+      → InsertedLast old row (table_rows after)
   added_as key k cells same names absent is one =
-      subst (λ o. Inserted o row (table_rows after)) was
-      (subst (λ n. Inserted (table_rows es) (row_of n (cell_of row)) (table_rows after)) names
-      (subst (λ a. Inserted (table_rows es) (row_of k (cell_of row)) (table_rows a))
+      subst (λ o. InsertedLast o row (table_rows after)) was
+      (subst (λ n. InsertedLast (table_rows es) (row_of n (cell_of row)) (table_rows after)) names
+      (subst (λ a. InsertedLast (table_rows es) (row_of k (cell_of row)) (table_rows a))
       (sym (is ∙ ap (insert_entry (λ a b. slice_cmp nat_cmp a b) es k) one))
       (added k (cell_of row) es (ap (λ n. lookup (test n) es) (names ∙ sym same) ∙ sym absent))))
 
@@ -162,18 +171,18 @@ found_some is_key es cells h found =
     subst (λ o. IfSome o (λ cs. 0 < length cs)) (sym found) (All-lookup (λ cs. 0 < length cs) is_key es h)
 
 -- one more row is among them, in some order
-pub inserted-IsPermutation : (old : List Row) (row : Row) (new : List Row) → Inserted old row new
+pub inserted-IsPermutation : (old : List Row) (row : Row) (new : List Row) → InsertedLast old row new
     → IsPermutation (old ++ row ∷ []) new
-inserted-IsPermutation old row new (front, back, was, is) =
+inserted-IsPermutation old row new (front, back, was, is, others) =
     subst (λ xs. IsPermutation (xs ++ row ∷ []) new) (sym was)
     (subst (IsPermutation ((front ++ back) ++ row ∷ [])) (sym is)
     (subst (λ xs. IsPermutation xs (front ++ row ∷ back)) (sym (append_assoc front back (row ∷ [])))
     (IsPermutation-append_right front (back ++ row ∷ []) (row ∷ back) (IsPermutation-append_comm back (row ∷ [])))))
 
 -- and they are still a row set
-pub inserted-IsRowSet : (old : List Row) (row : Row) (new : List Row) → Inserted old row new → HasNoVersion old row
+pub inserted-IsRowSet : (old : List Row) (row : Row) (new : List Row) → InsertedLast old row new → HasNoVersion old row
     → IsRowSet old → IsRowSet new
-inserted-IsRowSet old row new (front, back, was, is) none apart =
+inserted-IsRowSet old row new (front, back, was, is, others) none apart =
     subst IsRowSet (sym is) (go front (subst (λ rows. HasNoVersion rows row) was none) (subst IsRowSet was apart))
   where
     go : (front : List Row) → HasNoVersion (front ++ back) row → IsRowSet (front ++ back)
@@ -196,6 +205,6 @@ inserted-IsRowSet old row new (front, back, was, is) none apart =
 
 -- whether it was added or not, the rows are a row set
 pub either-IsRowSet : {R E : Type 0} (result : Result R E) (old : List Row) (row : Row) (new : List Row)
-    → OnOk result (Inserted old row new) → OnErr result (new ≡ old) → HasNoVersion old row → IsRowSet old → IsRowSet new
+    → OnOk result (InsertedLast old row new) → OnErr result (new ≡ old) → HasNoVersion old row → IsRowSet old → IsRowSet new
 either-IsRowSet (Ok r) old row new ok err none apart = inserted-IsRowSet old row new ok none apart
 either-IsRowSet (Err e) old row new ok err none apart = subst IsRowSet (sym err) apart

@@ -437,7 +437,7 @@ none_of key rows none = All-from_recursion (λ (row : Row). bytes_eq row.key key
       | inr f ↦ (f, go rows (sym (ap (λ b. cond b (row ∷ rows_with key rows) (rows_with key rows)) f) ∙ none))
     ]
 
-filtered_none : (key : List ℕ) (rows : List Row) → NoneOf key rows → rows_with key rows ≡ []
+pub filtered_none : (key : List ℕ) (rows : List Row) → NoneOf key rows → rows_with key rows ≡ []
 filtered_none key [] none = refl
 filtered_none key (row ∷ rows) none =
     ap (λ b. cond b (row ∷ rows_with key rows) (rows_with key rows)) (none 0 row (omega arith))

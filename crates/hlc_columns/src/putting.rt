@@ -4,7 +4,7 @@ ghost use Rattle.std.specs.Prelude.{OnOk, OnErr, IfOk, IfErr};
 ghost use Rattle.std.specs.Map.{lookup};
 ghost use Rattle.hlc_index.specs.Entries.{is_key, keys_in, entries_in, IsEntryAt, IsGap};
 ghost use Rattle.hlc_columns.specs.Parts.{new_row};
-ghost use Rattle.hlc_columns.specs.Table.{indexed_rows, AreFilled, Inserted};
+ghost use Rattle.hlc_columns.specs.Table.{indexed_rows, AreFilled, InsertedLast};
 ghost use Rattle.hlc_column.specs.Cells.{value_bytes};
 ghost use Rattle.hlc_columns.specs.Sizes.{sizes_of, with_row, with_key, Fit};
 
@@ -40,7 +40,7 @@ pub(crate) fn put_row(
     requires filled { AreFilled columns.old }
     requires sizes { sizes.old ≡ sizes_of (entries_in columns.old) }
     requires fit { Fit sizes.old }
-    ensures ok { OnOk result (Inserted (indexed_rows columns.old) (new_row row.entry)
+    ensures ok { OnOk result (InsertedLast (indexed_rows columns.old) (new_row row.entry)
         (indexed_rows columns.new)) }
     ensures err { OnErr result (indexed_rows columns.new ≡ indexed_rows columns.old) }
     ensures filled { AreFilled columns.new }
@@ -80,7 +80,7 @@ fn push_at(
     requires inside { slot < length (slice_index_or columns.old at []) }
     requires filled { AreFilled columns.old }
     ensures ok { (key : List ℕ) → IsEntryAt columns.old key at slot
-        → OnOk result (Inserted (indexed_rows columns.old)
+        → OnOk result (InsertedLast (indexed_rows columns.old)
         (record { key = key; stamp = stamp; node = node; value = value }) (indexed_rows columns.new)) }
     ensures err { OnErr result (indexed_rows columns.new ≡ indexed_rows columns.old) }
     ensures filled { AreFilled columns.new }
@@ -103,7 +103,7 @@ fn add_column(
     requires new { lookup (is_key row.key.now) (entries_in columns.old) ≡ None }
     requires gap { IsGap columns.old row.key.now at slot }
     requires filled { AreFilled columns.old }
-    ensures ok { OnOk result (Inserted (indexed_rows columns.old) (new_row row.entry)
+    ensures ok { OnOk result (InsertedLast (indexed_rows columns.old) (new_row row.entry)
         (indexed_rows columns.new)) }
     ensures err { OnErr result (indexed_rows columns.new ≡ indexed_rows columns.old) }
     ensures filled { AreFilled columns.new }

@@ -23,7 +23,8 @@ returns-clause-ok c key there =
     (λ more. pushed_as (record { key = key; stamp = c.args.stamp; node = c.args.node; value = c.args.value })
     (entries_in c.args.columns.now)
     (entries_in (with_value_in c.args.columns.now c.args.at c.args.slot c.push.new.self))
-    (indexed_rows c.args.columns.now) refl key c.value_mut-column.result.now c.push.new.self refl
+    (indexed_rows c.args.columns.now) refl c.value_mut-column.ensures.ascend key c.value_mut-column.result.now
+    c.push.new.self refl
     (sym (entry_found c.args.columns.now key c.args.at c.args.slot there c.value_mut-column.ensures.ascend
     c.value_mut-column.result.now c.value_mut-column.ensures.value))
     (entry_written c.args.columns.now key c.args.at c.args.slot there c.value_mut-column.ensures.ascend

@@ -4,7 +4,7 @@ use Rattle.std.specs.Prelude.{OnOk, OnErr}
 use Rattle.std.proofs.lemmas.Result.{on_ok_weaker, on_err_weaker}
 use Rattle.hlc_rows.specs.declared.row.Row.{Row as ARow}
 use Rattle.hlc_rows.specs.Rows.{IsRowSet}
-use Rattle.hlc_columns.specs.Table.{indexed_rows, Inserted}
+use Rattle.hlc_columns.specs.Table.{indexed_rows, InsertedLast}
 use Rattle.hlc_columns.proofs.Inserted.{inserted-IsPermutation, either-IsRowSet}
 use Rattle.hlc_columns.proofs.table.Table.insert_copy.Goals as goal
 use Rattle.hlc_columns.proofs.table.Table.insert_copy.Goals.{After-put_row}
@@ -14,13 +14,13 @@ abbrev row_in : After-put_row → ARow
 row_in c = record { key = c.args.key.now; stamp = c.args.stamp; node = c.args.node; value = option_copied c.args.value }
 
 added : (c : After-put_row)
-    → OnOk c.put_row.result (Inserted c.args.self.now (row_in c) (indexed_rows c.put_row.new.columns))
+    → OnOk c.put_row.result (InsertedLast c.args.self.now (row_in c) (indexed_rows c.put_row.new.columns))
 added c =
     on_ok_weaker c.put_row.result
-    (λ more. subst (λ value. Inserted c.args.self.now
+    (λ more. subst (λ value. InsertedLast c.args.self.now
     (record { key = c.args.key.now; stamp = c.args.stamp; node = c.args.node; value = value })
     (indexed_rows c.put_row.new.columns)) c.in_ok-value.ensures
-    (subst (λ old. Inserted old
+    (subst (λ old. InsertedLast old
     (record { key = c.args.key.now; stamp = c.args.stamp; node = c.args.node; value = c.in_ok-value.value })
     (indexed_rows c.put_row.new.columns)) c.self.view_is more)) c.put_row.ensures.ok
 
@@ -41,3 +41,6 @@ pub returns-clause-ok : goal.returns-clause-ok
 returns-clause-ok c =
     let at = (goal.at.returns-clause-ok c).After-put_row in
     on_ok_weaker c.put_row.result (inserted-IsPermutation c.args.self.now (row_in at) _) (added at)
+
+pub returns-clause-last : goal.returns-clause-last
+returns-clause-last c = added ((goal.at.returns-clause-last c).After-put_row)

@@ -4,7 +4,7 @@ use Rattle.std.specs.Prelude.{OnOk, OnErr}
 use Rattle.std.proofs.lemmas.Result.{on_ok_weaker, on_err_weaker}
 use Rattle.hlc_rows.specs.declared.row.Row.{Row as ARow}
 use Rattle.hlc_rows.specs.Rows.{IsRowSet}
-use Rattle.hlc_columns.specs.Table.{indexed_rows, Inserted}
+use Rattle.hlc_columns.specs.Table.{indexed_rows, InsertedLast}
 use Rattle.hlc_columns.proofs.Inserted.{inserted-IsPermutation, either-IsRowSet}
 use Rattle.hlc_columns.proofs.table.Table.insert_last.Goals as goal
 use Rattle.hlc_columns.proofs.table.Table.insert_last.Goals.{After-put_row}
@@ -14,10 +14,10 @@ abbrev row_in : After-put_row → ARow
 row_in c = record { key = c.args.key.now; stamp = c.args.stamp; node = c.args.node; value = c.args.value }
 
 added : (c : After-put_row)
-    → OnOk c.put_row.result (Inserted c.args.self.now (row_in c) (indexed_rows c.put_row.new.columns))
+    → OnOk c.put_row.result (InsertedLast c.args.self.now (row_in c) (indexed_rows c.put_row.new.columns))
 added c =
     on_ok_weaker c.put_row.result
-    (subst (λ old. Inserted old (row_in c) (indexed_rows c.put_row.new.columns)) c.self.view_is) c.put_row.ensures.ok
+    (subst (λ old. InsertedLast old (row_in c) (indexed_rows c.put_row.new.columns)) c.self.view_is) c.put_row.ensures.ok
 
 stayed : (c : After-put_row) → OnErr c.put_row.result (indexed_rows c.put_row.new.columns ≡ c.args.self.now)
 stayed c = on_err_weaker c.put_row.result (λ same. same ∙ c.self.view_is) c.put_row.ensures.err
