@@ -1,6 +1,6 @@
 -- The last row of a key goes out again, and the rows are those before it was added. Rows of other keys may be added to
 -- that one.
-use Rattle.std.proofs.Common.{◌≡◌, ◌≢◌, ◌<◌, ◌+◌, ◌∙◌, ℕ, zero, suc, Bool, true, false, cond, List, [], ◌∷◌, ◌++◌}
+use Rattle.std.proofs.Common.{◌≡◌, ◌≢◌, ◌<◌, ◌∙◌, ℕ, zero, suc, Bool, true, false, cond, List, [], ◌∷◌, ◌++◌}
 use Rattle.std.proofs.Common.{refl, sym, ap, subst, inl, inr, arith, length, length-append, append_assoc, replicate}
 use Rattle.std.proofs.Common.{true≢false, Contains}
 use Rattle.std.specs.Prelude.{◌||◌}
@@ -15,7 +15,7 @@ use Rattle.std.proofs.lemmas.List.Sorted.{IsPermutation-append_left, IsPermutati
 use Rattle.hlc_values.proofs.MemberLemmas.{Contains-none, Contains-first, Contains-rest, Contains-cons_cases}
 use Rattle.hlc_rows.specs.declared.row.Row.{Row}
 use Rattle.hlc_rows.specs.declared.write.Write.{Write}
-use Rattle.hlc_rows.specs.Writes.{row_written, rows_written, writes_key, writes_twice}
+use Rattle.hlc_rows.specs.Writes.{row_written, rows_written, writes_key}
 use Rattle.hlc_column.specs.Rows.{rows_with}
 use Rattle.hlc_columns.specs.Table.{rows_kept, HasNoVersion, InsertedLast}
 use Rattle.hlc_columns.proofs.KeptOf.{NoneOf, kept_none, kept_before, filtered_none}

@@ -1,6 +1,5 @@
 -- The first row goes in, and then the others, which are of other keys. If they do not, it goes out again.
 use Rattle.std.proofs.Common.{◌≡◌, ◌++◌, ◌∷◌, [], ℕ, List, Option, Contains, false, ap₂, sym, subst, arith}
-use Rattle.std.proofs.Common.{option_copied}
 use Rattle.std.specs.List.Sorted.{IsPermutation}
 use Rattle.hlc_values.proofs.MemberLemmas.{Contains-first, Contains-rest}
 use Rattle.hlc_rows.specs.declared.row.Row.{Row as ARow}

@@ -1,5 +1,5 @@
 -- All rows of the key but the last are kept, and it has a row.
-use Rattle.std.proofs.Common.{rules, ◌≡◌, ◌-◌, ◌∙◌, ◌++◌, ◌∷◌, [], true, false, ap, sym, arith, length, take, replicate}
+use Rattle.std.proofs.Common.{rules, ◌-◌, ◌∙◌, ◌∷◌, [], true, false, ap, sym, arith, length, replicate}
 use Rattle.std.proofs.Common.{length-append}
 use Rattle.std.proofs.lemmas.List.{length-map, length-replicate, take_all}
 use Rattle.hlc_column.specs.Rows.{row_of, rows_with}
