@@ -3,17 +3,17 @@
 use Rattle.std.proofs.Common.{◌≡◌, ℕ, ◌+◌, ◌<◌, ◌≤◌, List, [], ◌∷◌, ◌++◌, length, max, Bool, true, false, refl, ap}
 use Rattle.std.proofs.Common.{sym, ◌∙◌, subst, inl, inr, arith, length-set, length-append, get_or-set_other}
 use Rattle.std.proofs.lemmas.Grind.{get_or-set_at}
-use Rattle.std.proofs.lemmas.List.{append-nil, get_or_append_left}
+use Rattle.std.proofs.lemmas.List.{get_or_append_left}
 use Rattle.std.proofs.Math.Seq.{get_or-append_seam}
 use Rattle.std.specs.Prelude.{All, Contains, Result, Ok, Err, Some, None, IfOk, OnErr, not, ◌==◌, slice_set}
 use Rattle.std.specs.Ordering.{is_gt, nat_cmp}
 use Rattle.std.proofs.lemmas.Bool.{cases_eq}
 use Rattle.std.proofs.lemmas.Bool.Decides.{nat_tests}
 use Rattle.std.proofs.lemmas.List.Elements.{All-nil, All-push, All-weaker, All-filter, All-contains}
-use Rattle.std.proofs.lemmas.List.Elements.{All-contains_itself}
+use Rattle.std.proofs.lemmas.List.Elements.{All-append, All-contains_itself}
 use Rattle.hlc_rows.specs.declared.row.Row.{Row}
 use Rattle.hlc_node.specs.declared.item.Body.{Body}
-use Rattle.hlc_node.specs.declared.item.Body.TheVariants.{Write, Report, Retire}
+use Rattle.hlc_node.specs.Items.{body_refusal}
 use Rattle.hlc_rows.specs.Rows.{IsRowSet}
 use Rattle.hlc_snapshot.specs.declared.snapshot.Snapshot.{Snapshot}
 use Rattle.hlc_snapshot.specs.declared.fault.NoSnapshot.{NoSnapshot}
@@ -115,22 +115,24 @@ under-joined heads x row under =
 
 under-all : (P : Row → Type 0) (rows : List Row) (node stamp : ℕ) (body : Body) → All P rows
     → ((row : Row) → row.node ≡ node → row.stamp ≡ stamp → P row) → All P (rows ++ body_rows node stamp body)
-under-all P rows node stamp Report all' new = rw append-nil all'
-under-all P rows node stamp Retire all' new = rw append-nil all'
-under-all P rows node stamp (Write key value) all' new =
-    All-push P rows (record { key = key; stamp = stamp; node = node; value = value }) all' (new _ refl refl)
+under-all P rows node stamp body all' new =
+    let more : List Row = body_rows node stamp body in
+    All-append P rows more all'
+    (All-weaker (Contains more) P
+    (λ row m. let are = body_rows-are node stamp body row m in new row are.0 are.1) more (All-contains_itself more))
 
 raised-all : (floor high : ℕ) (snapshots : List Snapshot) → floor ≤ high → All (AreBelow floor) snapshots
     → All (AreBelow high) snapshots
 raised-all floor high snapshots up all' = All-weaker (AreBelow floor) (AreBelow high)
     (λ snapshot below. (let b : snapshot.stamp ≤ floor = below in omega arith)) snapshots all'
 
--- an item above its node's head is accepted: the head is raised, and its row, if it is a write, is stored
+-- an item above its node's head is accepted: the head is raised, and its rows are stored
 pub consistent-accept : (marks : HeadsView) (snapshots : List Snapshot) (rows : List Row) (node stamp : ℕ) (body : Body)
     (last : Bool) → IsConsistent marks snapshots rows → node < length marks.heads
     → (head_at marks.heads node).retired ≡ false → (head_at marks.heads node).stamp < stamp
+    → body_refusal body ≡ None
     → IsConsistent (marked marks node stamp last) snapshots (rows ++ body_rows node stamp body)
-consistent-accept marks snapshots rows node stamp body last h within here up =
+consistent-accept marks snapshots rows node stamp body last h within here up good =
     let heads : List Head = marks.heads in
     let x : Head = a_head stamp last in
     let new : List Head = slice_set heads node x in
@@ -139,7 +141,7 @@ consistent-accept marks snapshots rows node stamp body last h within here up =
     record {
       opened = raised-all (floor_of marks) (floor_of (marked marks node stamp last)) snapshots
           (floor-marked marks node stamp last within here up) h.opened;
-      row_set = row_set-body node stamp body rows
+      row_set = row_set-body node stamp body rows good
           (λ row other m k same.
           let are : (row.node ≡ node) × (row.stamp ≡ stamp) = body_rows-are node stamp body row m in
           let under : IsUnder heads other = All-contains (IsUnder heads) rows other h.stored k in

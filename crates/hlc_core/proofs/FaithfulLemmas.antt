@@ -1,14 +1,18 @@
 -- What is promised of a whole history is true since the core represents it: each moment of a legal history is legal, so
--- each read and each vacuum got the expected reply there; an open snapshot's answers stay; each change forces a row and
--- its bytes; and a core that represents a vacuum was left with the fewest rows.
+-- each read and each vacuum got the expected reply there; an open snapshot's answers stay; all rows of an item have one
+-- stamp, so a snapshot shows all or none of them; each change forces a row and its bytes; and a core that represents a
+-- vacuum was left with the fewest rows.
 use Rattle.std.proofs.Common.{◌≡◌, ℕ, ◌≤◌, List, [], ◌∷◌, ◌++◌, length, Option, Some, None, refl, ap, sym, ◌∙◌, subst}
-use Rattle.std.proofs.Common.{arith}
+use Rattle.std.proofs.Common.{arith, inl, inr}
+use Rattle.std.specs.Prelude.{Contains}
+use Rattle.std.proofs.lemmas.Bool.{cases_lt}
 use Rattle.hlc_rows.specs.declared.row.Row.{Row}
-use Rattle.hlc_rows.specs.Rows.{answer}
+use Rattle.hlc_rows.specs.Rows.{answer, newest, IsNoLater}
+use Rattle.hlc_rows.proofs.NewestLemmas.{newest_is_greatest, no_newest_no_row, no_later_stamp}
 use Rattle.hlc_witness.specs.Cost.{changes_cost, rows_cost}
 use Rattle.hlc_witness.proofs.ChangeLemmas.{changes_force_rows}
 use Rattle.hlc_witness.proofs.CostLemmas.{changes_force_bytes}
-use Rattle.hlc_core.specs.Past.{Step, floor, stamp_of, writes, IsLegal}
+use Rattle.hlc_core.specs.Past.{Step, floor, stamp_of, item_rows, writes, IsLegal}
 use Rattle.hlc_draft.specs.declared.report.Report.{Report}
 use Rattle.hlc_core.specs.Stored.{IsReport, LeavesFewest}
 use Rattle.hlc_core.specs.StoreView.{StoreView, nodes, Represents}
@@ -25,9 +29,11 @@ use Rattle.hlc_core.specs.History.{step_of, with_step, past_of, IsAnswer, IsExpe
 use Rattle.hlc_core.specs.History.{IsLeft}
 use Rattle.hlc_core.specs.Headline.{IsMoment, ReadsAreNewest, VacuumsAreFewest, VacuumsAreCheapest, FewestAreLeft}
 use Rattle.hlc_core.specs.Headline.{IsFaithful, SnapshotsStay, PartsAreFewest, FewestAreLeftByParts, vacuum_stamp}
+use Rattle.hlc_core.specs.Headline.{AreSeenWhole, SnapshotsShowWhole}
 use Rattle.hlc_core.specs.Parts.{IsPartReport, rows_of_keys}
 use Rattle.hlc_columns.specs.Answers.{in_part}
 use Rattle.hlc_core.proofs.ListingLemmas.{one-listing}
+use Rattle.hlc_core.proofs.PastLemmas.{body_rows-are, took-writes}
 use Rattle.hlc_core.proofs.StayLemmas.{legal-before, snapshots-stay}
 use Rattle.hlc_core.proofs.VacuumLemmas.{leaves-fewest}
 
@@ -131,6 +137,35 @@ stays nodes h legal past = record {
       (moment-past nodes h ((ListAll id, Listing again) ∷ (between ++ first)) past moment) one.1 two.1) two.2) one.2;
 }
 
+-- a reader at or above the stamp of a row sees it or a later one
+newest-after : (all : List Row) (stamp : ℕ) (row : Row) → Contains all row → row.stamp ≤ stamp
+    → (o : Option Row) → newest all row.key stamp ≡ o
+    → (seen : Row) × (newest all row.key stamp ≡ Some seen) × IsNoLater row seen
+newest-after all stamp row m low None is = absurd (no_newest_no_row all row.key stamp row is m refl low)
+newest-after all stamp row m low (Some seen) is =
+    (seen, is, (newest_is_greatest all row.key stamp seen is).greatest row m refl low)
+
+-- rows of one stamp are seen whole: at or above it all of them or later ones, and below it nothing that is no earlier
+seen-whole : (all : List Row) (stamp at : ℕ) (rows : List Row) → ((row : Row) → Contains rows row → Contains all row)
+    → ((row : Row) → Contains rows row → row.stamp ≡ at) → AreSeenWhole all stamp rows
+seen-whole all stamp at rows within are =
+    elim (cases_lt stamp at) [
+      | inl above ↦ inr (λ row seen m is later.
+          let low : seen.stamp ≤ stamp = (newest_is_greatest all row.key stamp seen is).in_bound in
+          let le : row.stamp ≤ seen.stamp = no_later_stamp row seen later in
+          let e : row.stamp ≡ at = are row m in omega arith)
+      | inr below ↦ inl (λ row m.
+          let low : row.stamp ≤ stamp = (let e : row.stamp ≡ at = are row m in omega arith) in
+          newest-after all stamp row (within row m) low (newest all row.key stamp) refl)
+    ]
+
+-- each snapshot shows all writes of an item or none of them
+shows-whole : (h : List (CoreEvent × CoreReply)) → SnapshotsShowWhole h
+shows-whole h = λ before id stamp item moment is took.
+    seen-whole (writes (past_of before)) stamp item.stamp (item_rows item)
+    (λ row m. took-writes (past_of before) item row took m)
+    (λ row m. (body_rows-are item.node item.stamp item.body row m).1)
+
 -- only an event that asks for a vacuum has a report as its reply
 reported : (nodes : ℕ) (past : List Step) (event : CoreEvent) (report : Report)
     → IsExpected nodes past event (Vacuumed report)
@@ -232,6 +267,7 @@ pub histories_are_faithful : (kept : StoreView) (h : List (CoreEvent × CoreRepl
 histories_are_faithful kept h represents = record {
   reads = reads-newest (nodes kept) h represents.legal;
   stays = stays (nodes kept) h represents.legal represents.core.legal;
+  whole = shows-whole h;
   vacuums = vacuums-least (nodes kept) h represents.legal;
   bytes = vacuums-cheapest (nodes kept) h represents.legal;
   fewest = fewest-left kept h represents;

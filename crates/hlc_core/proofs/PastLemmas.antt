@@ -2,16 +2,17 @@
 -- twice, and the floor never falls, so no open snapshot is above it; and its body is allowed, so no accepted write is
 -- out of the limits.
 use Rattle.std.proofs.Common.{◌≡◌, ℕ, ◌+◌, ◌<◌, ◌≤◌, ◌⊎◌, List, [], ◌∷◌, ◌++◌, max, Bool, true}
-use Rattle.std.proofs.Common.{false, Option, Some, None, refl, ap, sym, ◌∙◌, subst, inl, inr, arith, append-nil}
+use Rattle.std.proofs.Common.{false, Option, Some, None, refl, ap, sym, ◌∙◌, subst, inl, inr, arith}
 use Rattle.std.specs.Prelude.{All, Contains, ◌==◌, ◌≢◌, not}
 use Rattle.std.proofs.lemmas.Bool.{cond-true, cond-false, le-leb, lt-leb, lt-ltb, le-ltb, eq-eqb, ne_eqb, cases_lt}
 use Rattle.std.proofs.lemmas.Bool.{cases_eq}
-use Rattle.std.proofs.lemmas.List.Elements.{Contains-append_cases, All-nil, All-weaker, All-push, All-filter}
+use Rattle.std.proofs.lemmas.List.Elements.{Contains-append_cases, All-nil, All-cons, All-weaker, All-push, All-filter}
+use Rattle.std.proofs.lemmas.List.Elements.{All-append, Contains-append_left, Contains-append_right}
 use Rattle.hlc_values.proofs.MemberLemmas.{Contains-none, Contains-first, Contains-rest, Contains-cons_cases}
 use Rattle.hlc_rows.specs.declared.row.Row.{Row}
 use Rattle.hlc_node.specs.declared.item.Item.{Item}
 use Rattle.hlc_node.specs.declared.item.Body.{Body}
-use Rattle.hlc_node.specs.declared.item.Body.TheVariants.{Write, Report, Retire}
+use Rattle.hlc_node.specs.declared.item.Body.TheVariants.{Write, Batch, Report, Retire}
 use Rattle.hlc_intake.specs.declared.intake.LinkFault.TheVariants.{NotNext, NumbersSpent, StampNotRising}
 use Rattle.hlc_events.specs.declared.fault.CoreFault.TheVariants.{NoNode, Link, AboveFloor, BelowHorizon}
 use Rattle.hlc_events.specs.declared.fault.CoreFault.TheVariants.{Body as bad_body}
@@ -21,6 +22,8 @@ use Rattle.hlc_rows.specs.Rows.{IsSameVersion, IsRowSet}
 use Rattle.hlc_heads.specs.Low.{low}
 use Rattle.hlc_heads.proofs.LowLemmas.{low-is, low-rises, low-joins, low-stays}
 use Rattle.hlc_witness.specs.Cost.{IsInLimits, AreInLimits}
+use Rattle.hlc_core.proofs.BatchLemmas.{rows_written-are, rows_written-set, rows_written-limits, batch-good}
+use Rattle.hlc_core.proofs.BatchLemmas.{row_set-append}
 use Rattle.hlc_core.specs.Past.{Step, Took, Opened, Closed, Vacuumed, Trimmed, Joined, numbered, count, head, retired}
 use Rattle.hlc_core.specs.Past.{top, floor, horizon, vacuumed, open_snapshots, room_refusal, open_refusal, body_rows}
 use Rattle.hlc_core.specs.Past.{item_rows, writes, link_refusal, of_body, item_refusal, vacuum_refusal, IsLegal}
@@ -129,11 +132,12 @@ fresh nodes (Took item ∷ past) n legal out =
     let rest = fresh nodes past n legal.1 out in
     (count-other n item past other ∙ rest.0, retired-other n item past other ∙ rest.1)
 
--- the row of an item has its node and its stamp
+-- each row of an item has its node and its stamp
 pub body_rows-are : (node stamp : ℕ) (body : Body) (row : Row) → Contains (body_rows node stamp body) row
     → (row.node ≡ node) × (row.stamp ≡ stamp)
 body_rows-are node stamp Report row m = absurd (Contains-none row m)
 body_rows-are node stamp Retire row m = absurd (Contains-none row m)
+body_rows-are node stamp (Batch writes) row m = rows_written-are node stamp writes row m
 body_rows-are node stamp (Write key value) row m =
     elim (Contains-cons_cases (record { key = key; stamp = stamp; node = node; value = value }) row [] m) [
       | inl same ↦ (sym (ap (λ r. r.node) same), sym (ap (λ r. r.stamp) same))
@@ -159,6 +163,12 @@ pub still_here : (nodes : ℕ) (past : List Step) (item : Item) → item_refusal
     → retired item.node past ≡ false
 still_here nodes past item h =
     (admissible _ _ _ item (sym (on_link nodes past item (inside nodes past item h)) ∙ h)).here
+
+-- and its body is allowed
+pub good_body : (nodes : ℕ) (past : List Step) (item : Item) → item_refusal nodes past item ≡ None
+    → body_refusal item.body ≡ None
+good_body nodes past item h =
+    (admissible _ _ _ item (sym (on_link nodes past item (inside nodes past item h)) ∙ h)).limits
 
 -- no head of a node that has not retired is below the floor
 pub floor-le : (nodes : ℕ) (past : List Step) (n : ℕ) → n < numbered nodes past → retired n past ≡ false
@@ -233,6 +243,44 @@ below_head nodes (Took item ∷ past) legal row m =
           omega (arith, are.1)
     ]
 
+-- each row of an item that was accepted is an accepted write
+pub took-writes : (past : List Step) (item : Item) (row : Row) → Contains past (Took item)
+    → Contains (item_rows item) row → Contains (writes past) row
+took-writes [] item row m r = absurd (Contains-none (Took item) m)
+took-writes (Opened stamp ∷ past) item row m r =
+    elim (Contains-cons_cases (Opened stamp) (Took item) past m) [
+      | inl same ↦ absurd cc
+      | inr rest ↦ took-writes past item row rest r
+    ]
+took-writes (Closed id ∷ past) item row m r =
+    elim (Contains-cons_cases (Closed id) (Took item) past m) [
+      | inl same ↦ absurd cc
+      | inr rest ↦ took-writes past item row rest r
+    ]
+took-writes (Vacuumed at ∷ past) item row m r =
+    elim (Contains-cons_cases (Vacuumed at) (Took item) past m) [
+      | inl same ↦ absurd cc
+      | inr rest ↦ took-writes past item row rest r
+    ]
+took-writes (Trimmed at dropped ∷ past) item row m r =
+    elim (Contains-cons_cases (Trimmed at dropped) (Took item) past m) [
+      | inl same ↦ absurd cc
+      | inr rest ↦ took-writes past item row rest r
+    ]
+took-writes (Joined node start ∷ past) item row m r =
+    elim (Contains-cons_cases (Joined node start) (Took item) past m) [
+      | inl same ↦ absurd cc
+      | inr rest ↦ took-writes past item row rest r
+    ]
+took-writes (Took last ∷ past) item row m r =
+    elim (Contains-cons_cases (Took last) (Took item) past m) [
+      | inl same ↦
+          let is : last ≡ item = cc in
+          Contains-append_right (writes past) (item_rows last) row
+          (subst (λ x. Contains (item_rows x) row) (sym is) r)
+      | inr rest ↦ Contains-append_left (writes past) (item_rows last) row (took-writes past item row rest r)
+    ]
+
 new_version : (nodes : ℕ) (past : List Step) (item : Item) → IsLegal nodes past → item_refusal nodes past item ≡ None
     → (row other : Row) → Contains (item_rows item) row → Contains (writes past) other → IsSameVersion other row → ⊥
 new_version nodes past item legal none row other m k v =
@@ -242,30 +290,19 @@ new_version nodes past item legal none row other m k v =
     let e : head other.node past ≡ head item.node past = ap (λ j. head j past) (v.node ∙ are.0) in
     omega (arith, v.stamp, are.1)
 
-row_set-push : (rows : List Row) (row : Row) → ((other : Row) → Contains rows other → IsSameVersion other row → ⊥)
-    → IsRowSet rows → IsRowSet (rows ++ row ∷ [])
-row_set-push [] row fresh set' = ((λ other m v. Contains-none other m), tt)
-row_set-push (first ∷ rows) row fresh set' = (
-  λ other m v.
-      elim (Contains-append_cases rows (row ∷ []) other m) [
-        | inl earlier ↦ set'.0 other earlier v
-        | inr last ↦
-            elim (Contains-cons_cases row other [] last) [
-              | inl same ↦ fresh first (Contains-first first rows) (subst (λ x. IsSameVersion first x) (sym same) v)
-              | inr none ↦ Contains-none other none
-            ]
-      ],
-  row_set-push rows row (λ other m v. fresh other (Contains-rest first other rows m) v) set'.1,
-)
+-- the rows of a body that is not refused are a row set
+body_rows-set : (node stamp : ℕ) (body : Body) → body_refusal body ≡ None → IsRowSet (body_rows node stamp body)
+body_rows-set node stamp Report good = tt
+body_rows-set node stamp Retire good = tt
+body_rows-set node stamp (Write key value) good = ((λ other m same. Contains-none other m), tt)
+body_rows-set node stamp (Batch writes) good = rows_written-set node stamp writes (batch-good writes good).0
 
--- the row of an item, if it is a write, is added to others that are not its version
-pub row_set-body : (node stamp : ℕ) (body : Body) (rows : List Row)
+-- the rows of an item are added to others that are not versions of them
+pub row_set-body : (node stamp : ℕ) (body : Body) (rows : List Row) → body_refusal body ≡ None
     → ((row other : Row) → Contains (body_rows node stamp body) row → Contains rows other → IsSameVersion other row → ⊥)
     → IsRowSet rows → IsRowSet (rows ++ body_rows node stamp body)
-row_set-body node stamp Report rows fresh set' = rw append-nil set'
-row_set-body node stamp Retire rows fresh set' = rw append-nil set'
-row_set-body node stamp (Write key value) rows fresh set' =
-    row_set-push rows _ (λ other m v. fresh _ other (Contains-first _ []) m v) set'
+row_set-body node stamp body rows good fresh set' =
+    row_set-append rows (body_rows node stamp body) set' (body_rows-set node stamp body good) fresh
 
 -- no two accepted writes are alike in key, stamp and node
 pub writes-row_set : (nodes : ℕ) (past : List Step) → IsLegal nodes past → IsRowSet (writes past)
@@ -276,16 +313,22 @@ writes-row_set nodes (Vacuumed at ∷ past) legal = writes-row_set nodes past le
 writes-row_set nodes (Trimmed at dropped ∷ past) legal = writes-row_set nodes past legal.1
 writes-row_set nodes (Joined node start ∷ past) legal = writes-row_set nodes past legal.3
 writes-row_set nodes (Took item ∷ past) legal =
-    row_set-body item.node item.stamp item.body (writes past) (new_version nodes past item legal.1 legal.0)
-    (writes-row_set nodes past legal.1)
+    row_set-body item.node item.stamp item.body (writes past) (good_body nodes past item legal.0)
+    (new_version nodes past item legal.1 legal.0) (writes-row_set nodes past legal.1)
 
--- the row of an item, if it is a write, is added to others that are in the limits
+-- the rows of a body that is not refused are in the limits
+body_rows-limits : (node stamp : ℕ) (body : Body) → body_refusal body ≡ None → AreInLimits (body_rows node stamp body)
+body_rows-limits node stamp Report good = All-nil _
+body_rows-limits node stamp Retire good = All-nil _
+body_rows-limits node stamp (Write key value) good =
+    All-cons IsInLimits (record { key = key; stamp = stamp; node = node; value = value }) [] good (All-nil _)
+body_rows-limits node stamp (Batch writes) good = rows_written-limits node stamp writes (batch-good writes good).1
+
+-- the rows of an item are added to others that are in the limits
 pub limits-body : (node stamp : ℕ) (body : Body) (rows : List Row) → body_refusal body ≡ None → AreInLimits rows
     → AreInLimits (rows ++ body_rows node stamp body)
-limits-body node stamp Report rows none all' = rw append-nil all'
-limits-body node stamp Retire rows none all' = rw append-nil all'
-limits-body node stamp (Write key value) rows none all' =
-    All-push IsInLimits rows (record { key = key; stamp = stamp; node = node; value = value }) all' none
+limits-body node stamp body rows good all' =
+    All-append IsInLimits rows (body_rows node stamp body) all' (body_rows-limits node stamp body good)
 
 -- the keys and values of all accepted writes are in the limits
 pub writes-limits : (nodes : ℕ) (past : List Step) → IsLegal nodes past → AreInLimits (writes past)
@@ -296,8 +339,7 @@ writes-limits nodes (Vacuumed at ∷ past) legal = writes-limits nodes past lega
 writes-limits nodes (Trimmed at dropped ∷ past) legal = writes-limits nodes past legal.1
 writes-limits nodes (Joined node start ∷ past) legal = writes-limits nodes past legal.3
 writes-limits nodes (Took item ∷ past) legal =
-    limits-body item.node item.stamp item.body (writes past)
-    (admissible _ _ _ item (sym (on_link nodes past item (inside nodes past item legal.0)) ∙ legal.0)).limits
+    limits-body item.node item.stamp item.body (writes past) (good_body nodes past item legal.0)
     (writes-limits nodes past legal.1)
 
 -- the floor never falls: not with an item

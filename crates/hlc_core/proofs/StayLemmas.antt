@@ -2,12 +2,12 @@
 -- so an open snapshot keeps its stamp, which is not above the floor, and with it its answers.
 use Rattle.std.proofs.Common.{◌≡◌, ℕ, ◌+◌, ◌<◌, ◌≤◌, List, [], ◌∷◌, ◌++◌, Some, None, refl, ap, sym, ◌∙◌, inl, inr}
 use Rattle.std.proofs.Common.{arith, append-nil}
-use Rattle.std.specs.Prelude.{nat_le}
+use Rattle.std.specs.Prelude.{nat_le, Contains}
 use Rattle.std.proofs.lemmas.Bool.{cond-false, lt-leb, cases_eq}
 use Rattle.std.proofs.lemmas.List.Elements.{filter-append}
+use Rattle.hlc_values.proofs.MemberLemmas.{Contains-first, Contains-rest}
 use Rattle.hlc_rows.specs.declared.row.Row.{Row}
 use Rattle.hlc_node.specs.declared.item.Body.{Body}
-use Rattle.hlc_node.specs.declared.item.Body.TheVariants.{Write, Report, Retire}
 use Rattle.hlc_rows.specs.Rows.{answer, IsRowSet}
 use Rattle.hlc_snapshot.specs.RegistryView.{RegistryView, Follows, at_once, opening, closing}
 use Rattle.hlc_snapshot.proofs.RegisterLemmas.{open_before, stamp_in-push_cases, stamp_in-all}
@@ -16,7 +16,7 @@ use Rattle.hlc_draft.specs.Vacuumed.{rows_to}
 use Rattle.hlc_draft.proofs.PartLemmas.{answer-rows_to}
 use Rattle.hlc_core.specs.Past.{Step, Took, Opened, Closed, Vacuumed, Trimmed, Joined, floor, opened, open_snapshots}
 use Rattle.hlc_core.specs.Past.{stamp_of, writes, body_rows, IsLegal}
-use Rattle.hlc_core.proofs.PastLemmas.{writes-row_set, above_floor, floor-grows, floor-joins, open-low}
+use Rattle.hlc_core.proofs.PastLemmas.{writes-row_set, above_floor, floor-grows, floor-joins, open-low, body_rows-are}
 
 -- what took place before a legal past's last steps is legal
 pub legal-before : (nodes : ℕ) (past more : List Step) → IsLegal nodes (more ++ past) → IsLegal nodes past
@@ -45,20 +45,28 @@ floor-never_falls nodes past (Joined node start ∷ more) legal =
     let up : floor nodes (more ++ past) ≤ floor nodes (Joined node start ∷ (more ++ past)) =
     floor-joins nodes (more ++ past) node start legal.1 legal.2 in omega arith
 
--- the row of an item above a stamp changes no answer there
+-- rows above a stamp are not among those at or below it
+none-below : (stamp : ℕ) (rows : List Row) → ((row : Row) → Contains rows row → stamp < row.stamp)
+    → rows_to stamp rows ≡ []
+none-below stamp [] up = refl
+none-below stamp (row ∷ rows) up =
+    cond-false _ _ _ (lt-leb row.stamp stamp (up row (Contains-first row rows)))
+    ∙ none-below stamp rows (λ r m. up r (Contains-rest row r rows m))
+
+-- the rows of an item above a stamp change no answer there
 above-misses : (node at : ℕ) (body : Body) (rows : List Row) (key : List ℕ) (stamp : ℕ) → IsRowSet rows
     → IsRowSet (rows ++ body_rows node at body) → stamp < at
     → answer (rows ++ body_rows node at body) key stamp ≡ answer rows key stamp
-above-misses node at (Write k value) rows key stamp set' pushed up =
-    let row : Row = record { key = k; stamp = at; node = node; value = value } in
-    let out : rows_to stamp (rows ++ row ∷ []) ≡ rows_to stamp rows =
-    filter-append (λ (r : Row). nat_le r.stamp stamp) rows (row ∷ [])
-    ∙ ap (λ rs. rows_to stamp rows ++ rs) (cond-false _ _ _ (lt-leb at stamp up)) ∙ append-nil (rows_to stamp rows) in
+above-misses node at body rows key stamp set' pushed up =
+    let more : List Row = body_rows node at body in
+    let above : (row : Row) → Contains more row → stamp < row.stamp =
+    λ row m. (let are = body_rows-are node at body row m in omega (arith, are.1)) in
+    let out : rows_to stamp (rows ++ more) ≡ rows_to stamp rows =
+    filter-append (λ (r : Row). nat_le r.stamp stamp) rows more
+    ∙ ap (λ rs. rows_to stamp rows ++ rs) (none-below stamp more above) ∙ append-nil (rows_to stamp rows) in
     let same : stamp ≤ stamp = omega arith in
-    sym (answer-rows_to (rows ++ row ∷ []) stamp key stamp pushed same)
+    sym (answer-rows_to (rows ++ more) stamp key stamp pushed same)
     ∙ ap (λ rs. answer rs key stamp) out ∙ answer-rows_to rows stamp key stamp set' same
-above-misses node at Report rows key stamp set' pushed up = ap (λ rs. answer rs key stamp) (append-nil rows)
-above-misses node at Retire rows key stamp set' pushed up = ap (λ rs. answer rs key stamp) (append-nil rows)
 
 -- no answer at or below the floor changes
 pub answers-stay : (nodes : ℕ) (past more : List Step) → IsLegal nodes (more ++ past) → (key : List ℕ) (stamp : ℕ)

@@ -1,13 +1,15 @@
 -- An item that is not refused is accepted: the core represents one more item.
-use Rattle.std.proofs.Common.{◌≡◌, ℕ, ◌+◌, ◌<◌, ◌≤◌, List, ◌∷◌, ◌++◌, length, max}
+use Rattle.std.proofs.Common.{◌≡◌, ℕ, ◌+◌, ◌<◌, ◌≤◌, List, [], ◌∷◌, ◌++◌, length, max, refl, subst}
 use Rattle.std.proofs.Common.{None, ap, sym, ◌∙◌}
-use Rattle.std.proofs.Common.{arith, length-set}
-use Rattle.std.specs.Prelude.{slice_set}
-use Rattle.std.proofs.lemmas.List.{append-nil, length_push}
+use Rattle.std.proofs.Common.{arith, length-set, length-append}
+use Rattle.std.specs.Prelude.{Contains, filter, nat_lt, slice_set}
+use Rattle.std.proofs.lemmas.Bool.{lt-ltb}
+use Rattle.std.proofs.lemmas.List.{append-nil, append_assoc}
+use Rattle.std.proofs.lemmas.List.Elements.{filter-append}
+use Rattle.hlc_values.proofs.MemberLemmas.{Contains-first, Contains-rest}
 use Rattle.hlc_rows.specs.declared.row.Row.{Row}
 use Rattle.hlc_node.specs.declared.item.Item.{Item}
 use Rattle.hlc_node.specs.declared.item.Body.{Body}
-use Rattle.hlc_node.specs.declared.item.Body.TheVariants.{Write, Report, Retire}
 use Rattle.hlc_node.specs.Items.{retires}
 use Rattle.hlc_rows.specs.Rows.{IsRowSet}
 use Rattle.hlc_intake.specs.IntakeView.{IntakeView}
@@ -17,32 +19,64 @@ use Rattle.hlc_core.specs.Past.{IsLegal}
 use Rattle.hlc_core.specs.StoreView.{StoreView, nodes, Represents}
 use Rattle.hlc_vacuum.specs.Representing.{RowsRepresent, count_above}
 use Rattle.hlc_vacuum.proofs.RepresentingLemmas.{writes_keep_representing}
-use Rattle.hlc_vacuum.proofs.CountLemmas.{count_push}
 use Rattle.hlc_snapshot.specs.RegistryView.{stamps}
 use Rattle.hlc_core.proofs.PastLemmas.{admissible, on_link, inside}
-use Rattle.hlc_core.proofs.PastLemmas.{above-horizon, vacuumed-low, writes-row_set}
+use Rattle.hlc_core.proofs.PastLemmas.{above-horizon, vacuumed-low, writes-row_set, body_rows-are}
+use Rattle.hlc_core.proofs.BatchLemmas.{row_set-front}
 use Rattle.hlc_core.proofs.Links.{a_link, links-took, after_item}
 
--- the row of an item, if it has one, is stored with the others, and counts as one more
+-- rows above the horizon are stored with the others
+rows-more : (stored all more : List Row) (horizon : ℕ) (opened : List ℕ) → RowsRepresent stored all horizon opened
+    → ((row : Row) → Contains more row → horizon < row.stamp) → IsRowSet (all ++ more)
+    → RowsRepresent (stored ++ more) (all ++ more) horizon opened
+rows-more stored all [] horizon opened represent up apart = rw (append-nil, append-nil) represent
+rows-more stored all (row ∷ more) horizon opened represent up apart =
+    let first : IsRowSet ((all ++ row ∷ []) ++ more) = rw append_assoc apart in
+    let one : RowsRepresent (stored ++ row ∷ []) (all ++ row ∷ []) horizon opened =
+    writes_keep_representing stored all horizon opened row represent (up row (Contains-first row more))
+    (row_set-front (all ++ row ∷ []) more first) in
+    let rest : RowsRepresent ((stored ++ row ∷ []) ++ more) ((all ++ row ∷ []) ++ more) horizon opened =
+    rows-more (stored ++ row ∷ []) (all ++ row ∷ []) more horizon opened one
+    (λ r m. up r (Contains-rest row r more m)) first in
+    subst (λ rows. RowsRepresent rows (all ++ row ∷ more) horizon opened) (append_assoc stored (row ∷ []) more)
+    (subst (λ rows. RowsRepresent ((stored ++ row ∷ []) ++ more) rows horizon opened)
+    (append_assoc all (row ∷ []) more) rest)
+
+-- and so are the rows of an item
 rows-body : (stored all : List Row) (horizon : ℕ) (opened : List ℕ) (node stamp : ℕ) (body : Body)
     → RowsRepresent stored all horizon opened → horizon < stamp → IsRowSet (all ++ body_rows node stamp body)
     → RowsRepresent (stored ++ body_rows node stamp body) (all ++ body_rows node stamp body) horizon opened
-rows-body stored all horizon opened node stamp Report represent up apart = rw (append-nil, append-nil) represent
-rows-body stored all horizon opened node stamp Retire represent up apart = rw (append-nil, append-nil) represent
-rows-body stored all horizon opened node stamp (Write key value) represent up apart =
-    writes_keep_representing stored all horizon opened (record { key = key; stamp = stamp; node = node; value = value })
-    represent up apart
+rows-body stored all horizon opened node stamp body represent up apart =
+    rows-more stored all (body_rows node stamp body) horizon opened represent
+    (λ row m. let are = body_rows-are node stamp body row m in omega (arith, are.1)) apart
+
+-- all of which count as more rows above the bound
+count-more : (bound : ℕ) (more : List Row) → ((row : Row) → Contains more row → bound < row.stamp)
+    → count_above bound more ≡ length more
+count-more bound [] up = refl
+count-more bound (row ∷ more) up =
+    let h = count-more bound more (λ r m. up r (Contains-rest row r more m)) in
+    let b = lt-ltb bound row.stamp (up row (Contains-first row more)) in rw b (omega arith)
+
+count-append : (bound : ℕ) (rows more : List Row)
+    → count_above bound (rows ++ more) ≡ count_above bound rows + count_above bound more
+count-append bound rows more =
+    ap length (filter-append (λ (row : Row). nat_lt bound row.stamp) rows more)
+    ∙ length-append (filter (λ (row : Row). nat_lt bound row.stamp) rows)
+    (filter (λ (row : Row). nat_lt bound row.stamp) more)
 
 count-body : (stored all : List Row) (bound dropped changes : ℕ) (node stamp : ℕ) (body : Body)
     → length stored + dropped ≡ changes + count_above bound all → bound < stamp
     → length (stored ++ body_rows node stamp body) + dropped
     ≡ changes + count_above bound (all ++ body_rows node stamp body)
-count-body stored all bound dropped changes node stamp Report is up = rw (append-nil, append-nil) is
-count-body stored all bound dropped changes node stamp Retire is up = rw (append-nil, append-nil) is
-count-body stored all bound dropped changes node stamp (Write key value) is up =
-    let row : Row = record { key = key; stamp = stamp; node = node; value = value } in
-    let a = length_push stored row in
-    let b = count_push bound all row up in omega arith
+count-body stored all bound dropped changes node stamp body is up =
+    let more : List Row = body_rows node stamp body in
+    let a : length (stored ++ more) ≡ length stored + length more = length-append stored more in
+    let b : count_above bound (all ++ more) ≡ count_above bound all + count_above bound more =
+    count-append bound all more in
+    let c : count_above bound more ≡ length more =
+    count-more bound more (λ row m. let are = body_rows-are node stamp body row m in omega (arith, are.1)) in
+    omega arith
 
 -- an item that is not refused is accepted
 pub took : (kept : StoreView) (past : List Step) (item : Item) → Represents kept past

@@ -1,6 +1,6 @@
 -- What is promised of a whole history: each read, each vacuum and each part of one, against everything that was
 -- accepted before it, whatever vacuums dropped.
-use Rattle.std.specs.Prelude.{◌≡◌, ℕ, ◌≤◌, ⊥, ◌⊎◌, List, ◌∷◌, ◌++◌, Contains, length, Option, Some, None}
+use Rattle.std.specs.Prelude.{◌≡◌, ℕ, ◌≤◌, ◌⊎◌, List, ◌∷◌, ◌++◌, Contains, length, Option, Some, None}
 use Rattle.hlc_columns.specs.Answers.{in_part}
 use Rattle.hlc_rows.specs.declared.row.Row.{Row}
 use Rattle.hlc_rows.specs.Rows.{answer, newest, IsNoLater, IsRowSet}

@@ -124,8 +124,9 @@ pub fn differences_lead_on()
 {}
 
 /// A core is faithful to each history that it represents: its reads returned the newest accepted values, and no answer
-/// of a snapshot changed; no vacuum could have kept fewer or cheaper rows, nor a part of one of its keys, and just
-/// after it the stored rows up to its stamp, after a part those of its keys, are the fewest and the cheapest.
+/// of a snapshot changed; each snapshot shows all writes of an item, or later ones of their keys, or none of them; no
+/// vacuum could have kept fewer or cheaper rows, nor a part of one of its keys, and just after it the stored rows up to
+/// its stamp, after a part those of its keys, are the fewest and the cheapest.
 pub fn histories_are_faithful()
     ensures { (kept : StoreView) (history : List (AnEvent × AReply)) → RepresentsHistory kept history
         → IsFaithful (nodes kept) history kept.rows }

@@ -1,4 +1,4 @@
--- The copy of an item that is not refused is the row of its past.
+-- The copies of an item that is not refused are the rows of its past.
 use Rattle.std.proofs.Common.{◌≡◌, ◌<◌, arith, length, false, inl, inr, refl}
 use Rattle.std.proofs.lemmas.Result.{err_from_is_err_and}
 use Rattle.hlc_node.specs.Items.{retires}
@@ -28,13 +28,18 @@ returns-in_err-store_copy-clause-represents c = λ past h.
       c.in_err-store_copy.ensures.err.0,
     ))
 
-pub store_copy-requires : goal.store_copy-requires
-store_copy-requires c =
+pub store_copy-requires-clause-new : goal.store_copy-requires-clause-new
+store_copy-requires-clause-new c =
     let looked = rw c.as_slice.ensures.value at c.in-Ok.ensures in
     let is = admitted _ c.args.item.now c.in-Ok.intake looked in
     let up : (head_at c.self.inside.heads.heads c.args.item.now.node).stamp < c.args.item.now.stamp =
     rw (head-of _ _ c.args.item.now.node c.self.invariant.0 is.within) is.rising in
     fresh _ _ _ c.args.item.now.node c.args.item.now.stamp c.args.item.now.body c.self.invariant.1 up
+
+pub store_copy-requires-clause-good : goal.store_copy-requires-clause-good
+store_copy-requires-clause-good c =
+    let looked = rw c.as_slice.ensures.value at c.in-Ok.ensures in
+    (admitted _ c.args.item.now c.in-Ok.intake looked).limits
 
 pub index_mut-requires : goal.index_mut-requires
 index_mut-requires c =
@@ -81,7 +86,7 @@ invariant_of-self-2 c =
       heads-set _ _ c.args.item.now.node _ c.self.invariant.0,
       consistent-moved _ _ _ _
           (consistent-accept _ _ _ c.args.item.now.node c.args.item.now.stamp c.args.item.now.body
-          (retires c.args.item.now.body) c.self.invariant.1 within here up)
+          (retires c.args.item.now.body) c.self.invariant.1 within here up is.limits)
           c.in_ok-store_copy.ensures.ok,
       sound-moved _ _ _ _ _ _
           (sound-accept _ _ c.self.inside.heads _ _ c.args.item.now.node c.args.item.now.number c.args.item.now.stamp
