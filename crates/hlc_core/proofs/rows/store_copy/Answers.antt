@@ -30,5 +30,5 @@ insert_writes-requires-clause-new c =
 
 pub insert_writes-requires-clause-once : goal.insert_writes-requires-clause-once
 insert_writes-requires-clause-once c =
-    (batch-good c.in-Many.writes.now
+    (batch-good c.in-Many.writes
     (subst (λ (body : Body). body_refusal body ≡ None) c.in-Many.ensures c.requires.good)).0
