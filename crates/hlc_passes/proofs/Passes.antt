@@ -15,8 +15,7 @@ use Rattle.std.proofs.lemmas.List.Elements.{All-head, All-tail, All-contains}
 use Rattle.hlc_values.proofs.MemberLemmas.{Contains-first, Contains-rest}
 use Rattle.hlc_clock.proofs.PointLemmas.{ArePoints-unique}
 use Rattle.hlc_rows.specs.declared.row.Row.{Row}
-use Rattle.hlc_node.specs.declared.item.Body.TheVariants.{Write}
-use Rattle.hlc_node.specs.Items.{body_refusal}
+use Rattle.hlc_rows.specs.Limits.{write_refusal}
 use Rattle.hlc_columns.specs.Answers.{in_part, part_end, last_key}
 use Rattle.hlc_column.specs.Rows.{KeyCells, rows_to}
 use Rattle.hlc_snapshot.specs.RegistryView.{stamps_to}
@@ -240,7 +239,7 @@ keys-above (row ∷ rows) in' =
     (has-key row.key (in' row (Contains-first row rows)))
     ∙ ap (λ l. row ∷ l) (keys-above rows (λ r i. in' r (Contains-rest row r rows i)))
   where
-    has-key : (key : List ℕ) → body_refusal (Write key row.value) ≡ None → in_part [] None key ≡ true
+    has-key : (key : List ℕ) → write_refusal key row.value ≡ None → in_part [] None key ≡ true
     has-key [] fine = absurd (both_ways true (ap is_some fine) refl)
     has-key (byte ∷ bytes) fine = refl
 
