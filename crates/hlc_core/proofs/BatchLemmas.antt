@@ -1,5 +1,5 @@
--- The rows of a batch: all have its node and its stamp. If the batch is not refused, they are a row set, since no two of
--- its writes are of one key, and each of them is in the limits.
+-- The rows of a batch: all have its node and its stamp. If the batch is not refused, they are a row set, since its
+-- writes are of different keys, and each of them is in the limits.
 use Rattle.std.proofs.Common.{◌≡◌, ℕ, List, [], ◌∷◌, ◌++◌, true, false, None, Some, refl, ap, sym, ◌∙◌, inl, inr}
 use Rattle.std.specs.Prelude.{All, Contains, Option, ◌==◌, nat_lt, length}
 use Rattle.std.proofs.lemmas.Bool.{cases_Bool, cond-true, cond-false, both_ways, or_left, or_right, or_parts}
@@ -18,8 +18,8 @@ use Rattle.hlc_rows.specs.Writes.{rows_written}
 use Rattle.hlc_witness.specs.Cost.{IsInLimits, AreInLimits}
 
 -- each row of a batch has its node and its stamp
-pub rows_written-are : (node stamp : ℕ) (writes : List Write) (row : Row) → Contains (rows_written node stamp writes) row
-    → (row.node ≡ node) × (row.stamp ≡ stamp)
+pub rows_written-are : (node stamp : ℕ) (writes : List Write) (row : Row)
+    → Contains (rows_written node stamp writes) row → (row.node ≡ node) × (row.stamp ≡ stamp)
 rows_written-are node stamp [] row m = absurd (Contains-none row m)
 rows_written-are node stamp (write ∷ writes) row m =
     elim (Contains-cons_cases (row_written node stamp write) row (rows_written node stamp writes) m) [
