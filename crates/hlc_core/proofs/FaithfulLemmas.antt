@@ -29,7 +29,7 @@ use Rattle.hlc_core.specs.History.{step_of, with_step, past_of, IsAnswer, IsExpe
 use Rattle.hlc_core.specs.History.{IsLeft}
 use Rattle.hlc_core.specs.Headline.{IsMoment, ReadsAreNewest, VacuumsAreFewest, VacuumsAreCheapest, FewestAreLeft}
 use Rattle.hlc_core.specs.Headline.{IsFaithful, SnapshotsStay, PartsAreFewest, FewestAreLeftByParts, vacuum_stamp}
-use Rattle.hlc_core.specs.Headline.{AreSeenWhole, SnapshotsShowWhole}
+use Rattle.hlc_core.specs.Headline.{SnapshotsShowWhole}
 use Rattle.hlc_core.specs.Parts.{IsPartReport, rows_of_keys}
 use Rattle.hlc_columns.specs.Answers.{in_part}
 use Rattle.hlc_core.proofs.ListingLemmas.{one-listing}
@@ -145,26 +145,19 @@ newest-after all stamp row m low None is = absurd (no_newest_no_row all row.key 
 newest-after all stamp row m low (Some seen) is =
     (seen, is, (newest_is_greatest all row.key stamp seen is).greatest row m refl low)
 
--- rows of one stamp are seen whole: at or above it all of them or later ones, and below it nothing that is no earlier
-seen-whole : (all : List Row) (stamp at : ℕ) (rows : List Row) → ((row : Row) → Contains rows row → Contains all row)
-    → ((row : Row) → Contains rows row → row.stamp ≡ at) → AreSeenWhole all stamp rows
-seen-whole all stamp at rows within are =
-    elim (cases_lt stamp at) [
-      | inl above ↦ inr (λ row seen m is later.
-          let low : seen.stamp ≤ stamp = (newest_is_greatest all row.key stamp seen is).in_bound in
-          let le : row.stamp ≤ seen.stamp = no_later_stamp row seen later in
-          let e : row.stamp ≡ at = are row m in omega arith)
-      | inr below ↦ inl (λ row m.
-          let low : row.stamp ≤ stamp = (let e : row.stamp ≡ at = are row m in omega arith) in
-          newest-after all stamp row (within row m) low (newest all row.key stamp) refl)
-    ]
-
 -- each snapshot shows all writes of an item or none of them
 shows-whole : (h : List (CoreEvent × CoreReply)) → SnapshotsShowWhole h
 shows-whole h = λ before id stamp item moment is took.
-    seen-whole (writes (past_of before)) stamp item.stamp (item_rows item)
-    (λ row m. took-writes (past_of before) item row took m)
-    (λ row m. (body_rows-are item.node item.stamp item.body row m).1)
+    let all = writes (past_of before) in record {
+      shown = λ below row m.
+          let same : row.stamp ≡ item.stamp = (body_rows-are item.node item.stamp item.body row m).1 in
+          let low : row.stamp ≤ stamp = omega (arith, below, same) in
+          newest-after all stamp row (took-writes (past_of before) item row took m) low
+          (newest all row.key stamp) refl;
+      hidden = λ above row seen m is.
+          let low : seen.stamp ≤ stamp = (newest_is_greatest all row.key stamp seen is).in_bound in
+          omega (arith, above, low);
+    }
 
 -- only an event that asks for a vacuum has a report as its reply
 reported : (nodes : ℕ) (past : List Step) (event : CoreEvent) (report : Report)

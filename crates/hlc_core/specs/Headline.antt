@@ -1,6 +1,6 @@
 -- What is promised of a whole history: each read, each vacuum and each part of one, against everything that was
 -- accepted before it, whatever vacuums dropped.
-use Rattle.std.specs.Prelude.{◌≡◌, ℕ, ◌≤◌, ◌⊎◌, List, ◌∷◌, ◌++◌, Contains, length, Option, Some, None}
+use Rattle.std.specs.Prelude.{◌≡◌, ℕ, ◌<◌, ◌≤◌, List, ◌∷◌, ◌++◌, Contains, length, Option, Some, None}
 use Rattle.hlc_columns.specs.Answers.{in_part}
 use Rattle.hlc_rows.specs.declared.row.Row.{Row}
 use Rattle.hlc_rows.specs.Rows.{answer, newest, IsNoLater, IsRowSet}
@@ -42,11 +42,13 @@ pub record SnapshotsStay (history : List (CoreEvent × CoreReply)) : Type 0 wher
       → IsMoment history ((ListAll id, Listing again) ∷ (between ++ ((ListAll id, Listing listing) ∷ before)))
       → again ≡ listing
 
--- a reader at this stamp sees each of these rows or a later one of its key, or none of them and no later one
-abbrev pub AreSeenWhole : List Row → ℕ → List Row → Type 0
-AreSeenWhole all stamp rows =
-    ((row : Row) → Contains rows row → (seen : Row) × (newest all row.key stamp ≡ Some seen) × IsNoLater row seen)
-    ⊎ ((row seen : Row) → Contains rows row → newest all row.key stamp ≡ Some seen → IsNoLater row seen → ⊥)
+-- A reader at this stamp sees each row of the item or a later one of its key, if the item is at or below the stamp; and
+-- only earlier ones, if it is above.
+pub record IsSeenWhole (all : List Row) (stamp : ℕ) (item : Item) : Type 0 where
+  pub shown : item.stamp ≤ stamp → (row : Row) → Contains (item_rows item) row
+      → (seen : Row) × (newest all row.key stamp ≡ Some seen) × IsNoLater row seen
+  pub hidden : stamp < item.stamp → (row seen : Row) → Contains (item_rows item) row
+      → newest all row.key stamp ≡ Some seen → seen.stamp < item.stamp
 
 -- each snapshot shows, of each item accepted so far, all its writes or later ones of their keys, or none of them
 abbrev pub SnapshotsShowWhole : List (CoreEvent × CoreReply) → Type 0
@@ -55,7 +57,7 @@ SnapshotsShowWhole history =
     → IsMoment history before
     → stamp_of id (past_of before) ≡ Some stamp
     → Contains (past_of before) (Took item)
-    → AreSeenWhole (writes (past_of before)) stamp (item_rows item)
+    → IsSeenWhole (writes (past_of before)) stamp item
 
 -- the stamp up to which an event asks to vacuum, if it does
 abbrev pub vacuum_stamp : ℕ → List Step → CoreEvent → Option ℕ

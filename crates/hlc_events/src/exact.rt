@@ -1,4 +1,5 @@
 //! `==` of these types is true exactly on equal values, and each copy is equal.
+ghost use Rattle.hlc_node.specs.contracts.exact.ItemExact.TheImpl.Laws.{equal-law as item_equal};
 ghost use Rattle.std.proofs.Common.{rules};
 ghost use Rattle.std.proofs.lemmas.Grind.{common_steps};
 
@@ -8,7 +9,7 @@ use crate::fault::{CoreFault, NoNode};
 use hlc_values::Exact;
 
 impl Exact for CoreEvent {
-    ghost equal = { Prim.search (rules, common_steps) };
+    ghost equal = { Prim.search (rules, common_steps, item_equal) };
 
     ghost copied = { Prim.search rules };
 }
