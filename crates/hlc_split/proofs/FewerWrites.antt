@@ -1,7 +1,7 @@
 -- The writes of some keys of a batch are a batch, or none.
 use Rattle.std.proofs.Common.{◌≡◌, ℕ, Bool, true, false, ◌<◌, ◌≤◌, cond, eqb, ltb, bytes_eq, List, [], ◌∷◌, length}
 use Rattle.std.proofs.Common.{Option, Some, None, refl, sym, ap, ◌∙◌, inl, inr, arith}
-use Rattle.std.proofs.lemmas.Bool.{cases_Bool, or_parts, ltb-false, le-ltb, cond-false}
+use Rattle.std.proofs.lemmas.Bool.{cases_Bool, or_parts, ltb-false, le-ltb, ne_eqb}
 use Rattle.hlc_rows.specs.declared.limits.BodyFault.{BodyFault}
 use Rattle.hlc_rows.specs.declared.limits.BodyFault.TheVariants.{NoWrites, TooManyWrites, KeyTwice}
 use Rattle.hlc_rows.specs.declared.limits.TheConstants.{MOST_WRITES}
@@ -70,8 +70,10 @@ none-refused is_of (write ∷ writes) h =
 
 of-none : (writes : List Write) → ltb MOST_WRITES (length writes) ≡ false → writes_twice writes ≡ false
     → writes_refusal writes ≡ None → body_refusal (batch_of writes) ≡ None
-of-none [] few once good = refl
-of-none (write ∷ writes) few once good = rw (few, once, good) refl
+of-none [] few apart good = refl
+of-none (write ∷ writes) few apart good =
+    let some : eqb (length (write ∷ writes)) 0 ≡ false = ne_eqb _ _ (λ none. omega (arith, none)) in
+    rw (some, few, apart, good) refl
 
 pub batch-allowed : (is_of : List ℕ → Bool) (writes : List Write) → batch_refusal writes ≡ None
     → body_refusal (batch_of (writes_of is_of writes)) ≡ None
