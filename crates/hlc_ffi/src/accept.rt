@@ -1,10 +1,11 @@
 //! The calls that feed a store.
-ghost use Rattle.std.specs.Prelude.{◌≡◌, ◌≢◌, List, Some, None};
+ghost use Rattle.std.specs.Prelude.{◌≡◌, ◌≢◌, List, Some, None, MatchResult};
 ghost use Rattle.hlc_node.specs.declared.item.Body.TheVariants.{Write as a_write, Report as a_report};
-ghost use Rattle.hlc_node.specs.declared.item.Body.TheVariants.{Retire as a_retire};
+ghost use Rattle.hlc_node.specs.declared.item.Body.TheVariants.{Retire as a_retire, Batch as a_batch};
 ghost use Rattle.hlc_node.specs.Items.{an_item};
 ghost use Rattle.hlc_calls.specs.Answers.{ReturnsJoined, ReturnsJoinedAt};
 ghost use Rattle.hlc_calls.specs.Batch.{AreEntered};
+ghost use Rattle.hlc_node_calls.specs.Batches.{batch_in};
 ghost use Rattle.hlc_ffi.specs.Handle.{OnStorePast, nodes_in_handle, IsAccepting, IsChecking, IsGivenBack};
 
 use crate::handle::{of_core, on_core};
@@ -54,6 +55,37 @@ pub extern "C" fn hlc_store_accept_delete(
 {
     *word = 0;
     let item = ItemRef::write(node, number, Stamp::from_bits(stamp), key, None);
+    on_core!(alloc, store, |core| items::accept(core, &item, word))
+}
+
+/// Accepts the batch that a node issued under this number: all of its writes, or none. `writes` are its bytes, as in
+/// `hlc_node_write_batch`. Returns 0 and its stamp, or a refusal and its word; first 29, or 106 and the first fault.
+#[unsafe(no_mangle)]
+pub extern "C" fn hlc_store_accept_batch(
+    alloc: Global,
+    store: &mut Store,
+    node: u16,
+    number: u64,
+    stamp: u64,
+    count: usize,
+    writes: &[u8],
+    word: &mut u64,
+) -> u32
+    ensures answer { MatchResult (batch_in count writes.now) (λ all. IsAccepting store.old.value store.new.value
+        (an_item node number stamp (a_batch all)) result word.new)
+        (λ bad. (result ≡ bad.0) × (word.new ≡ bad.1)) }
+    ensures same { result ≢ 0 → store.new.value ≡ store.old.value }
+    ensures nodes { nodes_in_handle store.new.value ≡ nodes_in_handle store.old.value }
+{
+    *word = 0;
+    let all = match hlc_node_calls::batch_of(count, writes) {
+        Ok(all) => all,
+        Err(bad) => {
+            *word = bad.word;
+            return bad.code;
+        }
+    };
+    let item = ItemRef::batch(node, number, Stamp::from_bits(stamp), all);
     on_core!(alloc, store, |core| items::accept(core, &item, word))
 }
 

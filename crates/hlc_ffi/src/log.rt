@@ -1,12 +1,13 @@
 //! The calls that write the records of a log as bytes, items and others, and take them from there.
-ghost use Rattle.std.specs.Prelude.{◌≡◌, List, Some, None};
+ghost use Rattle.std.specs.Prelude.{◌≡◌, List, Some, None, MatchResult};
 ghost use Rattle.hlc_node.specs.declared.item.Body.TheVariants.{Write as a_write, Report as a_report};
-ghost use Rattle.hlc_node.specs.declared.item.Body.TheVariants.{Retire as a_retire};
+ghost use Rattle.hlc_node.specs.declared.item.Body.TheVariants.{Retire as a_retire, Batch as a_batch};
 ghost use Rattle.hlc_node.specs.Items.{an_item};
 ghost use Rattle.hlc_core.specs.StoreView.{nodes};
 ghost use Rattle.hlc_log.specs.declared.record.Record.TheVariants.{Join, Threshold};
 ghost use Rattle.hlc_calls.specs.Log.{AreTaken, ReturnsItem};
 ghost use Rattle.hlc_calls.specs.Records.{ReturnsApplied, ReturnsRecord};
+ghost use Rattle.hlc_node_calls.specs.Batches.{batch_in};
 ghost use Rattle.hlc_ffi.specs.Handle.{OnStorePast, nodes_in_handle};
 
 use crate::handle::on_core;
@@ -47,6 +48,34 @@ pub extern "C" fn hlc_item_encode_delete(
 {
     let item = ItemRef::write(node, number, Stamp::from_bits(stamp), key, None);
     log::put(&item, out, len)
+}
+
+/// Writes a node's batch as bytes, from those of its writes, as in `hlc_node_write_batch`. Returns 0, how many there are
+/// and, where they fit, the bytes; or why no item may have these writes; first 29, or 106. No memory.
+#[unsafe(no_mangle)]
+pub extern "C" fn hlc_item_encode_batch(
+    node: u16,
+    number: u64,
+    stamp: u64,
+    count: usize,
+    writes: &[u8],
+    out: &mut [u8],
+    len: &mut usize,
+) -> u32
+    ensures { MatchResult (batch_in count writes.now)
+        (λ all. ReturnsItem (an_item node number stamp (a_batch all)) result len.new out.old out.new)
+        (λ bad. (result ≡ bad.0) × (len.new ≡ 0) × (out.new ≡ out.old)) }
+{
+    match hlc_node_calls::batch_of(count, writes) {
+        Ok(all) => {
+            let item = ItemRef::batch(node, number, Stamp::from_bits(stamp), all);
+            log::put(&item, out, len)
+        }
+        Err(bad) => {
+            *len = 0;
+            bad.code
+        }
+    }
 }
 
 /// Writes a node's report as bytes. Returns 0, how many there are and, where they fit, the bytes. No memory.

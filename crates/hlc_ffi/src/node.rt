@@ -1,8 +1,9 @@
 //! A node, for C, which stores it by value: a call needs no memory and no store.
-ghost use Rattle.std.specs.Prelude.{◌≡◌, ◌<◌, ◌≤◌, [], ◌∷◌, Some, None, false, max};
+ghost use Rattle.std.specs.Prelude.{◌≡◌, ◌<◌, ◌≤◌, [], ◌∷◌, Some, None, false, max, MatchResult};
 ghost use Rattle.hlc_node.specs.Node.{expected_event, stamped};
 ghost use Rattle.hlc_node.specs.declared.item.Body.TheVariants.{Write as a_write, Report as a_report};
-ghost use Rattle.hlc_node.specs.declared.item.Body.TheVariants.{Retire as a_retire};
+ghost use Rattle.hlc_node.specs.declared.item.Body.TheVariants.{Retire as a_retire, Batch as a_batch};
+ghost use Rattle.hlc_node_calls.specs.Batches.{batch_in};
 ghost use Rattle.hlc_node_calls.specs.Nodes.{ReturnsStamped, ReturnsIssued};
 
 use hlc_clock::Stamp;
@@ -72,6 +73,32 @@ pub extern "C" fn hlc_node_delete(
     ensures { ReturnsIssued node.old node.new (a_write key.now None) reading result number.new word.new }
 {
     hlc_node_calls::write(node, reading, key, None, number, word)
+}
+
+/// Issues one item of so many writes, 1 to 256 of different keys, from their bytes: for each a byte of length and the
+/// key; and 0 for a deletion, or 1, two bytes of length (big-endian) and the value. Returns 0, its number and its stamp,
+/// or a refusal and its word; before those of the node 29, or 106 and the first fault of the bytes. No memory.
+#[unsafe(no_mangle)]
+pub extern "C" fn hlc_node_write_batch(
+    node: &mut NodeCore,
+    reading: u64,
+    count: usize,
+    writes: &[u8],
+    number: &mut u64,
+    word: &mut u64,
+) -> u32
+    ensures { MatchResult (batch_in count writes.now)
+        (λ all. ReturnsIssued node.old node.new (a_batch all) reading result number.new word.new)
+        (λ bad. (result ≡ bad.0) × (number.new ≡ 0) × (word.new ≡ bad.1) × (node.new ≡ node.old)) }
+{
+    match hlc_node_calls::batch_of(count, writes) {
+        Ok(all) => hlc_node_calls::write_batch(node, reading, all, number, word),
+        Err(bad) => {
+            *number = 0;
+            *word = bad.word;
+            bad.code
+        }
+    }
 }
 
 /// Issues a report. Returns 0, its number and its stamp, or a refusal and its word.

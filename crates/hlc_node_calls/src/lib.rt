@@ -2,15 +2,17 @@
 //! a refusal, and the stamp of the event or the word of the refusal.
 #![tactic(auto)]
 
-ghost use Rattle.std.specs.Prelude.{◌≡◌, [], ◌∷◌, MatchResult, option_copied};
+ghost use Rattle.std.specs.Prelude.{◌≡◌, [], ◌∷◌, MatchResult, option_copied, Ok, Err};
 ghost use Rattle.hlc_node.specs.Node.{expected_event};
 ghost use Rattle.hlc_node.specs.Faults.{node_code, node_word};
 ghost use Rattle.hlc_node.specs.declared.item.Body.TheVariants.{Write as a_write, Report as a_report};
-ghost use Rattle.hlc_node.specs.declared.item.Body.TheVariants.{Retire as a_retire};
+ghost use Rattle.hlc_node.specs.declared.item.Body.TheVariants.{Retire as a_retire, Batch as a_batch};
+ghost use Rattle.hlc_node_calls.specs.Batches.{batch_in};
 ghost use Rattle.hlc_node_calls.specs.Nodes.{ReturnsStamped, ReturnsIssued};
 
 use hlc_clock::Stamp;
-use hlc_node::{ItemRef, NodeCore, NodeFault};
+use hlc_node::{BodyFault, ItemRef, MOST_WRITES, NodeCore, NodeFault, Writes};
+use hlc_wire::writes_of;
 
 /// Writes the number and the stamp of an item, and returns 0.
 fn return_item(item: &ItemRef<'_>, number: &mut u64, word: &mut u64) -> u32
@@ -64,6 +66,50 @@ pub fn write(
         result number.new word.new }
 {
     match node.write_ref(reading, key, value) {
+        Ok(item) => return_item(&item, number, word),
+        Err(fault) => refuse(&fault, number, word),
+    }
+}
+
+/// Why bytes are not those of the writes of a batch: the number of the refusal and its word.
+#[derive(Clone, Copy, Debug)]
+pub struct BadBatch {
+    pub code: u32,
+    pub word: u64,
+}
+
+/// Returns so many writes from all of the bytes: for each a byte of length and the key; and 0 for a deletion mark, or 1,
+/// two bytes of length (big-endian) and the value. Or returns 29 for more than 256, or 106 and the first fault.
+pub fn batch_of(count: usize, bytes: &[u8]) -> Result<Writes<'_>, BadBatch>
+    ensures { MatchResult result (λ writes. batch_in count bytes.now ≡ Ok writes)
+        (λ bad. batch_in count bytes.now ≡ Err (bad.code, bad.word)) }
+{
+    if count > MOST_WRITES {
+        return Err(BadBatch {
+            code: BodyFault::TooManyWrites.code(),
+            word: 0,
+        });
+    }
+    match writes_of(count, bytes) {
+        Ok(writes) => Ok(writes),
+        Err(fault) => Err(BadBatch {
+            code: 106,
+            word: fault.code() as u64,
+        }),
+    }
+}
+
+/// Issues the item of a batch. Returns 0, its number and its stamp, or a refusal and its word.
+pub fn write_batch(
+    node: &mut NodeCore,
+    reading: u64,
+    writes: Writes<'_>,
+    number: &mut u64,
+    word: &mut u64,
+) -> u32
+    ensures { ReturnsIssued node.old node.new (a_batch writes.entry) reading result number.new word.new }
+{
+    match node.write_batch_ref(reading, writes) {
         Ok(item) => return_item(&item, number, word),
         Err(fault) => refuse(&fault, number, word),
     }

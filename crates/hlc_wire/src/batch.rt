@@ -1,10 +1,10 @@
 //! The writes of a batch as bytes: one less than their number in a byte, and for each its key and its value.
-ghost use Rattle.std.specs.Prelude.{◌≡◌, ◌≤◌, ◌<◌, ◌+◌, ◌++◌, ◌*◌, length, option_copied, IfOk, OnOk, IsErrOf};
+ghost use Rattle.std.specs.Prelude.{◌≡◌, ◌≤◌, ◌<◌, ◌+◌, ◌++◌, ◌*◌, length, option_copied, IfOk, IsErrOf, MatchResult, Ok, Err};
 ghost use Rattle.hlc_rows.specs.Spelled.{writes_in, write_seen};
 ghost use Rattle.hlc_wire.specs.Spelling.{key_bytes, value_bytes, write_bytes, writes_bytes, batch_bytes};
 ghost use Rattle.hlc_wire.specs.Spelling.{KeyFits, ValueFits, WritesFit, BatchFits};
 ghost use Rattle.hlc_wire.specs.Placing.{with_bytes};
-ghost use Rattle.hlc_wire.specs.Reading.{Gives, writes_at, batch_at};
+ghost use Rattle.hlc_wire.specs.Reading.{Gives, writes_at, batch_at, whole};
 
 use crate::fault::{DecodeError, WireFault};
 use crate::fields::{copy_value, key_slice_at, value_slice_at};
@@ -43,27 +43,35 @@ fn after_writes(count: usize, bytes: &[u8]) -> Result<&[u8], DecodeError>
     after_writes(count - 1, rest)
 }
 
+/// Reads so many writes, at most 256, from all of the bytes. Their keys and values are those in the bytes: nothing is
+/// copied. The error is the first fault from the left.
+pub fn writes_of(count: usize, bytes: &[u8]) -> Result<Writes<'_>, WireFault>
+    requires { count ≤ 256 }
+    ensures { MatchResult result (λ writes. whole (writes_at count bytes.now) ≡ Ok writes)
+        (λ fault. whole (writes_at count bytes.now) ≡ Err fault) }
+{
+    match after_writes(count, bytes) {
+        Ok([]) => Ok(Writes::spelled(count, bytes)),
+        Ok(_) => Err(WireFault::Trailing),
+        Err(DecodeError::Fault(fault)) => Err(fault),
+        Err(DecodeError::NoMemory) => unreachable!(),
+    }
+}
+
 /// Copies the writes of a batch.
 pub(crate) fn copy_batch(alloc: Global, writes: Writes<'_>) -> Result<Listed<Write>, NoMemory>
     ensures { IfOk result (λ copy. copy ≡ writes.entry) }
 {
     let mut copy = Vec::new(alloc);
-    copy_writes(alloc, writes, &mut copy)?;
+    let mut rest = writes;
+    while let Some((first, others)) = rest.split_first() {
+        copy.push(Write {
+            key: Bytes::from_slice(alloc, first.key)?,
+            value: copy_value(alloc, first.value)?,
+        })?;
+        rest = others;
+    }
     Ok(Listed::from_vec(copy))
-}
-
-/// Copies writes to the end of a vector.
-fn copy_writes(alloc: Global, writes: Writes<'_>, copy: &mut Vec<Write>) -> Result<(), NoMemory>
-    ensures { OnOk result (copy.new.items ≡ copy.old.items ++ writes.entry) }
-{
-    let Some((first, others)) = writes.split_first() else {
-        return Ok(());
-    };
-    copy.push(Write {
-        key: Bytes::from_slice(alloc, first.key)?,
-        value: copy_value(alloc, first.value)?,
-    })?;
-    copy_writes(alloc, others, copy)
 }
 
 /// Returns how many bytes a key and a value have.

@@ -10,6 +10,7 @@ mod item;
 mod message;
 mod placing;
 
+pub use batch::writes_of;
 pub use fault::{DecodeError, EncodeError, WireFault};
 pub use fields::{
     byte_at, bytes_at, flag_at, key_at, put_flag, put_key, put_value, u16_at, u32_at, u64_at,
