@@ -53,6 +53,7 @@
  *   hlc_store_close                                                                           other stores
  *   hlc_store_accept_write, _delete             1 27 6 14 7 12 13 15                  yes     other stores
  *   hlc_store_accept_report, _retire            1 27 6 14 7                                   other stores
+ *   hlc_store_accept_batch                      29 106 1 27 6 14 7 28 30 15           yes     other stores
  *   hlc_store_accept_all                        103, those of hlc_store_accept_write  yes     other stores
  *   hlc_store_check_write, _delete, _report     those of hlc_store_accept but 15              reads
  *   hlc_store_join                              26 15                                 yes     other stores
@@ -81,9 +82,9 @@
  *   hlc_certificate_make                        108 8 9 109 15                        yes     reads, with other outputs
  *   hlc_item_encode_write, _delete              12 13                                         all
  *   hlc_item_encode_report, _retire             none                                          all
- *   hlc_store_accept_items                      106 1 27 6 14 7 15                    yes     other stores
+ *   hlc_store_accept_items                      106 1 27 6 14 7 30 15                   yes     other stores
  *   hlc_record_encode_join, _threshold          none                                          all
- *   hlc_store_apply_records                     106 1 27 6 26 116 14 7 15             yes     other stores
+ *   hlc_store_apply_records                     106 1 27 6 26 116 14 7 30 15            yes     other stores
  *   hlc_checkpoint_make                         108 15                                yes     reads, with other outputs
  *   hlc_saving_start                            119 15                                yes     reads, with other savings
  *   hlc_saving_read                             118 112 15                            yes     reads, with other savings
@@ -102,6 +103,7 @@
  *   hlc_node_open, _raise                                                                     other nodes
  *   hlc_node_restore                            105                                           other nodes
  *   hlc_node_write, _delete                     27 12 13 14 2 3                               other nodes
+ *   hlc_node_write_batch                        29 106 27 28 30 14 2 3                        other nodes
  *   hlc_node_report, _retire                    27 14 2 3                                     other nodes
  *   hlc_node_send, _receive                     27 2 3                                        other nodes
  *   hlc_certificate_check                       16 15 22                              yes     all
@@ -170,6 +172,9 @@ typedef enum hlc_answer {
                                    to 8 */
     HLC_TOO_MANY_NODES = 26,    /* 1,024 node numbers are assigned */
     HLC_RETIRED = 27,           /* the node retired */
+    HLC_NO_WRITES = 28,         /* the batch has no writes */
+    HLC_TOO_MANY_WRITES = 29,   /* the batch has more than 256 writes */
+    HLC_KEY_TWICE = 30,         /* two writes of the batch are of one key */
     HLC_CLOSED = 100,           /* the store is closed, or another thread makes a call with it, against the rules */
     HLC_IS_OPEN = 101,          /* of hlc_store_open, hlc_store_restore, hlc_restoring_finish: the store is open, and is
                                    unchanged */
@@ -182,7 +187,8 @@ typedef enum hlc_answer {
     HLC_NO_SUCH_NODE = 105,     /* of hlc_node_restore: no node has issued so many items up to this stamp */
     HLC_BAD_BYTES = 106,        /* of hlc_store_restore, hlc_store_accept_items, hlc_store_apply_records, and of the
                                    older checkpoint of hlc_increment_apply; of hlc_checkpoint_split and
-                                   hlc_checkpoint_merge; word: the number of the first fault, 1 to 7 */
+                                   hlc_checkpoint_merge; of the calls for a batch; word: the number of the first fault,
+                                   1 to 7 */
     HLC_NO_CHECKPOINT = 107,    /* of hlc_store_restore, hlc_checkpoint_split and hlc_checkpoint_merge, and of both
                                    parts of hlc_increment_apply; word: the number of the first reason of
                                    docs/formats.md, 1 to 9 */
@@ -229,6 +235,7 @@ typedef char hlc_answer_has_32_bits[sizeof(hlc_answer) == sizeof(uint32_t) ? 1 :
 /* The greatest of each. A key has at least one byte. */
 #define HLC_MAX_KEY 255                               /* bytes of a key */
 #define HLC_MAX_VALUE 65535                           /* bytes of a value */
+#define HLC_MAX_BATCH 256                             /* writes of a batch; there is at least one */
 #define HLC_MAX_INITIAL_NODES 64                      /* nodes of hlc_store_open; there is at least one */
 #define HLC_MAX_NODES 1024                            /* node numbers of a store, with those that joined */
 #define HLC_MAX_OPEN_SNAPSHOTS 1024                   /* snapshots that are open at once */
@@ -243,7 +250,9 @@ typedef char hlc_answer_has_32_bits[sizeof(hlc_answer) == sizeof(uint32_t) ? 1 :
 #define HLC_MAX_CHANGE 65807      /* a change of hlc_snapshot_changes */
 #define HLC_MAX_READ_ANSWER 65544 /* an answer of hlc_snapshot_read_all */
 #define HLC_MAX_ROW 65554         /* a row of hlc_store_versions */
-#define HLC_MAX_ITEM 65814        /* an item, and each record of a log */
+#define HLC_MAX_ITEM 65814        /* an item that is no batch, and each other record of a log */
+#define HLC_MAX_BATCH_ITEM 16843285 /* an item that is a batch */
+#define HLC_MAX_WRITE 65794       /* a write of a batch */
 /* How many bytes there are. */
 #define HLC_JOIN_LEN 11           /* a join of hlc_record_encode_join */
 #define HLC_THRESHOLD_LEN 9       /* a threshold of hlc_record_encode_threshold */
@@ -290,6 +299,12 @@ hlc_answer hlc_store_accept_report(hlc_store *store, uint16_t node, uint64_t num
     HLC_CHECKED(1, 5);
 hlc_answer hlc_store_accept_retire(hlc_store *store, uint16_t node, uint64_t number, uint64_t stamp, uint64_t *word)
     HLC_CHECKED(1, 5);
+
+/* Accepts the batch that a node issued under this number with this stamp: all of its writes, or none. writes: so many,
+ * as for hlc_node_write_batch. Refusals, in this order: 29, 106, 1, 27, 6, 14, 7, 28, 30, 15. Costs what
+ * hlc_store_accept_write costs for each write. */
+hlc_answer hlc_store_accept_batch(hlc_store *store, uint16_t node, uint64_t number, uint64_t stamp, size_t count,
+                                  const uint8_t *writes, size_t writes_len, uint64_t *word) HLC_CHECKED(1, 8);
 
 /* A write, or a deletion, that a node issued. Its key and its value are this many bytes from these places on; the value
  * fields of a deletion are ignored. */
@@ -491,12 +506,15 @@ hlc_answer hlc_certificate_check(const uint8_t *text, size_t text_len, uint64_t 
 /* ---- Restart and replicas ---- */
 
 /* Writes an item that a node issued as bytes, for a log. len: how many bytes it has, as in hlc_snapshot_read; an item
- * has at most 65,814 bytes. docs/formats.md describes them. Refusals: 12, 13. No memory. */
+ * has at most 65,814 bytes, and a batch 16,843,285. docs/formats.md describes them. Refusals: 12, 13; of a batch, whose
+ * writes are given as for hlc_node_write_batch, 29, 106, 28, 30. No memory. */
 hlc_answer hlc_item_encode_write(uint16_t node, uint64_t number, uint64_t stamp, const uint8_t *key, size_t key_len,
                                  const uint8_t *value, size_t value_len, uint8_t *out, size_t out_len, size_t *len)
     HLC_CHECKED(10);
 hlc_answer hlc_item_encode_delete(uint16_t node, uint64_t number, uint64_t stamp, const uint8_t *key, size_t key_len,
                                   uint8_t *out, size_t out_len, size_t *len) HLC_CHECKED(8);
+hlc_answer hlc_item_encode_batch(uint16_t node, uint64_t number, uint64_t stamp, size_t count, const uint8_t *writes,
+                                 size_t writes_len, uint8_t *out, size_t out_len, size_t *len) HLC_CHECKED(9);
 hlc_answer hlc_item_encode_report(uint16_t node, uint64_t number, uint64_t stamp, uint8_t *out, size_t out_len,
                                   size_t *len) HLC_CHECKED(6);
 hlc_answer hlc_item_encode_retire(uint16_t node, uint64_t number, uint64_t stamp, uint8_t *out, size_t out_len,
@@ -506,8 +524,8 @@ hlc_answer hlc_item_encode_retire(uint16_t node, uint64_t number, uint64_t stamp
  * accepted before are passed over, so that a log can be read again from any place. count: how many items were
  * accepted or passed over, also at a refusal; used: how many bytes these have: the next call goes on from there.
  * Bytes that end within an item are refused with 106 and word 1. word: 0, or the refusal's word. Refusals, of each
- * item in this order: 106, 1, 27, 6, 14, 7, 15. Takes memory as hlc_store_accept_write does: for the rows of writes and
- * deletions, and nothing beside. */
+ * item in this order: 106, 1, 27, 6, 14, 7, 30, 15. Takes memory as hlc_store_accept_write does: for the rows of
+ * writes, deletions and batches, and nothing beside. */
 hlc_answer hlc_store_accept_items(hlc_store *store, const uint8_t *bytes, size_t bytes_len, size_t *used, size_t *count,
                                   uint64_t *word) HLC_CHECKED(1, 4, 5, 6);
 
@@ -692,6 +710,16 @@ hlc_answer hlc_node_write(hlc_node *node, uint64_t reading, const uint8_t *key, 
                           size_t value_len, uint64_t *number, uint64_t *word) HLC_CHECKED(1, 7, 8);
 hlc_answer hlc_node_delete(hlc_node *node, uint64_t reading, const uint8_t *key, size_t key_len, uint64_t *number,
                            uint64_t *word) HLC_CHECKED(1, 5, 6);
+
+/* Issues one item of several writes, 1 to 256 of different keys, at one stamp: a snapshot shows all of them or none.
+ * writes: so many, one after another: for each a byte of length and the key; and 0 for a deletion, or 1, two bytes of
+ * length, the high one first, and the value. hlc_batch of hlcstore_inline.h makes them. Refusals, in this order: 29,
+ * 106, 27, 28, 30, 14, 2, 3. */
+hlc_answer hlc_node_write_batch(hlc_node *node, uint64_t reading, size_t count, const uint8_t *writes,
+                                size_t writes_len, uint64_t *number, uint64_t *word) HLC_CHECKED(1, 6, 7);
+
+/* A report says how far the node has come, so that the floor rises; a retirement is its last item. As hlc_node_write,
+ * but without the refusals of a key and a value. */
 hlc_answer hlc_node_report(hlc_node *node, uint64_t reading, uint64_t *number, uint64_t *word) HLC_CHECKED(1, 3, 4);
 hlc_answer hlc_node_retire(hlc_node *node, uint64_t reading, uint64_t *number, uint64_t *word) HLC_CHECKED(1, 3, 4);
 

@@ -45,6 +45,9 @@ static inline const char *hlc_strerror(uint32_t answer)
     case HLC_NOT_SHOWN: return "the certificate does not show that the rows are the fewest";
     case HLC_TOO_MANY_NODES: return "1,024 node numbers are assigned";
     case HLC_RETIRED: return "the node retired";
+    case HLC_NO_WRITES: return "the batch has no writes";
+    case HLC_TOO_MANY_WRITES: return "the batch has more than 256 writes";
+    case HLC_KEY_TWICE: return "the batch writes a key twice";
     case HLC_CLOSED: return "the store is closed";
     case HLC_IS_OPEN: return "the store is open already";
     case HLC_NO_VALUE: return "the key has no value in the snapshot";
@@ -230,10 +233,12 @@ typedef enum hlc_item_kind {
     HLC_ITEM_WRITE,
     HLC_ITEM_DELETE,
     HLC_ITEM_REPORT,
-    HLC_ITEM_RETIRE
+    HLC_ITEM_RETIRE,
+    HLC_ITEM_BATCH
 } hlc_item_kind;
 
-/* An item that a node issued. Only a write and a deletion have a key, and only a write has a value. */
+/* An item that a node issued. Only a write and a deletion have a key, and only a write has a value. Only a batch has
+ * `writes`, so many of which hlc_write_next reads one. */
 typedef struct {
     hlc_item_kind kind;
     uint16_t node;
@@ -241,7 +246,15 @@ typedef struct {
     uint64_t stamp;
     hlc_bytes key;
     hlc_bytes value;
+    size_t count;
+    hlc_bytes writes;
 } hlc_item;
+
+/* A write of a batch: its key, and its value, or none of a deletion. */
+typedef struct {
+    hlc_bytes key;
+    hlc_value value;
+} hlc_write;
 
 /* Takes a number of so many bytes, at most eight, the high one first, as items have them. */
 HLC_CHECKED(1, 3) static inline bool hlc_inline_high_first(hlc_bytes *rest, size_t size, uint64_t *number)
@@ -266,17 +279,57 @@ HLC_CHECKED(1, 3) static inline bool hlc_inline_field(hlc_bytes *rest, size_t si
     return true;
 }
 
+/* Takes a key and a value of a write; where they are not whole, perhaps a part of them. */
+HLC_CHECKED(1, 2) static inline bool hlc_inline_write(hlc_bytes *rest, hlc_write *write)
+{
+    uint64_t has_value;
+    memset(write, 0, sizeof *write);
+    if (!hlc_inline_field(rest, 1, &write->key) || write->key.len == 0) return false;
+    if (!hlc_inline_high_first(rest, 1, &has_value) || has_value > 1) return false;
+    write->value.exists = has_value == 1;
+    return has_value == 0 || hlc_inline_field(rest, 2, &write->value.bytes);
+}
+
+/* The next write of a batch: of the `writes` of an item, or of what hlc_batch made. */
+HLC_CHECKED(1, 2) static inline bool hlc_write_next(hlc_bytes *rest, hlc_write *write)
+{
+    const hlc_bytes whole = *rest;
+    if (hlc_inline_write(rest, write)) return true;
+    memset(write, 0, sizeof *write);
+    *rest = whole;
+    return false;
+}
+
+/* Takes one less than the number of writes, and the writes. */
+HLC_CHECKED(1, 2) static inline bool hlc_inline_batch(hlc_bytes *rest, hlc_item *item)
+{
+    uint64_t less;
+    hlc_write write;
+    if (!hlc_inline_high_first(rest, 1, &less)) return false;
+    item->kind = HLC_ITEM_BATCH;
+    item->count = (size_t)less + 1;
+    item->writes.at = rest->at;
+    for (size_t taken = 0; taken < item->count; taken++) {
+        if (!hlc_inline_write(rest, &write)) return false;
+    }
+    item->writes.len = (size_t)(rest->at - item->writes.at);
+    return true;
+}
+
 /* The rest of an item after its stamp; where it is not whole, perhaps a part of it. */
 HLC_CHECKED(1, 2) static inline bool hlc_inline_content(hlc_bytes *rest, hlc_item *item)
 {
-    uint64_t kind, has_value;
-    if (!hlc_inline_high_first(rest, 1, &kind) || kind > 2) return false;
+    uint64_t kind;
+    hlc_write write;
+    if (!hlc_inline_high_first(rest, 1, &kind) || kind > 3) return false;
+    if (kind == 3) return hlc_inline_batch(rest, item);
     item->kind = kind == 1 ? HLC_ITEM_REPORT : HLC_ITEM_RETIRE;
     if (kind > 0) return true;
-    if (!hlc_inline_field(rest, 1, &item->key) || item->key.len == 0) return false;
-    if (!hlc_inline_high_first(rest, 1, &has_value) || has_value > 1) return false;
-    item->kind = has_value == 1 ? HLC_ITEM_WRITE : HLC_ITEM_DELETE;
-    return has_value == 0 || hlc_inline_field(rest, 2, &item->value);
+    if (!hlc_inline_write(rest, &write)) return false;
+    item->kind = write.value.exists ? HLC_ITEM_WRITE : HLC_ITEM_DELETE;
+    item->key = write.key;
+    item->value = write.value.bytes;
+    return true;
 }
 
 /* The next item of a log, as hlc_item_encode_write and its like wrote it, for whoever looks at a log before a store
@@ -295,6 +348,71 @@ HLC_CHECKED(1, 2) static inline bool hlc_item_next(hlc_bytes *rest, hlc_item *it
     memset(item, 0, sizeof *item);
     *rest = whole;
     return false;
+}
+
+/* ---- Batches ----
+ *
+ *     uint8_t room[4096];
+ *     hlc_batch batch = hlc_batch_in(room, sizeof room);
+ *     answer = hlc_batch_write(&batch, key, key_len, value, value_len);
+ *     ...
+ *     answer = hlc_node_write_batch(&node, reading, batch.count, batch.at, batch.len, &number, &stamp);
+ *     answer = hlc_store_accept_batch(&store, node.id, number, stamp, batch.count, batch.at, batch.len, &word);
+ */
+
+/* The writes of a batch, in a buffer of the caller: how many, and their bytes, as hlc_node_write_batch takes them. */
+typedef struct {
+    uint8_t *at;
+    size_t room;
+    size_t len;
+    size_t count;
+} hlc_batch;
+
+/* No writes, in a buffer of so many bytes: HLC_MAX_WRITE for each write always suffice. */
+static inline hlc_batch hlc_batch_in(uint8_t *buffer, size_t room)
+{
+    hlc_batch batch = { buffer, room, 0, 0 };
+    return batch;
+}
+
+/* Adds a write, or a deletion where there is no value. */
+HLC_CHECKED(1) static inline hlc_answer hlc_inline_batch_put(hlc_batch *batch, const uint8_t *key, size_t key_len,
+                                                                const hlc_bytes *value)
+{
+    const size_t len = 2 + key_len + (value ? 2 + value->len : 0);
+    uint8_t *end;
+    if (key_len == 0 || key_len > HLC_MAX_KEY) return HLC_BAD_KEY;
+    if (value && value->len > HLC_MAX_VALUE) return HLC_VALUE_TOO_LONG;
+    if (batch->count == HLC_MAX_BATCH) return HLC_TOO_MANY_WRITES;
+    if (batch->room - batch->len < len) return HLC_MORE;
+    end = batch->at + batch->len;
+    *end++ = (uint8_t)key_len;
+    memcpy(end, key, key_len);
+    end += key_len;
+    *end++ = value != NULL;
+    if (value) {
+        *end++ = (uint8_t)(value->len >> 8);
+        *end++ = (uint8_t)(value->len & 255);
+        if (value->len > 0) memcpy(end, value->at, value->len);
+    }
+    batch->len += len;
+    batch->count++;
+    return HLC_OK;
+}
+
+/* Adds a write, or a deletion. Refusals: 12, 13, 29, 104 where it does not fit; then nothing is added. That a key is
+ * there twice is refused by hlc_node_write_batch. */
+HLC_CHECKED(1) static inline hlc_answer hlc_batch_write(hlc_batch *batch, const uint8_t *key, size_t key_len,
+                                                           const uint8_t *value, size_t value_len)
+{
+    hlc_bytes bytes;
+    bytes.at = value;
+    bytes.len = value_len;
+    return hlc_inline_batch_put(batch, key, key_len, &bytes);
+}
+HLC_CHECKED(1) static inline hlc_answer hlc_batch_delete(hlc_batch *batch, const uint8_t *key, size_t key_len)
+{
+    return hlc_inline_batch_put(batch, key, key_len, NULL);
 }
 
 /* ---- Results as structs ----
