@@ -1,5 +1,5 @@
 -- Several writes that have one stamp, and the rows that they make.
-use Rattle.std.specs.Prelude.{ℕ, List, [], ◌∷◌, length, map, Bool, false, ◌==◌, ◌||◌, nat_lt, Option, Some, None}
+use Rattle.std.specs.Prelude.{ℕ, ◌+◌, ◌*◌, ◌%◌, List, [], ◌∷◌, length, map, Bool, false, ◌==◌, ◌||◌, nat_lt, Option, Some, None}
 use Rattle.std.specs.Prelude.{if◌then◌else◌}
 use Rattle.std.specs.Str.{bytes_eq}
 use Rattle.hlc_rows.specs.declared.limits.BodyFault.{BodyFault}
@@ -44,3 +44,11 @@ row_written node stamp write = record { key = write.key; stamp = stamp; node = n
 -- the rows of the writes by this node at this stamp, in their order
 abbrev pub rows_written : ℕ → ℕ → List Write → List Row
 rows_written node stamp writes = map (row_written node stamp) writes
+
+-- A mark of a key, below 4,096: equal keys have equal marks, so keys whose marks differ are not compared.
+abbrev pub mark_from : ℕ → List ℕ → ℕ
+mark_from mark [] = mark
+mark_from mark (byte ∷ bytes) = mark_from ((mark * 33 + byte) % 4096) bytes
+
+abbrev pub mark_of : List ℕ → ℕ
+mark_of key = mark_from 0 key

@@ -1,11 +1,14 @@
 //! A write of a batch: several keys at one stamp.
-ghost use Rattle.std.specs.Prelude.{◌≡◌, length};
+ghost use Rattle.std.specs.Prelude.{◌≡◌, ◌<◌, length, take};
 ghost use Rattle.std.specs.Prelude.{List};
-ghost use Rattle.hlc_rows.specs.Writes.{batch_refusal, writes_key, writes_refusal, writes_twice};
+ghost use Rattle.hlc_rows.specs.Writes.{batch_refusal, mark_of, writes_key, writes_refusal, writes_twice};
 
 use crate::limits::{BodyFault, MOST_WRITES, write_fault};
 use crate::writes::Writes;
 use hlc_bytes::Bytes;
+
+/// The number of marks of keys.
+const MARKS: usize = 4_096;
 
 /// A new version of a key.
 #[derive(Clone, PartialEq, Eq, Debug, Drop)]
@@ -15,29 +18,53 @@ pub struct Write {
     pub value: Option<Bytes>,
 }
 
-/// Returns whether one of the writes is of this key.
-fn has_key(writes: Writes<'_>, key: &[u8]) -> bool
-    ensures { result ≡ writes_key key.now writes.entry }
+/// Returns whether one of the first writes, so many, is of this key.
+fn first_have_key(writes: Writes<'_>, count: usize, key: &[u8]) -> bool
+    ensures { result ≡ writes_key key.now (take count writes.entry) }
 {
+    let mut left = count;
     let mut rest = writes;
     while let Some((first, others)) = rest.split_first() {
+        if left == 0 {
+            return false;
+        }
         if first.key == key {
             return true;
         }
+        left -= 1;
         rest = others;
     }
     false
 }
 
-/// Returns whether two of the writes are of one key.
+/// Returns a mark of a key: equal keys have equal marks.
+fn mark_of(key: &[u8]) -> usize
+    ensures is { result ≡ mark_of key.now }
+    ensures below { result < 4096 }
+{
+    let mut mark = 0usize;
+    let mut rest = key;
+    while let Some((byte, others)) = rest.split_first() {
+        mark = (mark * 33 + *byte as usize) % MARKS;
+        rest = others;
+    }
+    mark
+}
+
+/// Returns whether two of the writes are of one key. It compares a key with those before it only if one of them has the
+/// same mark, so that it takes time in proportion to the number of writes, but for chance.
 fn has_key_twice(writes: Writes<'_>) -> bool
     ensures { result ≡ writes_twice writes.entry }
 {
-    let mut rest = writes;
+    let mut marks = [false; MARKS];
+    let mut rest = writes.lend();
     while let Some((first, others)) = rest.split_first() {
-        if has_key(others.lend(), first.key) {
+        let mark = mark_of(first.key);
+        let before = writes.len() - 1 - others.len();
+        if marks[mark] && first_have_key(writes.lend(), before, first.key) {
             return true;
         }
+        marks[mark] = true;
         rest = others;
     }
     false

@@ -1,0 +1,184 @@
+-- Writes of different keys, found by the marks of their keys.
+use Rattle.std.proofs.Common.{◌≡◌, ◌≢◌, ◌∙◌, ◌⊎◌, ℕ, zero, suc, ◌+◌, ◌-◌, ◌<◌, List, [], ◌∷◌, ◌++◌, length, take, set, get_or}
+use Rattle.std.proofs.Common.{Bool, true, false, ◌||◌, bytes_eq, refl, sym, ap, subst, inl, inr, arith, length-append}
+use Rattle.std.proofs.lemmas.Bool.{cases_Bool, or_parts, false≢true}
+use Rattle.std.proofs.lemmas.List.{append_assoc, append-nil, take_at, get_or-set_same, get_or-set_other, length-set}
+use Rattle.std.proofs.lemmas.Bool.{cases_eq}
+use Rattle.std.proofs.lemmas.Slice.Eq.{bytes_eq-Decides}
+use Rattle.hlc_rows.specs.declared.write.Write.{Write}
+use Rattle.hlc_rows.specs.Writes.{writes_key, writes_twice, mark_of}
+
+pub take-more : {A : Type 0} (n : ℕ) (x : A) (xs : List A) → n ≢ 0 → take n (x ∷ xs) ≡ x ∷ take (n - 1) xs
+take-more zero x xs some = absurd (some refl)
+take-more (suc n) x xs some =
+    let less : suc n - 1 ≡ n = omega arith in
+    rw less refl
+
+-- one of the two is true
+or-true : (x y : Bool) → (x || y) ≡ true → (x ≡ true) ⊎ (y ≡ true)
+or-true true y h = inl refl
+or-true false y h = inr h
+
+or-right : (x y : Bool) → y ≡ true → (x || y) ≡ true
+or-right true y h = refl
+or-right false y h = h
+
+or-left : (x y : Bool) → x ≡ true → (x || y) ≡ true
+or-left true y h = refl
+or-left false y h = absurd (false≢true h)
+
+or-none : (x y : Bool) → x ≡ false → y ≡ false → (x || y) ≡ false
+or-none true y h k = absurd (false≢true (sym h))
+or-none false y h k = k
+
+same : (a b : List ℕ) → bytes_eq a b ≡ true → a ≡ b
+same a b h = (bytes_eq-Decides a b).0 h
+
+same-key : (a b : List ℕ) → a ≡ b → bytes_eq a b ≡ true
+same-key a b h = (bytes_eq-Decides a b).1 h
+
+apart : (a b : List ℕ) → bytes_eq a b ≡ false → bytes_eq b a ≡ false
+apart a b h =
+    elim (cases_Bool (bytes_eq b a)) [
+      | inl is ↦ absurd (false≢true (sym h ∙ same-key a b (sym (same b a is))))
+      | inr not ↦ not
+    ]
+
+-- a write that is among others is of its key
+within : (key : List ℕ) (before : List Write) (write : Write) (after : List Write) → write.key ≡ key
+    → writes_key key (before ++ write ∷ after) ≡ true
+within key [] write after is = or-left (bytes_eq write.key key) (writes_key key after) (same-key write.key key is)
+within key (first ∷ before) write after is =
+    or-right (bytes_eq first.key key) (writes_key key (before ++ write ∷ after)) (within key before write after is)
+
+-- a write whose key one before it has
+found : (before : List Write) (write : Write) (after : List Write) → writes_key write.key before ≡ true
+    → writes_twice (before ++ write ∷ after) ≡ true
+found [] write after h = absurd (false≢true h)
+found (first ∷ before) write after h =
+    elim (or-true (bytes_eq first.key write.key) (writes_key write.key before) h) [
+      | inl is ↦ or-left (writes_key first.key (before ++ write ∷ after)) (writes_twice (before ++ write ∷ after))
+          (within first.key before write after (sym (same first.key write.key is)))
+      | inr later ↦ or-right (writes_key first.key (before ++ write ∷ after)) (writes_twice (before ++ write ∷ after))
+          (found before write after later)
+    ]
+
+-- one more write, of another key
+no-more : (key : List ℕ) (before : List Write) (write : Write) → writes_key key before ≡ false
+    → bytes_eq write.key key ≡ false → writes_key key (before ++ write ∷ []) ≡ false
+no-more key [] write none other = or-none (bytes_eq write.key key) false other refl
+no-more key (first ∷ before) write none other =
+    let parts = or_parts (bytes_eq first.key key) (writes_key key before) none in
+    or-none (bytes_eq first.key key) (writes_key key (before ++ write ∷ [])) parts.0
+    (no-more key before write parts.1 other)
+
+still-once : (before : List Write) (write : Write) → writes_twice before ≡ false → writes_key write.key before ≡ false
+    → writes_twice (before ++ write ∷ []) ≡ false
+still-once [] write once none = refl
+still-once (first ∷ before) write once none =
+    let parts = or_parts (writes_key first.key before) (writes_twice before) once in
+    let keys = or_parts (bytes_eq first.key write.key) (writes_key write.key before) none in
+    or-none (writes_key first.key (before ++ write ∷ [])) (writes_twice (before ++ write ∷ []))
+    (no-more first.key before write parts.0 (apart first.key write.key keys.0)) (still-once before write parts.1 keys.1)
+
+-- of one more write, the key is that of the last one or of one before
+last-or-before : (key : List ℕ) (before : List Write) (write : Write) → writes_key key (before ++ write ∷ []) ≡ true
+    → (writes_key key before ≡ true) ⊎ (write.key ≡ key)
+last-or-before key [] write h =
+    elim (or-true (bytes_eq write.key key) false h) [
+      | inl is ↦ inr (same write.key key is)
+      | inr not ↦ absurd (false≢true not)
+    ]
+last-or-before key (first ∷ before) write h =
+    elim (or-true (bytes_eq first.key key) (writes_key key (before ++ write ∷ [])) h) [
+      | inl is ↦ inl (or-left (bytes_eq first.key key) (writes_key key before) is)
+      | inr later ↦
+          elim (last-or-before key before write later) [
+            | inl earlier ↦ inl (or-right (bytes_eq first.key key) (writes_key key before) earlier)
+            | inr last ↦ inr last
+          ]
+    ]
+
+-- the writes before the rest are of different keys, and the mark of each of their keys is set
+pub record Passed (writes : List Write) (marks : List Bool) (rest : List Write) : Type 0 where
+  pub before : List Write
+  pub parts : writes ≡ before ++ rest
+  pub once : writes_twice before ≡ false
+  pub room : length marks ≡ 4096
+  pub marked : (key : List ℕ) → writes_key key before ≡ true → get_or marks (mark_of key) false ≡ true
+
+pub passed-none : (writes : List Write) (marks : List Bool) → length marks ≡ 4096 → Passed writes marks writes
+passed-none writes marks room = record {
+  before = [];
+  parts = refl;
+  once = refl;
+  room = room;
+  marked = λ key h. absurd (false≢true h);
+}
+
+-- how many writes there are before the next one
+pub passed-count : (writes : List Write) (marks : List Bool) (rest : List Write) (write : Write) (others : List Write)
+    → (p : Passed writes marks rest) → rest ≡ write ∷ others → length writes ≡ length p.before + 1 + length others
+passed-count writes marks rest write others p is =
+    let all' : length writes ≡ length (p.before ++ (write ∷ others)) =
+    ap length (p.parts ∙ ap (λ (xs : List Write). p.before ++ xs) is) in
+    omega (arith, all', length-append p.before (write ∷ others))
+
+-- those are the first of all
+firsts : (writes : List Write) (marks : List Bool) (rest : List Write) (write : Write) (others : List Write) (many : ℕ)
+    → (p : Passed writes marks rest) → rest ≡ write ∷ others → many ≡ length writes - 1 - length others
+    → take many writes ≡ p.before
+firsts writes marks rest write others many p is count =
+    let all' = passed-count writes marks rest write others p is in
+    ap (λ (xs : List Write). take many xs) p.parts ∙ take_at p.before rest many (omega (arith, all', count))
+
+-- the key of the next write is found among those before
+pub passed-found : (writes : List Write) (marks : List Bool) (rest : List Write) (write : Write) (others : List Write)
+    (many : ℕ) → Passed writes marks rest → rest ≡ write ∷ others → many ≡ length writes - 1 - length others
+    → writes_key write.key (take many writes) ≡ true → writes_twice writes ≡ true
+passed-found writes marks rest write others many p is count h =
+    let all' : writes ≡ p.before ++ (write ∷ others) = p.parts ∙ ap (λ (xs : List Write). p.before ++ xs) is in
+    subst (λ xs. writes_twice xs ≡ true) (sym all')
+    (found p.before write others
+    (sym (ap (writes_key write.key) (firsts writes marks rest write others many p is count)) ∙ h))
+
+-- the key of the next write is not among those before, since its mark is not set or no key is the same
+pub passed-more : (writes : List Write) (marks : List Bool) (rest : List Write) (write : Write) (others : List Write)
+    (many mark : ℕ) → Passed writes marks rest → rest ≡ write ∷ others → many ≡ length writes - 1 - length others
+    → mark ≡ mark_of write.key → mark < 4096
+    → (get_or marks mark false ≡ false) ⊎ (writes_key write.key (take many writes) ≡ false)
+    → Passed writes (set marks mark true) others
+passed-more writes marks rest write others many mark p is count of low new =
+    let none : writes_key write.key p.before ≡ false =
+    elim new [
+      | inl unset ↦
+          elim (cases_Bool (writes_key write.key p.before)) [
+            | inl h ↦ absurd (false≢true (sym unset ∙ ap (λ (m : ℕ). get_or marks m false) of ∙ p.marked write.key h))
+            | inr h ↦ h
+          ]
+      | inr h ↦ sym (ap (writes_key write.key) (firsts writes marks rest write others many p is count)) ∙ h
+    ] in record {
+      before = p.before ++ write ∷ [];
+      parts = p.parts ∙ ap (λ (xs : List Write). p.before ++ xs) is ∙ sym (append_assoc p.before (write ∷ []) others);
+      once = still-once p.before write p.once none;
+      room = length-set marks mark true ∙ p.room;
+      marked = λ key h.
+          elim (cases_eq (mark_of key) mark) [
+            | inl here ↦
+                subst (λ m. get_or (set marks mark true) m false ≡ true) (sym here)
+                (get_or-set_same marks mark true false (omega (arith, low, p.room)))
+            | inr there ↦
+                get_or-set_other marks mark (mark_of key) true false there
+                ∙ elim (last-or-before key p.before write h) [
+                  | inl earlier ↦ p.marked key earlier
+                  | inr last ↦ absurd (there (ap mark_of (sym last) ∙ sym of))
+                ]
+          ];
+    }
+
+-- all writes were passed
+pub passed-all : (writes : List Write) (marks : List Bool) (rest : List Write) → (p : Passed writes marks rest)
+    → rest ≡ [] → writes_twice writes ≡ false
+passed-all writes marks rest p is =
+    let all' : writes ≡ p.before = p.parts ∙ ap (λ (xs : List Write). p.before ++ xs) is ∙ append-nil p.before in
+    subst (λ xs. writes_twice xs ≡ false) (sym all') p.once
