@@ -2,14 +2,17 @@
 -- rows were accepted.
 use Rattle.std.proofs.Common.{◌≡◌, ℕ, ◌≤◌, ◌⊎◌, List, [], ◌∷◌, Some, None, refl, ap, sym, ◌∙◌}
 use Rattle.std.proofs.Common.{subst, inl, inr, arith}
-use Rattle.std.specs.Prelude.{Contains}
+use Rattle.std.specs.Prelude.{Contains, All}
 use Rattle.std.proofs.lemmas.Bool.{cases_eq}
 use Rattle.std.proofs.lemmas.List.Elements.{Contains-append_left, Contains-append_right, Contains-append_cases}
+use Rattle.std.proofs.lemmas.List.Elements.{All-head, All-tail}
 use Rattle.hlc_values.proofs.MemberLemmas.{Contains-none, Contains-first, Contains-rest, Contains-cons_cases}
 use Rattle.hlc_rows.specs.declared.row.Row.{Row}
+use Rattle.hlc_rows.specs.declared.write.Write.{Write as AWrite}
+use Rattle.hlc_rows.specs.Writes.{row_written, rows_written}
 use Rattle.hlc_node.specs.declared.item.Item.{Item}
 use Rattle.hlc_node.specs.declared.item.Body.{Body}
-use Rattle.hlc_node.specs.declared.item.Body.TheVariants.{Write, Report, Retire}
+use Rattle.hlc_node.specs.declared.item.Body.TheVariants.{Write, Batch, Report, Retire}
 use Rattle.hlc_rows.specs.Rows.{newest, answer, IsRowSet}
 use Rattle.hlc_rows.proofs.NewestLemmas.{newest_is_greatest, answer_none, answer_some}
 use Rattle.hlc_draft.proofs.PartLemmas.{newest_in_part, none_in_part}
@@ -38,11 +41,25 @@ answer-in_part part all key at set' within back =
           ∙ sym (answer_some all key at row e)
     ] refl
 
+-- a row of a batch has a key of its store
+rows-routed : (layout : Layout) (s node stamp : ℕ) (writes : List AWrite) (row : Row)
+    → All (λ write. layout.store_of write.key ≡ s) writes → Contains (rows_written node stamp writes) row
+    → layout.store_of row.key ≡ s
+rows-routed layout s node stamp [] row routed m = absurd (Contains-none row m)
+rows-routed layout s node stamp (write ∷ writes) row routed m =
+    elim (Contains-cons_cases (row_written node stamp write) row (rows_written node stamp writes) m) [
+      | inl same ↦ sym (ap (λ (r : Row). layout.store_of r.key) same)
+          ∙ All-head (λ write. layout.store_of write.key ≡ s) write writes routed
+      | inr rest ↦ rows-routed layout s node stamp writes row
+          (All-tail (λ write. layout.store_of write.key ≡ s) write writes routed) rest
+    ]
+
 -- a row of an item has a key of its store
 row-routed : (layout : Layout) (s node stamp : ℕ) (body : Body) (row : Row) → IsRouted layout s body
     → Contains (body_rows node stamp body) row → layout.store_of row.key ≡ s
 row-routed layout s node stamp Report row routed m = absurd (Contains-none row m)
 row-routed layout s node stamp Retire row routed m = absurd (Contains-none row m)
+row-routed layout s node stamp (Batch writes) row routed m = rows-routed layout s node stamp writes row routed m
 row-routed layout s node stamp (Write key value) row routed m =
     elim (Contains-cons_cases (record { key = key; stamp = stamp; node = node; value = value }) row [] m) [
       | inl same ↦ sym (ap (λ (r : Row). layout.store_of r.key) same) ∙ routed

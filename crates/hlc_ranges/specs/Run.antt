@@ -1,11 +1,11 @@
 -- A run of several stores and of the machines that write to them: what took place, in order, and what it says of each
 -- store, each link and each clock.
 use Rattle.std.specs.Prelude.{◌≡◌, ℕ, Bool, false, ◌<◌, ◌≤◌, List, [], ◌∷◌, ◌++◌, length, max, Option, Some, None}
-use Rattle.std.specs.Prelude.{◌==◌, if◌then◌else◌, ⊤, Contains}
+use Rattle.std.specs.Prelude.{◌==◌, if◌then◌else◌, ⊤, Contains, All}
 use Rattle.hlc_rows.specs.declared.row.Row.{Row}
 use Rattle.hlc_node.specs.declared.item.Item.{Item}
 use Rattle.hlc_node.specs.declared.item.Body.{Body}
-use Rattle.hlc_node.specs.declared.item.Body.TheVariants.{Write, Report, Retire}
+use Rattle.hlc_node.specs.declared.item.Body.TheVariants.{Write, Batch, Report, Retire}
 use Rattle.hlc_node.specs.Items.{retires}
 use Rattle.hlc_core.specs.Past.{Step, Took, Joined, numbered, floor, item_rows, IsLegal as IsLegalPast}
 
@@ -80,9 +80,10 @@ abbrev pub turn_at : List Turn → ℕ → Option Turn
 turn_at [] number = None
 turn_at (turn ∷ run) number = if number == length run then Some turn else turn_at run number
 
--- the write has its key in this store
+-- the write, or each write of the batch, has its key in this store
 abbrev pub IsRouted : Layout → ℕ → Body → Type 0
 IsRouted layout s (Write key value) = layout.store_of key ≡ s
+IsRouted layout s (Batch writes) = All (λ write. layout.store_of write.key ≡ s) writes
 IsRouted layout s Report = ⊤
 IsRouted layout s Retire = ⊤
 
@@ -125,7 +126,7 @@ issued_writes [] = []
 issued_writes (Issued s item ∷ run) = issued_writes run ++ item_rows item
 issued_writes (_ ∷ run) = issued_writes run
 
--- the row of an item that a step accepted
+-- the rows of an item that a step accepted
 abbrev pub step_rows : Step → List Row
 step_rows (Took item) = item_rows item
 step_rows _ = []
