@@ -1,9 +1,10 @@
 -- Which store has a key: stores have ranges of keys, or the keys of a hash.
 use Rattle.std.specs.Prelude.{◌≡◌, ℕ, ◌+◌, ◌*◌, ◌%◌, ◌^◌, ◌<◌, ◌≤◌, List, [], ◌∷◌, length, get_or, if◌then◌else◌}
-use Rattle.std.specs.Prelude.{bit_xor}
+use Rattle.std.specs.Prelude.{bit_xor, All}
 use Rattle.std.specs.Ordering.{is_lt, nat_cmp}
 use Rattle.std.specs.Cmp.Lexicographic.{slice_cmp}
 use Rattle.std.specs.declared.cmp.Ordering.TheVariants.{Less}
+use Rattle.hlc_rows.specs.declared.write.Write.{Write}
 use Rattle.hlc_routing.specs.declared.division.Kind.{Kind}
 use Rattle.hlc_routing.specs.declared.division.Kind.TheVariants.{Keys, Hash}
 use Rattle.hlc_routing.specs.declared.division.TheConstants.{MOST_STORES, HASH_START, HASH_PRIME}
@@ -37,6 +38,10 @@ hash_after hash (byte ∷ bytes) = hash_after (bit_xor hash byte * HASH_PRIME % 
 abbrev pub store_of : DivisionView → List ℕ → ℕ
 store_of (ByKeys boundaries) key = store_between boundaries key
 store_of (ByHash stores) key = hash_after HASH_START key % stores
+
+-- each of some writes has its key in this store
+abbrev pub AreOfStore : DivisionView → ℕ → List Write → Type 0
+AreOfStore division s writes = All (λ write. store_of division write.key ≡ s) writes
 
 -- each boundary is below the next
 abbrev pub AreAscending : List (List ℕ) → Type 0

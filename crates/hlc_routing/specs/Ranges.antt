@@ -1,7 +1,7 @@
 -- Stores with one key space, and the run that they represent.
 use Rattle.std.specs.Prelude.{◌≡◌, ℕ, ◌<◌, ◌≤◌, ◌+◌, List, ◌∷◌, length, Some, None, slice_get, ⊤, Result, Ok, Err}
 use Rattle.hlc_node.specs.declared.item.Body.{Body}
-use Rattle.hlc_node.specs.declared.item.Body.TheVariants.{Write, Report, Retire}
+use Rattle.hlc_node.specs.declared.item.Body.TheVariants.{Write, Batch, Report, Retire}
 use Rattle.hlc_node.specs.declared.item.Item.{Item}
 use Rattle.hlc_core.specs.Past.{Step, Opened, Closed, item_refusal, open_refusal, opened, stamp_of}
 use Rattle.hlc_core.specs.StoreView.{StoreView, nodes, Represents as CoreRepresents}
@@ -9,7 +9,7 @@ use Rattle.hlc_core.specs.Checkpoint.{floor_in}
 use Rattle.hlc_core.specs.Calls.{IsRefusal, IsWrite}
 use Rattle.hlc_ranges.specs.Run.{Layout, Turn, Stepped, past_of, IsLegal}
 use Rattle.hlc_events.specs.declared.fault.CoreFault.TheVariants.{NoSnapshot}
-use Rattle.hlc_routing.specs.Division.{DivisionView, store_of}
+use Rattle.hlc_routing.specs.Division.{DivisionView, store_of, AreOfStore}
 use Rattle.hlc_routing.specs.declared.fault.RangesFault.{RangesFault}
 use Rattle.hlc_routing.specs.declared.fault.RangesFault.TheVariants.{NoStore, WrongStore, Store}
 
@@ -38,13 +38,14 @@ pub record IsLeastFloor (stores : List StoreView) (stamp : ℕ) : Type 0 where
   pub low : (s : ℕ) (store : StoreView) → slice_get stores s ≡ Some store → stamp ≤ floor_in store
   pub one : IsFloorOfOne stores stamp
 
--- the body is no write, or one of a key of this store
+-- the body is no write, or one of a key of this store, or a batch of writes of its keys alone
 abbrev pub IsOfStore : DivisionView → ℕ → Body → Type 0
 IsOfStore division s (Write key value) = store_of division key ≡ s
+IsOfStore division s (Batch writes) = AreOfStore division s writes
 IsOfStore division s Report = ⊤
 IsOfStore division s Retire = ⊤
 
--- why an item is refused: no such store; a write of another store's key; or that store refuses it
+-- why an item is refused: no such store; a write of another store's key, alone or in a batch; or that store refuses it
 abbrev pub IsRefusedFor : RangesView → ℕ → Item → RangesFault → Type 0
 IsRefusedFor kept s item NoStore = length kept.stores ≤ s
 IsRefusedFor kept s item WrongStore = (s < length kept.stores) × (IsOfStore kept.division s item.body → ⊥)

@@ -2,11 +2,11 @@
 ghost use Rattle.std.specs.Prelude.{◌≡◌, ◌<◌, ◌≤◌, ◌↔◌, ◌⊎◌, IsTrue, IfSome, IfNone, length};
 ghost use Rattle.std.specs.Ordering.{is_lt, nat_cmp};
 ghost use Rattle.std.specs.Cmp.Lexicographic.{slice_cmp};
-ghost use Rattle.hlc_routing.specs.Division.{ByKeys, ByHash, AreAscending, IsDivision, stores_of, store_of};
-ghost use Rattle.hlc_routing.specs.Division.{store_between, hash_after};
+ghost use Rattle.hlc_routing.specs.Division.{ByKeys, ByHash, AreAscending, AreOfStore, IsDivision, stores_of};
+ghost use Rattle.hlc_routing.specs.Division.{store_of, store_between, hash_after};
 ghost use Rattle.hlc_routing.specs.declared.division.TheConstants.{MOST_STORES, HASH_START};
 
-use hlc_node::Bytes;
+use hlc_node::{Bytes, Write};
 use hlc_values::Listed;
 use std::marker::Model;
 
@@ -96,6 +96,15 @@ impl Division {
             Kind::Hash(stores) => (hash(key) % *stores as u64) as usize,
         }
     }
+}
+
+/// Returns whether each of the writes has its key in this store.
+pub(crate) fn are_of_store(division: &Division, store: usize, writes: &[Write]) -> bool
+    ensures { IsTrue result ↔ AreOfStore division.now store writes.now }
+{
+    writes
+        .iter()
+        .all(|write| division.store_of(write.key.as_slice()) == store)
 }
 
 /// Returns whether each boundary is below the next.

@@ -10,7 +10,7 @@ ghost use Rattle.hlc_routing.specs.Division.{stores_of, store_of};
 ghost use Rattle.hlc_routing.specs.Ranges.{Represents, IsLeastFloor, IsOfStore, IsRefusedFor, OpensIn, ClosesIn};
 ghost use Rattle.hlc_routing.specs.All.{VacuumsIn, JoinsIn};
 
-use crate::division::Division;
+use crate::division::{Division, are_of_store};
 use crate::fault::RangesFault;
 use hlc_clock::Stamp;
 use hlc_core::{Accepted, Core, CoreFault, NoSnapshot};
@@ -100,8 +100,8 @@ impl Ranges {
 
     /// Lets a store accept the next item of one of its links.
     ///
-    /// Refused, in this order: no such store; a write of another store's key; and for the reasons of `Core::accept`. A
-    /// refusal changes nothing, and returns the item.
+    /// Refused, in this order: no such store; a write of another store's key, alone or in a batch; and for the reasons
+    /// of `Core::accept`. A refusal changes nothing, and returns the item.
     pub fn accept(&mut self, store: usize, item: Item) -> Result<Accepted, (RangesFault, Item)>
         ensures represents { (layout : Layout) (run : List Turn) → Represents layout self.old run
             → IsIssuedStep store (Took item) run
@@ -222,12 +222,13 @@ fn lesser(a: Stamp, b: Stamp) -> Stamp
     if b < a { b } else { a }
 }
 
-/// Returns whether a body is no write, or one of a key of this store.
+/// Returns whether a body is no write, or one of a key of this store, or a batch of writes of its keys alone.
 fn is_of_store(division: &Division, store: usize, body: &Body) -> bool
     ensures { IsTrue result ↔ IsOfStore division.now store body.now }
 {
     match body {
         Body::Write { key, .. } => division.store_of(key.as_slice()) == store,
+        Body::Batch(writes) => are_of_store(division, store, writes.as_slice()),
         Body::Report | Body::Retire => true,
     }
 }
