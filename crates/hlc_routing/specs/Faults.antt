@@ -6,7 +6,7 @@ use Rattle.hlc_routing.specs.declared.fault.RangesFault.{RangesFault}
 use Rattle.hlc_routing.specs.declared.fault.RangesFault.TheVariants.{NoStore, WrongStore, Store}
 use Rattle.hlc_routing.specs.declared.machine.MachineFault.{MachineFault}
 use Rattle.hlc_routing.specs.declared.machine.MachineFault.TheVariants as machine_fault
-use Rattle.hlc_routing.specs.declared.machine.MachineFault.TheVariants.{Node, NoMemory}
+use Rattle.hlc_routing.specs.declared.machine.MachineFault.TheVariants.{ManyStores, Node, NoMemory}
 
 -- the number of a refusal
 abbrev pub ranges_code : RangesFault → ℕ
@@ -23,11 +23,13 @@ ranges_text (Store fault) = core_text fault
 -- the number of a machine's refusal
 abbrev pub machine_code : MachineFault → ℕ
 machine_code machine_fault.NoStore = 120
+machine_code ManyStores = 122
 machine_code (Node fault) = node_code fault
 machine_code NoMemory = 15
 
 -- its text
 abbrev pub machine_text : MachineFault → List ℕ
 machine_text machine_fault.NoStore = codes "the machine has no node in the store"
+machine_text ManyStores = codes "the keys of the batch belong to different stores"
 machine_text (Node fault) = node_text fault
 machine_text NoMemory = codes "out of memory"

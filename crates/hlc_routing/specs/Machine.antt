@@ -1,16 +1,19 @@
 -- A machine that writes to several stores: one clock, and a node in each store.
 use Rattle.std.specs.Prelude.{◌≡◌, ℕ, ◌+◌, ◌<◌, ◌≤◌, List, [], ◌∷◌, ◌++◌, length, max, set, Option, Some, None, slice_get}
-use Rattle.std.specs.Prelude.{Ok, Err, false}
+use Rattle.std.specs.Prelude.{Ok, Err, false, ◌⊎◌}
 use Rattle.std.specs.Option.{option_map}
+use Rattle.hlc_rows.specs.declared.write.Write.{Write}
+use Rattle.hlc_rows.specs.declared.limits.BodyFault.TheVariants.{NoWrites}
 use Rattle.hlc_node.specs.Node.{NodeView, stamped, next_item, after_issue, expected_issue}
 use Rattle.hlc_node.specs.declared.item.Item.{Item}
 use Rattle.hlc_node.specs.declared.item.Body.{Body}
-use Rattle.hlc_node.specs.declared.item.Body.TheVariants.{Report}
+use Rattle.hlc_node.specs.declared.item.Body.TheVariants.{Batch, Report}
+use Rattle.hlc_node.specs.declared.node.NodeFault.TheVariants.{Body as bad_body}
 use Rattle.hlc_ranges.specs.Run.{Layout, Turn, Issued, last_stamp, IsLegal}
 use Rattle.hlc_ranges.specs.Calls.{IsNodeOf}
-use Rattle.hlc_routing.specs.Division.{DivisionView, store_of}
+use Rattle.hlc_routing.specs.Division.{DivisionView, store_of, AreOfStore}
 use Rattle.hlc_routing.specs.declared.machine.MachineFault.{MachineFault}
-use Rattle.hlc_routing.specs.declared.machine.MachineFault.TheVariants.{NoStore, Node, NoMemory}
+use Rattle.hlc_routing.specs.declared.machine.MachineFault.TheVariants.{NoStore, ManyStores, Node, NoMemory}
 
 -- the stamp of the last event, and the nodes, that of the first store first
 pub record MachineView : Type 0 where
@@ -41,9 +44,27 @@ pub record Issues (old new : MachineView) (s : ℕ) (body : Body) (reading : ℕ
 -- why the machine issues no such item: it has no node in this store; or the node refuses it
 abbrev pub IsRefusedIssue : MachineView → ℕ → Body → ℕ → MachineFault → Type 0
 IsRefusedIssue old s body reading NoStore = acting old s ≡ None
+IsRefusedIssue old s body reading ManyStores = ⊥
 IsRefusedIssue old s body reading (Node fault) =
     (node : NodeView) × (acting old s ≡ Some node) × (expected_issue node body reading ≡ Err fault)
 IsRefusedIssue old s body reading NoMemory = ⊥
+
+-- there are writes, and each of them has its key in this store
+abbrev pub HaveOneStore : DivisionView → List Write → ℕ → Type 0
+HaveOneStore division writes s = (0 < length writes) × AreOfStore division s writes
+
+-- why there is no such store: there are no writes; or their keys belong to different stores
+abbrev pub HaveNoStore : DivisionView → List Write → MachineFault → Type 0
+HaveNoStore division writes NoStore = ⊥
+HaveNoStore division writes ManyStores = (0 < length writes) × ((s : ℕ) → AreOfStore division s writes → ⊥)
+HaveNoStore division writes (Node fault) = (writes ≡ []) × (fault ≡ bad_body NoWrites)
+HaveNoStore division writes NoMemory = ⊥
+
+-- why the machine issues no item of these writes: they are not for one store; or the item is refused for that store
+abbrev pub IsRefusedBatch : MachineView → DivisionView → List Write → ℕ → MachineFault → Type 0
+IsRefusedBatch old division writes reading fault =
+    HaveNoStore division writes fault
+    ⊎ ((s : ℕ) × HaveOneStore division writes s × IsRefusedIssue old s (Batch writes) reading fault)
 
 -- the machine reported to one store after another, and these are the reports
 pub data Reports (old : MachineView) (reading : ℕ) : MachineView → List Item → Type 0 where

@@ -16,6 +16,6 @@ pub use hlc_core::{Accepted, Checkpoint, Core, CoreFault, Item, Report, Stamp};
 pub use laws::{
     events_keep_machines, events_keep_stores, joins_make_machines, steps_keep_machines,
 };
-pub use machine::{Machine, MachineFault, RefusedRouting};
+pub use machine::{Machine, MachineFault, RefusedBatchRouting, RefusedRouting};
 pub use ranges::Ranges;
 pub use snapshot::RangesSnapshot;

@@ -1,10 +1,11 @@
 //! A writer to several stores.
 ghost use Rattle.std.specs.Prelude.{◌≡◌, ◌<◌, ◌≤◌, ℕ, List, [], ◌∷◌, Some, None, Ok, Err, length, vec_capacity};
-ghost use Rattle.std.specs.Prelude.{IfOk, IfErr, OnErr, OnOk, ◌≢◌};
+ghost use Rattle.std.specs.Prelude.{IfOk, IfErr, OnErr, OnOk, MatchResult, ◌≢◌};
 ghost use Rattle.hlc_clock.specs.NextStamp.{expected_stamp};
 ghost use Rattle.hlc_node.specs.Node.{NodeView};
 ghost use Rattle.hlc_node.specs.declared.item.Body.TheVariants.{
   Write as a_write,
+  Batch as a_batch,
   Report as a_report,
   Retire as a_retire,
 };
@@ -13,13 +14,14 @@ ghost use Rattle.hlc_ranges.specs.Run.{Layout, Turn, Issued, Sent, Received, Obs
 ghost use Rattle.hlc_routing.specs.Division.{store_of};
 ghost use Rattle.hlc_routing.specs.Faults.{machine_code};
 ghost use Rattle.hlc_routing.specs.Machine.{acting, moved, Issues, IsRefusedIssue, Reports, IsRefusedReport};
+ghost use Rattle.hlc_routing.specs.Machine.{HaveOneStore, HaveNoStore, IsRefusedBatch};
 ghost use Rattle.hlc_routing.specs.Machine.{IsMachineOf, GoesOn, IsDividedBy, issued_from};
 ghost use Rattle.hlc_routing.specs.declared.machine.MachineFault.TheVariants.{NoMemory as no_memory};
 
-use crate::division::Division;
+use crate::division::{Division, are_of_store};
 use hlc_clock::{Clock, ClockFault, Stamp};
-use hlc_node::{Bytes, Item, NodeCore, NodeFault};
-use hlc_values::NoMemory;
+use hlc_node::{BodyFault, Bytes, Item, NodeCore, NodeFault, Write};
+use hlc_values::{Listed, NoMemory};
 use std::alloc::Global;
 use std::error::Error;
 use std::fmt;
@@ -30,6 +32,8 @@ use std::marker::Model;
 pub enum MachineFault {
     /// The machine has no node in the store.
     NoStore,
+    /// The keys of the batch belong to different stores.
+    ManyStores,
     /// The node refuses the event.
     Node(NodeFault),
     /// Out of memory.
@@ -37,12 +41,13 @@ pub enum MachineFault {
 }
 
 impl MachineFault {
-    /// Returns the number of this refusal in outputs: 120, 15, or that of the node's.
+    /// Returns the number of this refusal in outputs: 120, 122, 15, or that of the node's.
     pub fn code(self) -> u32
         ensures { result ≡ machine_code self }
     {
         match self {
             MachineFault::NoStore => 120,
+            MachineFault::ManyStores => 122,
             MachineFault::Node(fault) => fault.code(),
             MachineFault::NoMemory => 15,
         }
@@ -58,6 +63,9 @@ impl fmt::Display for MachineFault {
     fn fmt<W: fmt::Write>(&self, f: &mut fmt::Formatter<W>) -> fmt::Result {
         match self {
             MachineFault::NoStore => f.write_str("the machine has no node in the store"),
+            MachineFault::ManyStores => {
+                f.write_str("the keys of the batch belong to different stores")
+            }
             MachineFault::Node(fault) => fault.fmt(f),
             MachineFault::NoMemory => f.write_str("out of memory"),
         }
@@ -72,6 +80,13 @@ pub struct RefusedRouting {
     pub why: MachineFault,
     pub key: Bytes,
     pub value: Option<Bytes>,
+}
+
+/// A batch that a machine refused, with its writes.
+#[derive(Debug, Drop)]
+pub struct RefusedBatchRouting {
+    pub why: MachineFault,
+    pub writes: Listed<Write>,
 }
 
 /// A writer to several stores with one key space: one clock, and in each store a node with numbers of its own, which is
@@ -177,6 +192,48 @@ impl Machine {
             → IfOk result (λ made. GoesOn layout (Issued made.0 made.1) run m self.new) }
     {
         self.write(division, reading, key, None)
+    }
+
+    /// Issues one item that writes 1 to 256 keys of one store, each key once, all at one stamp, and returns the number of
+    /// that store and the item. A snapshot shows all of its writes or none. Each store has links of its own, so there is
+    /// no such item for keys of different stores.
+    ///
+    /// Refused, in this order: no writes; keys of different stores; no node in their store; for the reasons of
+    /// `NodeCore::write_batch`. The error returns the writes.
+    pub fn write_batch(
+        &mut self,
+        division: &Division,
+        reading: u64,
+        writes: Listed<Write>,
+    ) -> Result<(usize, Item), RefusedBatchRouting>
+        ensures ok { IfOk result (λ made. HaveOneStore division.now writes made.0
+            × Issues self.old self.new made.0 (a_batch writes) reading made.1) }
+        ensures err { IfErr result (λ refused. IsRefusedBatch self.old division.now writes reading refused.why
+            × (refused.writes ≡ writes) × (self.new ≡ self.old)) }
+        ensures extends { (layout : Layout) (run : List Turn) (m : ℕ) → IsLegal layout run
+            → IsMachineOf layout run m self.old → IsDividedBy layout division.now
+            → IfOk result (λ made. GoesOn layout (Issued made.0 made.1) run m self.new) }
+    {
+        let store = match one_store(division, writes.as_slice()) {
+            Ok(store) => store,
+            Err(why) => return Err(RefusedBatchRouting { why, writes }),
+        };
+        let Some(mut node) = self.acting(store) else {
+            return Err(RefusedBatchRouting {
+                why: MachineFault::NoStore,
+                writes,
+            });
+        };
+        match node.write_batch(reading, writes) {
+            Ok(item) => {
+                self.put(store, node);
+                Ok((store, item))
+            }
+            Err(refused) => Err(RefusedBatchRouting {
+                why: MachineFault::Node(refused.why),
+                writes: refused.writes,
+            }),
+        }
     }
 
     /// Issues a report for one store.
@@ -342,4 +399,19 @@ impl Machine {
         }
         Ok(())
     }
+}
+
+/// Returns the one store that has the keys of some writes. There is none if there are no writes, or if their keys belong
+/// to different stores.
+fn one_store(division: &Division, writes: &[Write]) -> Result<usize, MachineFault>
+    ensures { MatchResult result (HaveOneStore division.now writes.now) (HaveNoStore division.now writes.now) }
+{
+    let Some(first) = writes.first() else {
+        return Err(MachineFault::Node(NodeFault::Body(BodyFault::NoWrites)));
+    };
+    let store = division.store_of(first.key.as_slice());
+    if !are_of_store(division, store, writes) {
+        return Err(MachineFault::ManyStores);
+    }
+    Ok(store)
 }
