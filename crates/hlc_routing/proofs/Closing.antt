@@ -7,11 +7,10 @@ use Rattle.hlc_core.specs.Past.{Closed, stamp_of}
 use Rattle.hlc_ranges.specs.Run.{Layout, Turn, Issued, Sent, Received, Observed, Stepped, past_of, IsLegal}
 use Rattle.hlc_routing.specs.Ranges.{RangesView, Represents, ClosesIn}
 use Rattle.hlc_routing.specs.All.{SnapshotView, each_stepped, each_closed, closed_at, IsOpenAll, ClosesAll}
-use Rattle.hlc_routing.specs.All.{IsOpenIn, AreOpenUpto, AreOpenTo, AreOpenIn}
+use Rattle.hlc_routing.specs.All.{IsOpenIn, AreOpenUpto, AreOpenTo}
 use Rattle.hlc_routing.specs.declared.fault.RangesFault.{RangesFault}
 use Rattle.hlc_routing.specs.declared.fault.RangesFault.TheVariants.{NoStore, WrongStore, Store}
 use Rattle.hlc_routing.proofs.Stepping.{past-other}
-use Rattle.hlc_routing.proofs.Each.{past-after}
 
 -- nothing took place in a store that there is not
 pub past-none : (layout : Layout) (run : List Turn) (s : ℕ) → IsLegal layout run → layout.stores ≤ s

@@ -1,6 +1,6 @@
 -- The pairs of all stores are those of all issued writes: each store has the keys that belong to it, and no others. Once
 -- they are sorted they ascend, since no two of them have one key.
-use Rattle.std.proofs.Common.{◌≡◌, ℕ, ◌+◌, ◌<◌, ◌≤◌, List, [], ◌∷◌, ◌++◌, length, get_or, map, Option, Some, None, Bool}
+use Rattle.std.proofs.Common.{◌≡◌, ℕ, ◌+◌, ◌<◌, List, [], ◌∷◌, ◌++◌, length, get_or, map, Option, Some, None, Bool}
 use Rattle.std.proofs.Common.{true, false, refl, ap, sym, ◌∙◌, subst, inl, inr, arith, Contains, IsPermutation, IsSorted}
 use Rattle.std.proofs.Common.{Ordering, Less, Equal, Greater, nat_cmp, is_lt, ap₂}
 use Rattle.std.specs.Ordering.{eq_by_cmp, ordering_reverse, is_eq}

@@ -1,5 +1,5 @@
 -- The item of the node that acts extends the run: each of its keys is in the store.
-use Rattle.std.proofs.Common.{◌≡◌, List, All, ap, sym, ◌∙◌}
+use Rattle.std.proofs.Common.{◌≡◌, All, ap, sym, ◌∙◌}
 use Rattle.std.proofs.lemmas.List.Elements.{All-weaker}
 use Rattle.hlc_rows.specs.declared.write.Write.{Write}
 use Rattle.hlc_node.specs.Node.{NodeView}

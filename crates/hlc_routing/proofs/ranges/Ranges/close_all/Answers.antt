@@ -1,5 +1,5 @@
 -- Each store closes its snapshot where it is open.
-use Rattle.std.proofs.Common.{◌≡◌, ℕ, length, ap, sym, ◌∙◌, arith, true, false}
+use Rattle.std.proofs.Common.{◌≡◌, length, ap, sym, ◌∙◌, arith, true, false}
 use Rattle.hlc_routing.proofs.Closing.{all-closed_by, same-ids}
 use Rattle.hlc_routing.proofs.ranges.Ranges.close_all.Goals as goal
 

@@ -1,7 +1,7 @@
 -- One store after another closes its snapshot.
-use Rattle.std.proofs.Common.{◌≡◌, ◌+◌, refl, sym, ◌∙◌, subst, arith, length}
+use Rattle.std.proofs.Common.{◌≡◌, refl, sym, ◌∙◌, subst, arith, length}
 use Rattle.hlc_routing.specs.Ranges.{Represents}
-use Rattle.hlc_routing.specs.All.{each_closed, AreOpenTo, AreOpenUpto}
+use Rattle.hlc_routing.specs.All.{each_closed, AreOpenUpto}
 use Rattle.std.specs.Prelude.{IsTrue, ◌↔◌}
 use Rattle.hlc_routing.proofs.Closing.{upto-none, closed-next, not-upto, still-upto}
 use Rattle.hlc_routing.proofs.ranges.Ranges.close_each.Goals.{then-not-close_open, else-not-close_open}

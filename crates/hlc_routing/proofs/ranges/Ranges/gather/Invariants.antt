@@ -1,5 +1,5 @@
 -- The pairs of the stores so far.
-use Rattle.std.proofs.Common.{◌≡◌, List}
+use Rattle.std.proofs.Common.{List}
 use Rattle.std.specs.Prelude.{option_copied}
 use Rattle.hlc_ranges.specs.Run.{Layout, Turn}
 use Rattle.hlc_routing.specs.Ranges.{Represents}
