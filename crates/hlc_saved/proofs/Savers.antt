@@ -16,8 +16,7 @@ use Rattle.std.proofs.lemmas.List.Sorted.{IsPermutation-refl}
 use Rattle.sha2.specs.Sha256.{sha256}
 use Rattle.sha2.proofs.Facts256.{length-sha256}
 use Rattle.hlc_rows.specs.declared.row.Row.{Row}
-use Rattle.hlc_node.specs.Items.{body_refusal}
-use Rattle.hlc_node.specs.declared.item.Body.TheVariants.{Write as a_write}
+use Rattle.hlc_rows.specs.Limits.{write_refusal}
 use Rattle.hlc_column.specs.Rows.{KeyCells}
 use Rattle.hlc_columns.specs.Answers.{AreNext, last_key}
 use Rattle.hlc_witness.specs.Cost.{IsInLimits, AreInLimits}
@@ -37,7 +36,7 @@ use Rattle.hlc_saved.proofs.StorePieces.{sorted_whole}
 -- ---- the start
 
 -- each key that an item may write is above no bytes
-key_high : (key : List ℕ) (value : Option (List ℕ)) → body_refusal (a_write key value) ≡ None
+key_high : (key : List ℕ) (value : Option (List ℕ)) → write_refusal key value ≡ None
     → is_le (slice_cmp nat_cmp key []) ≡ false
 key_high [] value is = cc is
 key_high (b ∷ key) value is = refl
