@@ -40,10 +40,7 @@ fn words(answer: u32) -> (&'static str, &'static str)
         26 => ("HLC_TOO_MANY_NODES", "1,024 node numbers are assigned"),
         27 => ("HLC_RETIRED", "the node retired"),
         28 => ("HLC_NO_WRITES", "the batch has no writes"),
-        29 => (
-            "HLC_TOO_MANY_WRITES",
-            "the batch has more than 256 writes",
-        ),
+        29 => ("HLC_TOO_MANY_WRITES", "the batch has more than 256 writes"),
         30 => ("HLC_KEY_TWICE", "the batch writes a key twice"),
         100 => ("HLC_CLOSED", "the store is closed"),
         101 => ("HLC_IS_OPEN", "the store is open already"),

@@ -8,8 +8,8 @@ ghost use Rattle.hlc_column.specs.Rows.{rows_of, at_place};
 
 use hlc_clock::Stamp;
 use hlc_lanes::count_at;
-use hlc_rows::{Bytes, Row, ValueOrMark};
 use hlc_order::{count_from, count_indexed, newest_from, newest_of_first};
+use hlc_rows::{Bytes, Row, ValueOrMark};
 use hlc_sizes::length_of;
 use hlc_values::NoMemory;
 use std::alloc::Global;
