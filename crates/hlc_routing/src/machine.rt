@@ -194,9 +194,9 @@ impl Machine {
         self.write(division, reading, key, None)
     }
 
-    /// Issues one item that writes 1 to 256 keys of one store, each key once, all at one stamp, and returns the number of
-    /// that store and the item. A snapshot shows all of its writes or none. Each store has links of its own, so there is
-    /// no such item for keys of different stores.
+    /// Issues one item that writes 1 to 256 keys of one store, each key once, all at one stamp, and returns the number
+    /// of that store and the item. A snapshot shows all of its writes or none. Each store has links of its own, so
+    /// there is no such item for keys of different stores.
     ///
     /// Refused, in this order: no writes; keys of different stores; no node in their store; for the reasons of
     /// `NodeCore::write_batch`. The error returns the writes.
@@ -401,8 +401,8 @@ impl Machine {
     }
 }
 
-/// Returns the one store that has the keys of some writes. There is none if there are no writes, or if their keys belong
-/// to different stores.
+/// Returns the one store that has the keys of some writes. There is none if there are no writes, or if their keys
+/// belong to different stores.
 fn one_store(division: &Division, writes: &[Write]) -> Result<usize, MachineFault>
     ensures { MatchResult result (HaveOneStore division.now writes.now) (HaveNoStore division.now writes.now) }
 {
