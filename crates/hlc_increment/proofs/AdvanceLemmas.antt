@@ -12,9 +12,11 @@ use Rattle.std.proofs.lemmas.List.Sorted.{All-permutation, Contains-permutation,
 use Rattle.hlc_values.proofs.MemberLemmas.{Contains-first, Contains-rest, Contains-cons_cases}
 use Rattle.hlc_values.proofs.MemberLemmas.{Contains-filter, Contains-from_filter}
 use Rattle.hlc_rows.specs.declared.row.Row.{Row}
+use Rattle.hlc_rows.specs.declared.write.Write.{Write as AWrite}
+use Rattle.hlc_rows.specs.Writes.{rows_written}
 use Rattle.hlc_node.specs.declared.item.Item.{Item}
 use Rattle.hlc_node.specs.declared.item.Body.{Body}
-use Rattle.hlc_node.specs.declared.item.Body.TheVariants.{Write, Report, Retire}
+use Rattle.hlc_node.specs.declared.item.Body.TheVariants.{Write, Batch, Report, Retire}
 use Rattle.hlc_rows.specs.Rows.{answer, IsRowSet, IsSameVersion}
 use Rattle.hlc_snapshot.specs.declared.snapshot.Snapshot.{Snapshot}
 use Rattle.hlc_snapshot.specs.RegistryView.{stamps, without}
@@ -93,9 +95,17 @@ writes-before nodes past (Trimmed at dropped ∷ more) row legal m low =
 writes-before nodes past (Joined node start ∷ more) row legal m low =
     writes-before nodes past more row legal.3 m low
 
+-- the rows of a batch have its stamp
+batch-above : (low high node at : ℕ) (writes : List AWrite) → high < at
+    → count_between low high (rows_written node at writes) ≡ 0
+batch-above low high node at [] up = refl
+batch-above low high node at (write ∷ writes) up =
+    let off = lt-leb at high up in let rest = batch-above low high node at writes up in grind (arith, off, rest)
+
 -- the rows between two stamps are those before, if the higher one is not above the floor
 none-between : (low high node at : ℕ) (body : Body) → high < at → count_between low high (body_rows node at body) ≡ 0
 none-between low high node at (Write key value) up = let off = lt-leb at high up in grind (arith, off)
+none-between low high node at (Batch writes) up = batch-above low high node at writes up
 none-between low high node at Report up = refl
 none-between low high node at Retire up = refl
 
