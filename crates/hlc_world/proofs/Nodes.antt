@@ -9,7 +9,6 @@ use Rattle.hlc_clock.specs.declared.clock.ClockFault.{ClockFault}
 use Rattle.hlc_node.specs.declared.item.Item.{Item}
 use Rattle.hlc_node.specs.declared.item.Message.{Message}
 use Rattle.hlc_node.specs.declared.item.Body.{Body}
-use Rattle.hlc_node.specs.declared.item.Body.TheVariants.{Write as a_write, Report as a_report, Retire as a_retire}
 use Rattle.hlc_node.specs.declared.node.NodeFault.{NodeFault}
 use Rattle.hlc_node.specs.Items.{an_item, retires}
 use Rattle.hlc_node.specs.Node.{NodeView, clocked, unless_retired, expected_event, expected_issue, next_item, stamped}
@@ -18,6 +17,8 @@ use Rattle.hlc_core.specs.declared.reply.CoreReply.{CoreReply}
 use Rattle.hlc_core.specs.Past.{Step, numbered, stamp_of}
 use Rattle.hlc_core.specs.History.{past_of}
 use Rattle.hlc_core.specs.StoreView.{StoreView, nodes as core_nodes, Represents as CoreRepresents}
+use Rattle.hlc_world.specs.declared.content.Content.{Content}
+use Rattle.hlc_world.specs.declared.content.Content.TheVariants as contents
 use Rattle.hlc_world.specs.declared.event.Event.TheVariants.{Send, Receive, Observe}
 use Rattle.hlc_world.specs.declared.reply.Reply.{Reply}
 use Rattle.hlc_world.specs.declared.reply.Reply.TheVariants.{Stamped, Sent, Received, Observed, Refused}
@@ -25,7 +26,8 @@ use Rattle.hlc_world.specs.declared.refusal.Refusal.{Refusal}
 use Rattle.hlc_node.specs.declared.node.NodeFault.TheVariants.{Retired}
 use Rattle.hlc_world.specs.declared.refusal.Refusal.TheVariants.{Node as at_node, NoMemory}
 use Rattle.hlc_world.specs.Schedule.{item_made, message_made, mark_of, with_item, ends, stamp_or, with_message}
-use Rattle.hlc_world.specs.Schedule.{Event, issuing, issued, has_retired, last_stamp, sent, message_at, node_of}
+use Rattle.hlc_world.specs.Schedule.{Event, body_of, issuing, issued, has_retired, last_stamp, sent, message_at}
+use Rattle.hlc_world.specs.Schedule.{node_of}
 use Rattle.hlc_world.specs.Store.{asked, returned, paired, with_entry, store_history, core_past}
 use Rattle.hlc_world.specs.Expected.{issue_refusal, stamp_refusal, receive_refusal, observe_refusal, on_link}
 use Rattle.hlc_world.specs.Expected.{on_node, expected_refusal, IsReceived, IsObserved, MayRunOutOfMemory, MayReply}
@@ -221,25 +223,27 @@ pub record IsIssue (nodes : ℕ) (s : List (Event × Reply)) (e : Event) (p : �
       → num ≡ length (issued p s) → MayReply nodes s e (Stamped st num)
   pub may : MayRunOutOfMemory s e
 
-issuing-is : (nodes : ℕ) (s : List (Event × Reply)) (p reading : ℕ) (body : Body)
-    → IsIssue nodes s (issuing p reading body) p body reading
-issuing-is nodes s p reading (a_write key (Some value)) =
+issuing-is : (nodes : ℕ) (s : List (Event × Reply)) (p reading : ℕ) (content : Content)
+    → IsIssue nodes s (issuing p reading content) p (body_of content) reading
+issuing-is nodes s p reading (contents.Write key (Some value)) =
     record { expected = refl; done = λ st num. refl; left = λ f. refl; allowed = λ st num a b c. (a, (b, c)); may = tt }
-issuing-is nodes s p reading (a_write key None) =
+issuing-is nodes s p reading (contents.Write key None) =
     record { expected = refl; done = λ st num. refl; left = λ f. refl; allowed = λ st num a b c. (a, (b, c)); may = tt }
-issuing-is nodes s p reading a_report =
+issuing-is nodes s p reading contents.Report =
     record { expected = refl; done = λ st num. refl; left = λ f. refl; allowed = λ st num a b c. (a, (b, c)); may = tt }
-issuing-is nodes s p reading a_retire =
+issuing-is nodes s p reading contents.Retire =
     record { expected = refl; done = λ st num. refl; left = λ f. refl; allowed = λ st num a b c. (a, (b, c)); may = tt }
 
 -- an item that a node issued
-pub issues : (state : WorldView) (s : List (Event × Reply)) (p reading : ℕ) (body : Body) (before after : IssuerView)
-    (made : ℕ × ℕ) → Represents state s → p < length state.nodes → slice_get state.nodes p ≡ Some before
-    → Issues before after body reading (Ok made)
-    → Represents (with_node state p after) ((issuing p reading body, Stamped made.0 made.1) ∷ s)
-issues state s p reading body before after made h inside at taken =
-    let e : Event = issuing p reading body in
-    let is = issuing-is (world_nodes state) s p reading body in
+pub issues : (state : WorldView) (s : List (Event × Reply)) (p reading : ℕ) (content : Content)
+    (before after : IssuerView) (made : ℕ × ℕ) → Represents state s → p < length state.nodes
+    → slice_get state.nodes p ≡ Some before
+    → Issues before after (body_of content) reading (Ok made)
+    → Represents (with_node state p after) ((issuing p reading content, Stamped made.0 made.1) ∷ s)
+issues state s p reading content before after made h inside at taken =
+    let e : Event = issuing p reading content in
+    let body : Body = body_of content in
+    let is = issuing-is (world_nodes state) s p reading content in
     let st : ℕ = made.0 in
     let number : ℕ = length (issued p s) in
     let so : before ≡ a_node p (last_stamp p s) (issued p s) (has_retired p s) = was state s p before h inside at in
@@ -270,14 +274,15 @@ issues state s p reading body before after made h inside at taken =
     (an_item p number st body) refl inside h.nodes n (rw same at lt))))
 
 -- an item that it did not issue
-pub issues_not : (state : WorldView) (s : List (Event × Reply)) (p reading : ℕ) (body : Body)
+pub issues_not : (state : WorldView) (s : List (Event × Reply)) (p reading : ℕ) (content : Content)
     (before after : IssuerView)
     (refusal : Refusal) → Represents state s → p < length state.nodes → slice_get state.nodes p ≡ Some before
-    → Issues before after body reading (Err refusal)
-    → Represents (with_node state p after) ((issuing p reading body, Refused refusal) ∷ s)
-issues_not state s p reading body before after refusal h inside at left =
-    let e : Event = issuing p reading body in
-    let is = issuing-is (world_nodes state) s p reading body in
+    → Issues before after (body_of content) reading (Err refusal)
+    → Represents (with_node state p after) ((issuing p reading content, Refused refusal) ∷ s)
+issues_not state s p reading content before after refusal h inside at left =
+    let e : Event = issuing p reading content in
+    let body : Body = body_of content in
+    let is = issuing-is (world_nodes state) s p reading content in
     let first : expected_refusal (world_nodes state) s e ≡ issue_refusal (expected_issue before.node body reading) =
     is.expected ∙ issue-expected (world_nodes state) s p _ (there state s p h inside)
     ∙ ap (λ issuer. issue_refusal (expected_issue issuer.node body reading)) (sym (was state s p before h inside at)) in

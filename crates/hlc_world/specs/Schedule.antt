@@ -7,6 +7,8 @@ use Rattle.hlc_node.specs.declared.item.Body.TheVariants.{Write as a_write, Repo
 use Rattle.hlc_node.specs.Items.{an_item, retires}
 use Rattle.hlc_node.specs.declared.item.Message.{Message}
 use Rattle.hlc_node.specs.Node.{NodeView}
+use Rattle.hlc_world.specs.declared.content.Content.{Content}
+use Rattle.hlc_world.specs.declared.content.Content.TheVariants as content
 use Rattle.hlc_world.specs.declared.event.Event.{Event as EventOf}
 use Rattle.hlc_world.specs.declared.event.Event.TheVariants.{Write, Delete, Report, Retire, Join, Send, Receive}
 use Rattle.hlc_world.specs.declared.event.Event.TheVariants.{Observe}
@@ -17,12 +19,18 @@ use Rattle.hlc_world.specs.declared.reply.Reply.TheVariants.{Stamped, Joined, Se
 abbrev pub Event : Type 0
 Event = EventOf (List ℕ)
 
--- the event by which a node issues an item with this body
-abbrev pub issuing : ℕ → ℕ → Body → Event
-issuing node reading (a_write key (Some value)) = Write node reading key value
-issuing node reading (a_write key None) = Delete node reading key
-issuing node reading a_report = Report node reading
-issuing node reading a_retire = Retire node reading
+-- the body of an item with this content
+abbrev pub body_of : Content → Body
+body_of (content.Write key value) = a_write key value
+body_of content.Report = a_report
+body_of content.Retire = a_retire
+
+-- the event by which a node issues an item with this content
+abbrev pub issuing : ℕ → ℕ → Content → Event
+issuing node reading (content.Write key (Some value)) = Write node reading key value
+issuing node reading (content.Write key None) = Delete node reading key
+issuing node reading content.Report = Report node reading
+issuing node reading content.Retire = Retire node reading
 
 -- Below, a schedule is the list of the events with their replies, the last one first. An event whose reply is a refusal
 -- did not take place.

@@ -1,10 +1,12 @@
 //! What a world stores for each node: the node itself, and the items that it issued.
 ghost use Rattle.std.specs.Prelude.{◌≡◌, false, [], slice_get, option_copied};
+ghost use Rattle.hlc_world.specs.Schedule.{body_of};
 ghost use Rattle.hlc_world.specs.WorldView.{Issues, Keeps, Sees};
 
+use crate::content::Content;
 use crate::refusal::Refusal;
 use hlc_clock::Stamp;
-use hlc_node::{Body, Item, NodeCore};
+use hlc_node::{Item, NodeCore};
 use std::alloc::Global;
 use std::marker::Model;
 
@@ -63,18 +65,18 @@ impl Issuer {
         self.issued.as_slice().get(number as usize)
     }
 
-    /// Issues an item with this body, and returns its stamp and its number.
-    pub fn issue(&mut self, reading: u64, body: Body) -> Result<(Stamp, u64), Refusal>
-        ensures { Issues self.old self.new body reading result }
+    /// Issues an item with this content, and returns its stamp and its number.
+    pub fn issue(&mut self, reading: u64, content: Content) -> Result<(Stamp, u64), Refusal>
+        ensures { Issues self.old self.new (body_of content) reading result }
     {
         let mut node = self.node;
-        let item = match body {
-            Body::Write { key, value } => match node.write(reading, key, value) {
+        let item = match content {
+            Content::Write { key, value } => match node.write(reading, key, value) {
                 Ok(item) => item,
                 Err(refused) => return Err(Refusal::from(refused.why)),
             },
-            Body::Report => node.report(reading)?,
-            Body::Retire => node.retire(reading)?,
+            Content::Report => node.report(reading)?,
+            Content::Retire => node.retire(reading)?,
         };
         self.keep(node, item)
     }

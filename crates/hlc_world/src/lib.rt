@@ -1,6 +1,7 @@
 //! The world: nodes with their clocks, items and messages, and the one store that they feed, event by event.
 #![tactic(auto)]
 
+mod content;
 mod event;
 mod exact;
 mod issuer;

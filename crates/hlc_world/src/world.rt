@@ -13,6 +13,7 @@ ghost use Rattle.hlc_world.specs.Headline.{IsFaithful};
 ghost use Rattle.hlc_world.specs.WorldView.{Represents, Makes, world_nodes, fresh_issuers};
 ghost use Rattle.hlc_world.specs.declared.reply.Reply.{Reply as AReply};
 
+use crate::content::Content;
 use crate::event::Event;
 use crate::issuer::Issuer;
 use crate::refusal::Refusal;
@@ -20,7 +21,7 @@ use crate::reply::Reply;
 use hlc_clock::Stamp;
 use hlc_core::{Core, CoreFault, JoinFault, NoMemory};
 use hlc_heads::MOST_NUMBERS;
-use hlc_node::{Body, Bytes, Item, NodeFault};
+use hlc_node::{Bytes, Item, NodeFault};
 use std::alloc::Global;
 use std::marker::Model;
 
@@ -243,10 +244,10 @@ impl World {
                 value,
             } => self.write(node, reading, key, value),
             Event::Delete { node, reading, key } => {
-                self.issue(node, reading, Body::Write { key, value: None })
+                self.issue(node, reading, Content::Write { key, value: None })
             }
             Event::Report { node, reading } => self.report(node, reading),
-            Event::Retire { node, reading } => self.issue(node, reading, Body::Retire),
+            Event::Retire { node, reading } => self.issue(node, reading, Content::Retire),
             Event::Join => self.join(),
             Event::Send { node, reading } => self.send(node, reading),
             Event::Receive {
@@ -280,7 +281,7 @@ impl World {
         ensures nodes { world_nodes self.new ≡ world_nodes self.old }
     {
         let value = Some(value);
-        self.issue(node, reading, Body::Write { key, value })
+        self.issue(node, reading, Content::Write { key, value })
     }
 
     /// Performs a Report, and returns the reply as `step` does.
@@ -291,20 +292,20 @@ impl World {
         ensures unchanged { IsRefused result → self.new ≡ self.old }
         ensures nodes { world_nodes self.new ≡ world_nodes self.old }
     {
-        self.issue(node, reading, Body::Report)
+        self.issue(node, reading, Content::Report)
     }
 
-    /// Lets a node issue an item with this body, and returns the reply.
-    fn issue(&mut self, node: u16, reading: u64, body: Body) -> Reply
+    /// Lets a node issue an item with this content, and returns the reply.
+    fn issue(&mut self, node: u16, reading: u64, content: Content) -> Reply
         ensures represents { (schedule : List (AnEvent × AReply)) → Represents self.old schedule
-            → Represents self.new ((issuing node reading body, result) ∷ schedule) }
+            → Represents self.new ((issuing node reading content, result) ∷ schedule) }
         ensures unchanged { IsRefused result → self.new ≡ self.old }
         ensures nodes { world_nodes self.new ≡ world_nodes self.old }
     {
         let Some(issuer) = self.nodes.get_mut(node as usize) else {
             return Reply::Refused(Refusal::NoNode);
         };
-        match issuer.issue(reading, body) {
+        match issuer.issue(reading, content) {
             Ok((stamp, item)) => Reply::Stamped { stamp, item },
             Err(refusal) => Reply::Refused(refusal),
         }
