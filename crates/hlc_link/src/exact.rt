@@ -1,4 +1,5 @@
 //! `==` of these types is true exactly on equal values, and each copy is equal.
+ghost use Rattle.hlc_node.specs.contracts.exact.ItemExact.TheImpl.Laws.{equal-law as item_equal};
 ghost use Rattle.std.proofs.Common.{rules};
 ghost use Rattle.std.proofs.lemmas.Grind.{common_steps};
 
@@ -19,7 +20,7 @@ impl Exact for LinkClosed {
 }
 
 impl Exact for Parcel {
-    ghost equal = { Prim.search (rules, common_steps) };
+    ghost equal = { Prim.search (rules, common_steps, item_equal) };
 
     ghost copied = { Prim.search rules };
 }
