@@ -1,9 +1,12 @@
 #!/usr/bin/env python3
 """Plays 10,000 short random histories, with the C library beside a model that keeps all writes: nodes write and delete
-keys, snapshots are opened and closed, and vacuums drop rows up to random stamps. Then, of each two open snapshots, the
-changes from one to the other are applied to the listing of the first: that must give the listing of the second, and
-each change must be needed. The arguments are the shared object, linked with grant.c, and a seed. Prints `all right` at
-the end, and fails at the first difference."""
+keys, one at a time or several in a batch, snapshots are opened and closed, and vacuums drop rows up to random stamps.
+Requests for memory are refused at random: then nothing of the item may be there, and the call is made again. The store
+is closed and made again from a checkpoint, and a replica reads the bytes of the items, some of them twice. Then, of
+each two open snapshots, the changes from one to the other are applied to the listing of the first: that must give the
+listing of the second, and each change must be needed; and at stamps by lot both stores show what all writes give, and
+of each batch all or nothing. The arguments are the shared object, linked with grant.c, and a seed. Prints `all right`
+at the end, and fails at the first difference."""
 import random
 import struct
 import sys
@@ -14,7 +17,7 @@ HISTORIES = 10_000
 KEYS = [b"a", b"a\0", b"b", b"c\xff", b"d"]
 VALUES = [b"", b"x", b"y", b"long" * 8]
 ROOM = 4096
-OK, MORE = 0, 104
+OK, NO_MEMORY, MORE = 0, 15, 104
 
 
 def ok(name, *args):
@@ -24,6 +27,28 @@ def ok(name, *args):
     return written
 
 
+def accept(name, *args):
+    """Accepts an item, with each of its requests for memory refused by lot before it is granted. A refusal leaves the
+    store as it was, so the same call can be made again."""
+    sizes = ok("store_size", args[0])
+    for granted in range(pick.randint(0, 3)):
+        library.granted.value = granted
+        answer, *_ = library.call(name, *args)
+        library.granted.value = -1
+        if answer == OK:
+            return
+        assert answer == NO_MEMORY and ok("store_size", args[0]) == sizes, (name, answer)
+    ok(name, *args)
+
+
+def spelled(writes):
+    """The bytes of the writes of a batch."""
+    parts = []
+    for key, value in writes:
+        parts += [bytes([len(key)]), key, b"\0" if value is None else b"\1" + struct.pack(">H", len(value)) + value]
+    return b"".join(parts)
+
+
 def take_part(data, at):
     """The bytes at a place, with their length before them, and the place behind them."""
     (length,) = struct.unpack_from("<Q", data, at)
@@ -31,32 +56,61 @@ def take_part(data, at):
 
 
 class History:
-    """A store with its nodes, and what it must have: all writes, the stamps of the open snapshots by id, and the
-    horizon."""
+    """A store with its nodes and a replica, and what both must have: all writes, the stamps of the open snapshots by
+    id, and the horizon; the bytes of the items, and the batches: of each its stamp, its node and its writes."""
 
     def __init__(self, pick):
         self.pick, self.store = pick, Handle()
         self.links = [[0, 0] for _ in range(pick.randint(1, 3))]
         self.writes, self.snapshots, self.horizon = [], {}, 0
-        ok("store_open", self.store, len(self.links))
+        self.replica, self.log, self.fed, self.batches = Handle(), [], 0, []
+        for store in (self.store, self.replica):
+            ok("store_open", store, len(self.links))
 
     def floor(self):
         return min(last for _, last in self.links)
 
     def issue(self):
-        """Lets a node write or delete a key, or report. Nodes may use the same stamps."""
+        """Lets a node write or delete a key or some keys, or report. Nodes may use the same stamps."""
         node = self.pick.randrange(len(self.links))
         number, last = self.links[node]
         stamp, key = last + self.pick.randint(1, 3), self.pick.choice(KEYS)
         self.links[node] = [number + 1, stamp]
-        kind = self.pick.choice(("write", "write", "write", "delete", "report"))
-        if kind == "report":
-            ok("store_accept_report", self.store, node, number, stamp)
-            return
+        kind = self.pick.choice(("write", "write", "write", "delete", "batch", "batch", "report"))
         value = self.pick.choice(VALUES) if kind == "write" else None
-        parts = (key,) if value is None else (key, value)
-        ok("store_accept_" + kind, self.store, node, number, stamp, *parts)
-        self.writes.append((stamp, node, key, value))
+        writes, parts = [(key, value)] * (kind in ("write", "delete")), ()
+        if kind == "batch":
+            keys = self.pick.sample(KEYS, self.pick.randint(1, len(KEYS)))
+            writes = [(key, self.pick.choice((None, *VALUES))) for key in keys]
+            parts = (len(writes), spelled(writes))
+            self.batches.append((stamp, node, writes))
+        elif kind != "report":
+            parts = (key,) if value is None else (key, value)
+        accept("store_accept_" + kind, self.store, node, number, stamp, *parts)
+        length, data = ok("item_encode_" + kind, node, number, stamp, *parts, ROOM)
+        assert len(data) == length
+        self.log.append(data)
+        self.writes += [(stamp, node, *write) for write in writes]
+
+    def feed(self):
+        """Lets the replica read on, from an item before the next one or from that."""
+        start = self.pick.randint(max(0, self.fed - 2), self.fed)
+        end = self.pick.randint(self.fed, len(self.log))
+        data = b"".join(self.log[start:end])
+        assert ok("store_accept_items", self.replica, data) == [len(data), end - start, 0]
+        self.fed = end
+
+    def restart(self):
+        """Closes the store, or the replica, and makes it again from its checkpoint."""
+        name = self.pick.choice(("store", "replica"))
+        output, again = Handle(), Handle()
+        (length,) = ok("checkpoint_make", getattr(self, name), 7, output)
+        read, data = ok("output_read", output, 0, length)
+        assert read == length
+        library.call("output_drop", output)
+        library.call("store_close", getattr(self, name))
+        ok("store_restore", again, data)
+        setattr(self, name, again)
 
     def open(self):
         stamp = self.pick.choice((self.floor(), self.pick.randint(self.horizon, self.floor())))
@@ -73,7 +127,7 @@ class History:
         ok("store_vacuum_to", self.store, self.horizon)
 
     def play(self):
-        events = [self.issue] * 6 + [self.open] * 2 + [self.close, self.vacuum]
+        events = [self.issue] * 6 + [self.open] * 2 + [self.close, self.vacuum, self.feed, self.restart]
         for _ in range(self.pick.randint(4, 30)):
             self.pick.choice(events)()
         self.open()
@@ -85,10 +139,13 @@ class History:
         while at < length:
             key, at = take_part(data, at)
             pairs[key], at = take_part(data, at)
-        newest = {key: value for stamp, _, key, value in sorted(self.writes, key=lambda row: row[:2])
-                  if stamp <= self.snapshots[id]}
-        assert pairs == {key: value for key, value in newest.items() if value is not None}
+        assert pairs == self.expected(self.snapshots[id])
         return pairs
+
+    def expected(self, at):
+        """What all writes give at a stamp."""
+        newest = {key: value for stamp, _, key, value in sorted(self.writes, key=lambda row: row[:2]) if stamp <= at}
+        return {key: value for key, value in newest.items() if value is not None}
 
     def changes(self, before, after):
         """The changes from one snapshot to another, in pieces by lot: each a key, and its value or none."""
@@ -105,6 +162,22 @@ class History:
             assert many == 0
         assert code == OK and [key for key, _ in found] == sorted({key for key, _ in found})
         return found
+
+    def show(self, store, floor):
+        """Reads each key at a stamp by lot up to the floor, and judges it by all writes, and by each batch alone."""
+        at = self.pick.randint(self.horizon, max(floor, self.horizon))
+        (id,) = ok("snapshot_open", store, at)
+        shown = {}
+        for key in KEYS:
+            answer, length, data = library.call("snapshot_read", store, id, key, ROOM)
+            if answer == OK:
+                shown[key] = data[:length]
+        ok("snapshot_close", store, id)
+        assert shown == self.expected(at)
+        for stamp, node, writes in self.batches:
+            later = {key for when, who, key, _ in self.writes if (when, who) > (stamp, node) and when <= at}
+            seen = {shown.get(key) == value for key, value in writes if key not in later}
+            assert stamp > at or seen <= {True}, "a part of a batch"
 
     def compare(self):
         """Applies the changes between each two snapshots."""
@@ -128,6 +201,12 @@ for _ in range(HISTORIES):
     history = History(pick)
     history.play()
     compared += history.compare()
-    library.call("store_close", history.store)
+    history.show(history.store, history.floor())
+    history.fed = min(history.fed, len(history.log))
+    history.feed()
+    if history.fed == len(history.log):
+        history.show(history.replica, history.floor())
+    for store in (history.store, history.replica):
+        library.call("store_close", store)
 print(f"{compared} pairs of snapshots", file=sys.stderr)
 print("all right")
