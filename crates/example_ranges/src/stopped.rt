@@ -1,6 +1,6 @@
 //! Why the program stopped before its end.
 
-use hlc::ranges::{MachineFault, RangesFault, RefusedRouting};
+use hlc::ranges::{MachineFault, RangesFault, RefusedBatchRouting, RefusedRouting};
 use hlc::{ClockFault, CoreFault, Item, NoMemory, NoSnapshot, RestoreFault, Stamp};
 use std::alloc::AllocFailed;
 
@@ -53,6 +53,12 @@ impl From<MachineFault> for Stopped {
 
 impl From<RefusedRouting> for Stopped {
     fn from(refused: RefusedRouting) -> Stopped {
+        Stopped::Refused(refused.why.code())
+    }
+}
+
+impl From<RefusedBatchRouting> for Stopped {
+    fn from(refused: RefusedBatchRouting) -> Stopped {
         Stopped::Refused(refused.why.code())
     }
 }

@@ -1,7 +1,7 @@
 //! The whole story: two machines write, readers open snapshots at the cut, all stores are vacuumed, restored from
 //! checkpoints, and a third machine joins.
 
-use crate::feed::{report, write};
+use crate::feed::{both, report, write, write_batch};
 use crate::reads::{put_cut, put_list, put_read};
 use crate::stopped::Stopped;
 use crate::towns::{by_hash, by_names, joined, machine, new_stores, restored};
@@ -48,6 +48,7 @@ pub(crate) fn run<W: Write>(alloc: Global, writer: &mut Watched<W>) -> Result<()
     put_vacuum(alloc, &mut printer, &mut towns.ranges, late.stamp())?;
     put_restored(alloc, &mut printer, &towns.ranges, &late)?;
     put_third(alloc, &mut printer, &mut towns.ranges)?;
+    put_batches(alloc, &mut printer, &mut towns)?;
     put_hashed(alloc, &mut printer)?;
     printer.finish();
     Ok(())
@@ -187,6 +188,31 @@ fn put_third<W: Write>(
         b"bergen",
         Some(b"tram"),
     )
+}
+
+/// Lets a machine write two keys of one store at one stamp, and refuse two keys of different stores.
+fn put_batches<W: Write>(
+    alloc: Global,
+    printer: &mut Printer<'_, W>,
+    towns: &mut Towns,
+) -> Result<(), Stopped> {
+    let (ranges, west) = (&mut towns.ranges, &mut towns.west);
+    let writes = both(alloc, b"bergen", b"bonn", b"bus")?;
+    let (store, stamp) = write_batch(ranges, west, 16, writes)?;
+    put_accepted(printer, store, b"bergen", stamp);
+    put_accepted(printer, store, b"bonn", stamp);
+    let apart = both(alloc, b"bonn", b"rome", b"bus")?;
+    match west.write_batch(ranges.division(), 16, apart) {
+        Ok(_) => Ok(()),
+        Err(refused) => {
+            printer.put_named_number(
+                b"west refuses bonn with rome: ",
+                u64::from(refused.why.code()),
+            );
+            printer.put(b"\n");
+            Ok(())
+        }
+    }
 }
 
 /// Lets one machine write to stores that have their keys by a hash: a listing is in the order of the keys there too.

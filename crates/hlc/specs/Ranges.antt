@@ -10,7 +10,8 @@ pub use Rattle.hlc_routing.specs.Ranges.{RangesView, Represents, IsLeastFloor, I
 pub use Rattle.hlc_routing.specs.All.{SnapshotView, IsOpenAll, OpensAll, ClosesAll, AreOpenIn, AreVacuumed, HaveJoined}
 pub use Rattle.hlc_routing.specs.All.{each_stepped, each_closed, join_step, next_join, AreJoins}
 pub use Rattle.hlc_routing.specs.Listing.{IsListingBetween}
-pub use Rattle.hlc_routing.specs.Machine.{MachineView, Issues, IsMachineOf, GoesOn, IsDividedBy}
+pub use Rattle.hlc_routing.specs.Machine.{MachineView, Issues, HaveOneStore, HaveNoStore, IsRefusedBatch}
+pub use Rattle.hlc_routing.specs.Machine.{IsMachineOf, GoesOn, IsDividedBy}
 pub use Rattle.hlc_routing.specs.Machine.{IsNewMachine}
 pub use Rattle.hlc_routing.specs.declared.fault.RangesFault.{RangesFault}
 pub use Rattle.hlc_routing.specs.declared.machine.MachineFault.{MachineFault}

@@ -19,6 +19,9 @@ pub use hlc_core::{
     NoNode, NoSnapshot, Numbers, Pair, Points, Report, RestoreFault, Row, Sizes, Snapshot,
     SnapshotFault, Stamp, Versions, View, Witness, Witnesses, answers_stay, differences_lead_on,
 };
-pub use hlc_node::{Message, NodeCore, NodeFault, RefusedWrite, Written};
+pub use hlc_node::{
+    Content, Listed, MOST_WRITES, Message, NodeCore, NodeFault, RefusedBatch, RefusedWrite, Write,
+    Writes, Written, batch_fault,
+};
 pub use hlc_passes::{parts_are_a_vacuum, vacuums_leave_a_certificate};
 pub use hlc_replicas::lagging_replicas_answer_alike;

@@ -7,7 +7,7 @@ pub use hlc_ranges::{
 };
 pub use hlc_routing::{
     Division, MOST_STORES, Machine, MachineFault, Ranges, RangesFault, RangesSnapshot,
-    RefusedRouting, events_keep_machines, events_keep_stores, joins_make_machines,
-    steps_keep_machines,
+    RefusedBatchRouting, RefusedRouting, events_keep_machines, events_keep_stores,
+    joins_make_machines, steps_keep_machines,
 };
 pub use hlc_split::{MergeFault, merge, split};
