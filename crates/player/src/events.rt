@@ -1,6 +1,7 @@
 //! The items, rows and events of lines.
 use crate::lines::{next_name, next_node, next_number, next_stamp, next_text};
 use hlc_core::{Body, CoreEvent, Item, Row};
+use hlc_node::{Listed, Write};
 use hlc_text::words::LineWords;
 use std::alloc::Global;
 
@@ -25,9 +26,21 @@ fn body_of(alloc: Global, name: &str, words: &mut LineWords<'_>) -> Option<Body>
             key: next_text(alloc, words)?,
             value: None,
         }),
+        "batch" => batch_of(alloc, words),
         "retire" => Some(Body::Retire),
         _ => Some(Body::Report),
     }
+}
+
+/// Returns a batch of so many writes, each of a key and a value, or none where memory ran out.
+fn batch_of(alloc: Global, words: &mut LineWords<'_>) -> Option<Body> {
+    let mut writes = Vec::new(alloc);
+    for _ in 0..next_number(words) {
+        let key = next_text(alloc, words)?;
+        let value = Some(next_text(alloc, words)?);
+        writes.push(Write { key, value }).ok()?;
+    }
+    Some(Body::Batch(Listed::from_vec(writes)))
 }
 
 /// Returns the row of the item of these words, if that is a write or a deletion.

@@ -95,7 +95,7 @@ impl Played for Stored {
 /// Makes a call that may change a store.
 fn change(rt: &HostRuntime, core: &mut Core, name: &str, words: &mut LineWords<'_>) -> Option<()> {
     match name {
-        "write" | "delete" | "report" | "retire" => {
+        "write" | "delete" | "batch" | "report" | "retire" => {
             let item = item_of(rt.alloc(), name, words)?;
             answer(rt, "accepted", core.accept_copy(&item))
         }
