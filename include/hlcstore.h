@@ -81,8 +81,9 @@
  *   hlc_store_check_vacuum                      8 9                                           reads
  *   hlc_certificate_make                        108 8 9 109 15                        yes     reads, with other outputs
  *   hlc_item_encode_write, _delete              12 13                                         all
+ *   hlc_item_encode_batch                       29 106 28 30                                  all
  *   hlc_item_encode_report, _retire             none                                          all
- *   hlc_store_accept_items                      106 1 27 6 14 7 30 15                   yes     other stores
+ *   hlc_store_accept_items                      106 1 27 6 14 7 30 15                 yes     other stores
  *   hlc_record_encode_join, _threshold          none                                          all
  *   hlc_store_apply_records                     106 1 27 6 26 116 14 7 30 15            yes     other stores
  *   hlc_checkpoint_make                         108 15                                yes     reads, with other outputs

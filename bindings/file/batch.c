@@ -1,6 +1,7 @@
 /* Batches: an entry of items, whose node, number and stamp are written when they are appended. */
 #include "file.h"
 #include <stdlib.h>
+#include <string.h>
 
 struct hlc_file_batch {
     struct entry *entry; /* NULL before the first, and where the last one stays behind */
@@ -82,6 +83,39 @@ size_t hlc_file_batch_many(const hlc_file_batch *batch)
 struct entry **batch_entry(hlc_file_batch *batch)
 {
     return &batch->entry;
+}
+
+/* Makes one item of a batch that has some writes: their bodies behind one head. */
+static uint32_t make_item(const hlc_file_batch *batch, struct entry **made)
+{
+    const struct entry *items = batch->entry;
+    struct entry *entry = entry_new(ITEM_HEAD + 1 + items->len - batch->many * ITEM_HEAD);
+    struct record record;
+    uint64_t fault;
+    if (!entry) return HLC_NO_MEMORY;
+    uint8_t *writes = entry->bytes + ITEM_HEAD + 1, *end = writes;
+    for (size_t at = 0; at < items->len; at += record.len) {
+        record_read(items->bytes + at, items->len - at, &record, &fault);
+        memcpy(end, items->bytes + at + ITEM_HEAD, record.len - ITEM_HEAD);
+        end += record.len - ITEM_HEAD;
+    }
+    record_put_batch(entry->bytes, batch->many);
+    *made = entry;
+    return HLC_OK;
+}
+
+/* Makes an entry of one item that has all writes of a batch, or answers why no item may have them. */
+uint32_t batch_as_item(const hlc_file_batch *batch, struct entry **made)
+{
+    size_t len;
+    if (batch->many == 0) return HLC_NO_WRITES;
+    if (batch->many > HLC_MAX_BATCH) return HLC_TOO_MANY_WRITES;
+    uint32_t answer = make_item(batch, made);
+    if (answer != HLC_OK) return answer;
+    const uint8_t *writes = (*made)->bytes + ITEM_HEAD + 1;
+    answer = hlc_item_encode_batch(0, 0, 0, batch->many, writes, (*made)->len - ITEM_HEAD - 1, NULL, 0, &len);
+    if (answer != HLC_OK) free(*made);
+    return answer;
 }
 
 void hlc_file_batch_clear(hlc_file_batch *batch)

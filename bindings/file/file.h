@@ -16,6 +16,7 @@
 enum {
     MOST_NODES = 1024,
     ITEM_HEAD = 20, /* bytes of an item before the body of a write */
+    KIND_AT = 19,   /* where an item has its kind */
     JOIN_LEN = 11,
     THRESHOLD_LEN = 9,
     CLOCK_AHEAD = 1000, /* milliseconds that the clock on disk is ahead of stamps that are not */
@@ -30,15 +31,18 @@ enum {
 
 /* ---- record.c: records as bytes, and the links that accept them ---- */
 
-enum record_kind { RECORD_WRITE, RECORD_REPORT, RECORD_RETIRE, RECORD_JOIN, RECORD_THRESHOLD };
+enum record_kind { RECORD_WRITE, RECORD_REPORT, RECORD_RETIRE, RECORD_BATCH, RECORD_JOIN, RECORD_THRESHOLD };
 
-/* A record. A threshold has no node, and only an item has a number; the stamp of a join is its start. */
+/* A record. A threshold has no node, and only an item has a number; the stamp of a join is its start. Only a batch has
+ * writes, whose bytes are among those that were read. */
 struct record {
     enum record_kind kind;
     uint16_t node;
     uint64_t number;
     uint64_t stamp;
     size_t len;
+    size_t count;
+    hlc_bytes writes;
 };
 
 struct link {
@@ -55,6 +59,7 @@ struct links {
 
 uint32_t record_read(const uint8_t *bytes, size_t len, struct record *record, uint64_t *fault);
 void record_stamp(uint8_t *item, uint16_t node, uint64_t number, uint64_t stamp);
+void record_put_batch(uint8_t *item, size_t count);
 uint64_t links_floor(const struct links *links);
 uint32_t links_take(struct links *links, const struct record *record, bool *came_before, uint64_t *word);
 uint64_t clock_ahead(uint64_t stamp);
@@ -229,4 +234,5 @@ bool thread_start(pthread_t *thread, void *(*run)(void *), void *argument);
 uint32_t background_start(hlc_file *file);
 void background_stop(hlc_file *file);
 struct entry **batch_entry(hlc_file_batch *batch);
+uint32_t batch_as_item(const hlc_file_batch *batch, struct entry **entry);
 #endif

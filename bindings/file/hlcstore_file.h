@@ -66,7 +66,8 @@ typedef enum {
     HLC_FILE_NO_STAMP = 214       /* of hlc_file_vacuum_older: no stamp is so old */
 } hlc_file_answer;
 
-/* How many bytes of records a batch may have. A write takes 24 bytes beside its key and its value. */
+/* How many bytes of records a batch may have. A write takes 24 bytes beside its key and its value. So the 256 writes of
+ * hlc_file_write_batch always fit. */
 #define HLC_FILE_BATCH_BYTES ((size_t)64 << 20)
 
 /* A reading: the system's clock. */
@@ -169,10 +170,18 @@ void hlc_file_batch_drop(hlc_file_batch *batch);
  * other threads that waited behind it are refused too, with the same answer. 212 says that the call did take place. */
 
 /* Appends a batch as items of a node, in turn, each with a stamp of its own, and clears it after HLC_OK and 212. word:
- * the stamp of the last one, at which a snapshot has all of them; after a refusal its word. promise: when it returns.
- * An empty batch does nothing. Refusals: 204, 1, 27, 14, 2, 3, and those of the section. Writes. */
+ * the stamp of the last one, at which a snapshot has all of them, while one at an earlier stamp has a part of them;
+ * after a refusal its word. promise: when it returns. A key may be there twice. An empty batch does nothing. Refusals:
+ * 204, 1, 27, 14, 2, 3, and those of the section. Writes. */
 uint32_t hlc_file_append(hlc_file *file, uint16_t node, uint64_t reading, hlc_file_batch *batch, uint32_t promise,
                          uint64_t *word);
+
+/* Appends a batch as one item of a node, which gives all of its writes one stamp: a snapshot, at whatever stamp, shows
+ * all of them or none, and so does a replica that gets the record. So it has 1 to 256 writes, each of another key. It
+ * is cleared after HLC_OK and 212. word: the stamp, or the refusal's word. promise: when it returns. Refusals: 204, 28,
+ * 29, 30, 1, 27, 14, 2, 3, and those of the section. Writes. */
+uint32_t hlc_file_write_batch(hlc_file *file, uint16_t node, uint64_t reading, hlc_file_batch *batch, uint32_t promise,
+                              uint64_t *word);
 
 /* Appends one write, deletion or report of a node, or its last item, as the option `promise` says. word: its stamp or
  * the refusal's word. The floor is the stamp of the node that is furthest behind, so a node that has nothing to write

@@ -5,7 +5,7 @@
 
 /* The faults of docs/formats.md that a record may have. */
 enum { SHORT = 1, VERSION = 2, KIND = 3, EMPTY_KEY = 4, FLAG = 5 };
-enum { ITEM = 1, JOIN = 2, THRESHOLD = 3, KIND_AT = 19, VALUE_MARK = 1 };
+enum { ITEM = 1, JOIN = 2, THRESHOLD = 3, VALUE_MARK = 1 };
 
 static uint64_t number_at(const uint8_t *bytes, size_t len)
 {
@@ -35,6 +35,23 @@ static size_t body_len(const uint8_t *body, size_t len, uint64_t *fault)
     return len < whole ? 0 : whole;
 }
 
+/* Reads how many writes a batch has, and the writes, from the front of some bytes. Returns how long that is, or 0 with
+ * the first fault. */
+static size_t batch_len(const uint8_t *bytes, size_t len, struct record *record, uint64_t *fault)
+{
+    size_t at = 1;
+    *fault = SHORT;
+    if (len < 1) return 0;
+    record->count = (size_t)bytes[0] + 1;
+    for (size_t i = 0; i < record->count; i++) {
+        size_t body = body_len(bytes + at, len - at, fault);
+        if (body == 0) return 0;
+        at += body;
+    }
+    record->writes = (hlc_bytes){ bytes + 1, at - 1 };
+    return at;
+}
+
 static uint32_t read_item(const uint8_t *bytes, size_t len, struct record *record, uint64_t *fault)
 {
     *fault = SHORT;
@@ -45,9 +62,10 @@ static uint32_t read_item(const uint8_t *bytes, size_t len, struct record *recor
     record->kind = (enum record_kind)bytes[KIND_AT];
     record->len = ITEM_HEAD;
     *fault = KIND;
-    if (record->kind > RECORD_RETIRE) return HLC_BAD_BYTES;
-    if (record->kind != RECORD_WRITE) return HLC_OK;
-    size_t body = body_len(bytes + ITEM_HEAD, len - ITEM_HEAD, fault);
+    if (record->kind > RECORD_BATCH) return HLC_BAD_BYTES;
+    if (record->kind == RECORD_REPORT || record->kind == RECORD_RETIRE) return HLC_OK;
+    size_t body = record->kind == RECORD_BATCH ? batch_len(bytes + ITEM_HEAD, len - ITEM_HEAD, record, fault)
+                                               : body_len(bytes + ITEM_HEAD, len - ITEM_HEAD, fault);
     record->len += body;
     return body == 0 ? HLC_BAD_BYTES : HLC_OK;
 }
@@ -79,6 +97,24 @@ void record_stamp(uint8_t *item, uint16_t node, uint64_t number, uint64_t stamp)
     put_number(item + 11, stamp, 8);
 }
 
+/* Writes the head of an item that is a batch of so many writes, whose bytes are behind it. */
+void record_put_batch(uint8_t *item, size_t count)
+{
+    item[0] = ITEM;
+    record_stamp(item, 0, 0, 0);
+    item[KIND_AT] = RECORD_BATCH;
+    item[ITEM_HEAD] = (uint8_t)(count - 1);
+}
+
+/* Answers whether two writes of a batch are of one key. */
+static bool writes_a_key_twice(const struct record *record)
+{
+    size_t len;
+    return record->kind == RECORD_BATCH &&
+           hlc_item_encode_batch(0, 0, 0, record->count, record->writes.at, record->writes.len, NULL, 0, &len) ==
+               HLC_KEY_TWICE;
+}
+
 /* Returns the least head of the nodes that have not retired; if all have, the greatest head. */
 uint64_t links_floor(const struct links *links)
 {
@@ -105,6 +141,7 @@ static uint32_t take_item(struct link *link, const struct record *record, bool *
     if (record->number != UINT64_MAX && record->stamp <= link->head) return HLC_STAMP_NOT_RISING;
     *word = 0;
     if (record->number == UINT64_MAX) return HLC_NUMBERS_SPENT;
+    if (writes_a_key_twice(record)) return HLC_KEY_TWICE;
     link->next++;
     link->head = record->stamp;
     link->retired = record->kind == RECORD_RETIRE;

@@ -95,6 +95,20 @@ uint32_t hlc_file_append(hlc_file *file, uint16_t node, uint64_t reading, hlc_fi
     return answer;
 }
 
+uint32_t hlc_file_write_batch(hlc_file *file, uint16_t node, uint64_t reading, hlc_file_batch *batch, uint32_t promise,
+                              uint64_t *word)
+{
+    struct entry *entry;
+    *word = 0;
+    if (!sets_promise(file, &promise)) return HLC_FILE_BAD_OPTION;
+    uint32_t answer = batch_as_item(batch, &entry);
+    if (answer != HLC_OK) return answer;
+    answer = append_items(file, &entry, node, reading, promise, word);
+    free(entry);
+    if (took_place(answer)) hlc_file_batch_clear(batch);
+    return answer;
+}
+
 uint32_t hlc_file_write(hlc_file *file, uint16_t node, uint64_t reading, const uint8_t *key, size_t key_len,
                         const uint8_t *value, size_t value_len, uint64_t *word)
 {

@@ -1,5 +1,6 @@
 /* A file with a flipped bit, or cut at any block, is refused as damaged or has all that was promised. Of its
- * write-ahead log, which a process left, the commits before the damage are there.
+ * write-ahead log, which a process left, the commits before the damage are there. Of a batch whose record is cut at
+ * any byte, or changed there, nothing is there.
  *
  * A first argument is the seed of the bits. */
 #include "no_syncs.h"
@@ -129,6 +130,87 @@ static void damage_log(unsigned seed)
     free(wal_image.bytes);
 }
 
+/* ---- A batch that is one record ---- */
+
+static const char *const BATCH_KEYS[] = { "apple", "pear", "plum" };
+
+/* Makes a file with a write and then a batch of three keys, and returns the main file and the write-ahead log that a
+ * process would leave. record: where the latter has the writes of the batch, of which there are `len` bytes. */
+static void make_batch(struct image *main_image, struct image *wal_image, size_t *record, size_t *len)
+{
+    static const char writes[] = "\5apple\1\0\6batch0\4pear\1\0\6batch1\4plum\1\0\6batch2";
+    char wal[64], value[16];
+    hlc_file_batch *batch;
+    uint64_t word;
+    hlc_file *file = opened_with(fresh(PATH), (hlc_file_options){ .promise = HLC_FILE_WRITTEN });
+    snprintf(wal, sizeof wal, "%s-wal", PATH);
+    put(file, 1, "first", "one");
+    EXPECT(hlc_file_batch_new(&batch), HLC_OK);
+    for (int i = 0; i < 3; i++) {
+        snprintf(value, sizeof value, "batch%d", i);
+        EXPECT(hlc_file_batch_put(batch, BYTES(BATCH_KEYS[i]), BYTES(value)), HLC_OK);
+    }
+    EXPECT(hlc_file_write_batch(file, 0, 2, batch, 0, &word), HLC_OK);
+    hlc_file_batch_drop(batch);
+    *main_image = image_of(PATH);
+    *wal_image = image_of(wal);
+    hlc_file_close(file);
+    *len = sizeof writes - 1;
+    uint8_t *found = memmem(wal_image->bytes, wal_image->len, writes, *len);
+    HOLDS(found);
+    *record = found ? (size_t)(found - wal_image->bytes) : 0;
+}
+
+/* How many keys of the batch are there, after an opening; the write before it is there in any case. */
+static int keys_there(hlc_file *file)
+{
+    int many = 0;
+    EXPECT_VALUE(file, 0, "first", "one");
+    for (int i = 0; i < 3; i++) many += *value_at(file, 0, BATCH_KEYS[i]) != 0;
+    return many;
+}
+
+/* Opens the file, and returns how many keys of the batch are there. */
+static int open_batch(uint32_t flags)
+{
+    hlc_file *file = opened_with(PATH, (hlc_file_options){ .flags = flags });
+    int many = keys_there(file);
+    hlc_file_close(file);
+    return many;
+}
+
+static void cut_batch(void)
+{
+    char wal[64], sql[100];
+    size_t record, len;
+    struct image main_image, wal_image;
+    make_batch(&main_image, &wal_image, &record, &len);
+    snprintf(wal, sizeof wal, "%s-wal", PATH);
+    for (int cuts = 0; cuts < 2; cuts++) {
+        for (size_t at = record - 21; at < record + len; at++) {
+            put_image(fresh(PATH), &main_image, main_image.len);
+            if (!cuts) wal_image.bytes[at] ^= 16;
+            put_image(wal, &wal_image, cuts ? at : wal_image.len);
+            if (!cuts) wal_image.bytes[at] ^= 16;
+            EXPECT(open_batch(0), 0);
+        }
+    }
+    put_image(fresh(PATH), &main_image, main_image.len);
+    put_image(wal, &wal_image, wal_image.len);
+    EXPECT(open_batch(0), 3);
+    /* The same in the table, where SQLite finds no fault. */
+    struct image whole = image_of(PATH);
+    for (size_t left = 0; left < 21 + len; left++) {
+        put_image(fresh(PATH), &whole, whole.len);
+        snprintf(sql, sizeof sql, "UPDATE log SET records = substr(records, 1, %zu) WHERE place = 2", left);
+        change(PATH, sql);
+        EXPECT(open_batch(HLC_FILE_KEEP_BEFORE_DAMAGE), 0);
+    }
+    free(whole.bytes);
+    free(main_image.bytes);
+    free(wal_image.bytes);
+}
+
 int main(int argc, char **argv)
 {
     unsigned seed = argc > 1 ? (unsigned)atoi(argv[1]) : 1;
@@ -142,5 +224,6 @@ int main(int argc, char **argv)
     cut(&image);
     free(image.bytes);
     damage_log(seed);
+    cut_batch();
     return ended();
 }

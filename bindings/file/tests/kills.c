@@ -1,8 +1,8 @@
 /* A process under load is killed at random moments, again and again, on one file: kills TIMES FILE [SEED].
  *
- * The load: three threads append batches, under all promises, and send messages; a fourth one reports, joins and
- * retires nodes, vacuums and makes checkpoints. What was promised goes to the parent through a pipe, after the call
- * returned. The parent kills the process, opens the file itself, and compares:
+ * The load: three threads append batches, as several items or as one, under all promises, and send messages; a fourth
+ * one reports, joins and retires nodes, vacuums and makes checkpoints. What was promised goes to the parent through a
+ * pipe, after the call returned. The parent kills the process, opens the file itself, and compares:
  *   - each batch that was promised is there, at its stamp, and after the last one of a thread at most the one that was
  *     under way, whole;
  *   - at a stamp at or above the horizon each thread's batches are there up to the last one at or below the stamp, and
@@ -81,7 +81,9 @@ static void *write_on(void *argument)
         hlc_file_batch_clear(batch);
         fill(batch, thread, number, &state);
         uint32_t promise = 1 + chance(&state, 3);
-        uint32_t answer = hlc_file_append(file, 0, HLC_FILE_NOW, batch, promise, &stamp);
+        uint32_t answer = chance(&state, 2) == 0
+                              ? hlc_file_append(file, 0, HLC_FILE_NOW, batch, promise, &stamp)
+                              : hlc_file_write_batch(file, 0, HLC_FILE_NOW, batch, promise, &stamp);
         if (answer != HLC_OK) tell(FAILED, thread, answer, 0);
         else tell(APPENDED, thread, number++, stamp);
         if (chance(&state, 4) == 0 && hlc_file_send(file, 0, HLC_FILE_NOW, &stamp) == HLC_OK) tell(SENT, 0, 0, stamp);

@@ -47,6 +47,20 @@ static uint32_t call_append(uint32_t promise)
     return answer == HLC_OK ? hlc_file_append(file, 0, 50, batch, promise, &word) : answer;
 }
 
+static uint32_t call_write_batch(void)
+{
+    uint64_t word;
+    hlc_file_batch_clear(batch);
+    uint32_t answer = HLC_OK;
+    for (int i = 0; i < 5 && answer == HLC_OK; i++) {
+        char key[40];
+        snprintf(key, sizeof key, "another key of some length %d", i);
+        answer = hlc_file_batch_put(batch, BYTES(key), BYTES("another value of some length, so that it is a block"));
+    }
+    if (answer == HLC_OK) answer = hlc_file_batch_put(batch, BYTES("new"), BYTES("x"));
+    return answer == HLC_OK ? hlc_file_write_batch(file, 0, 50, batch, 0, &word) : answer;
+}
+
 static uint32_t call_append_group(void)
 {
     return call_append(HLC_FILE_GROUP);
@@ -151,6 +165,7 @@ static const struct {
     { "write", call_write, true, false },
     { "append, in a group", call_append_group, true, false },
     { "append, not synced", call_append_written, true, false },
+    { "batch as one item", call_write_batch, true, false },
     { "append of records", call_records, true, false },
     { "join", call_join, false, false },
     { "send", call_send, false, false },

@@ -12,6 +12,32 @@ static unsigned chance(unsigned below)
     return (unsigned)rand_r(&seed) % below;
 }
 
+/* Puts the writes of a batch, now and then one of a key that is there. Returns how many they are. */
+static size_t put_writes(uint8_t *bytes, size_t room, size_t *len)
+{
+    static const uint8_t value[9];
+    hlc_batch batch = hlc_batch_in(bytes, room);
+    size_t many = 1 + chance(4);
+    for (size_t i = 0; i < many; i++) {
+        uint8_t key[2] = { 'k', (uint8_t)('0' + (i > 0 && chance(8) == 0 ? i - 1 : i)) };
+        uint32_t answer = chance(3) == 0 ? hlc_batch_delete(&batch, key, sizeof key)
+                                         : hlc_batch_write(&batch, key, sizeof key, value, chance(sizeof value));
+        EXPECT(answer, HLC_OK);
+    }
+    *len = batch.len;
+    return many;
+}
+
+/* Writes a batch, which hlc_item_encode_batch would refuse where a key is there twice. */
+static size_t put_batch(uint16_t node, uint64_t number, uint64_t stamp, uint8_t *bytes, size_t room)
+{
+    size_t len;
+    size_t many = put_writes(bytes + ITEM_HEAD + 1, room - ITEM_HEAD - 1, &len);
+    record_put_batch(bytes, many);
+    record_stamp(bytes, node, number, stamp);
+    return ITEM_HEAD + 1 + len;
+}
+
 /* Writes a record that is the next of its node, or a few numbers or stamps off. */
 static size_t put_record(const struct links *links, uint8_t *bytes)
 {
@@ -23,13 +49,14 @@ static size_t put_record(const struct links *links, uint8_t *bytes)
     size_t len = 0;
     uint32_t answer = HLC_OK;
     if (chance(200) == 0) number = UINT64_MAX;
-    switch (chance(12)) {
+    switch (chance(15)) {
     case 0: answer = hlc_item_encode_report(node, number, stamp, bytes, 100, &len); break;
     case 1: answer = hlc_record_encode_threshold(stamp, bytes, 100, &len); break;
     case 2: answer = hlc_record_encode_join((uint16_t)(links->many - (chance(4) == 0) + (chance(9) == 0)),
                                             links_floor(links) + 2 - chance(3), bytes, 100, &len); break;
     case 3: if (chance(4) == 0) answer = hlc_item_encode_retire(node, number, stamp, bytes, 100, &len); break;
     case 4: answer = hlc_item_encode_delete(node, number, stamp, BYTES("key"), bytes, 100, &len); break;
+    case 12: case 13: case 14: len = put_batch(node, number, stamp, bytes, 100); break;
     default: answer = hlc_item_encode_write(node, number, stamp, BYTES("key"), value, chance(sizeof value), bytes, 100,
                                             &len);
     }

@@ -177,6 +177,113 @@ static void a_batch_has_a_limit(void)
     hlc_file_close(file);
 }
 
+/* All writes of a batch have one stamp: a snapshot shows them or none. */
+static void a_batch_is_one_item(void)
+{
+    hlc_file_batch *batch;
+    uint64_t word;
+    hlc_file *file = opened(fresh(PATH));
+    put(file, 5, "b", "old");
+    EXPECT(hlc_file_batch_new(&batch), HLC_OK);
+    EXPECT(hlc_file_write_batch(file, 0, 10, batch, 0, &word), HLC_NO_WRITES);
+    for (uint32_t promise = 0; promise <= HLC_FILE_WRITTEN; promise++) {
+        EXPECT(hlc_file_batch_put(batch, BYTES("a"), BYTES("one")), HLC_OK);
+        EXPECT(hlc_file_batch_delete(batch, BYTES("b")), HLC_OK);
+        EXPECT(hlc_file_batch_put(batch, BYTES("c"), BYTES("")), HLC_OK);
+        EXPECT(hlc_file_write_batch(file, 0, 10, batch, promise, &word), HLC_OK);
+        EXPECT(hlc_file_batch_many(batch), 0);
+        EXPECT(word, AT(10) + promise);
+        EXPECT(state_of(file).place, 2 + promise);
+    }
+    for (int i = 0; i < 2; i++) {
+        EXPECT_VALUE(file, AT(10) - 1, "a", "");
+        EXPECT_VALUE(file, AT(10) - 1, "b", "old");
+        EXPECT_VALUE(file, AT(10), "a", "one");
+        EXPECT_VALUE(file, AT(10), "b", "");
+        hlc_file_close(file);
+        file = opened(PATH);
+        EXPECT(state_of(file).applied, 5);
+    }
+    hlc_file_batch_drop(batch);
+    hlc_file_close(file);
+    /* 20 bytes and one before the writes; of these, 2 + 1 + 2 + 3, 2 + 1 and 2 + 1 + 2. */
+    EXPECT(number_of(PATH, "SELECT length(records) FROM log WHERE place = 2"), 21 + 8 + 3 + 5);
+}
+
+static void a_refused_batch_is_nowhere(void)
+{
+    hlc_file_batch *batch;
+    uint64_t word, next;
+    char key[16];
+    hlc_file *file = opened(fresh(PATH));
+    EXPECT(hlc_file_batch_new(&batch), HLC_OK);
+    for (int i = 0; i < HLC_MAX_BATCH; i++) {
+        snprintf(key, sizeof key, "k%d", i);
+        EXPECT(hlc_file_batch_put(batch, BYTES(key), BYTES("v")), HLC_OK);
+    }
+    EXPECT(hlc_file_write_batch(file, 0, 10, batch, 9, &word), HLC_FILE_BAD_OPTION);
+    EXPECT(hlc_file_write_batch(file, 1, 10, batch, 0, &word), HLC_NO_NODE);
+    EXPECT(hlc_file_write_batch(file, 0, (uint64_t)1 << 48, batch, 0, &word), HLC_READING_TOO_LARGE);
+    EXPECT(state_of(file).place, 0);
+    EXPECT(hlc_file_write_batch(file, 0, 10, batch, 0, &word), HLC_OK);
+    for (int i = 0; i <= HLC_MAX_BATCH; i++) {
+        snprintf(key, sizeof key, "k%d", i);
+        EXPECT(hlc_file_batch_put(batch, BYTES(key), BYTES("w")), HLC_OK);
+    }
+    EXPECT(hlc_file_write_batch(file, 0, 20, batch, 0, &word), HLC_TOO_MANY_WRITES);
+    EXPECT(hlc_file_batch_many(batch), HLC_MAX_BATCH + 1);
+    hlc_file_batch_clear(batch);
+    EXPECT(hlc_file_batch_put(batch, BYTES("k1"), BYTES("w")), HLC_OK);
+    EXPECT(hlc_file_batch_put(batch, BYTES("k2"), BYTES("w")), HLC_OK);
+    EXPECT(hlc_file_batch_delete(batch, BYTES("k1")), HLC_OK);
+    EXPECT(hlc_file_write_batch(file, 0, 20, batch, 0, &word), HLC_KEY_TWICE);
+    EXPECT(word, 0);
+    EXPECT(state_of(file).place, 1);
+    EXPECT(state_of(file).failure, 0);
+    EXPECT_VALUE(file, 0, "k2", "v");
+    EXPECT(hlc_file_retire(file, 0, 30, &word), HLC_OK);
+    hlc_file_batch_clear(batch);
+    EXPECT(hlc_file_batch_put(batch, BYTES("k1"), BYTES("w")), HLC_OK);
+    EXPECT(hlc_file_write_batch(file, 0, 40, batch, 0, &next), HLC_RETIRED);
+    hlc_file_batch_drop(batch);
+    hlc_file_close(file);
+}
+
+/* A batch of another machine comes whole, or not at all. */
+static void a_batch_comes_by_its_record(void)
+{
+    static const uint8_t writes[] = "\1a\1\0\3one\1b\0\1c\1\0\0", twice[] = "\1a\1\0\3one\1b\0\1a\0";
+    uint8_t bytes[100];
+    size_t many, len;
+    uint64_t word;
+    hlc_file *file = opened_with(fresh(PATH), (hlc_file_options){ .nodes = 2 });
+    put(file, 20, "near", "x");
+    EXPECT(hlc_item_encode_batch(1, 0, AT(10), 3, writes, sizeof writes - 1, bytes, sizeof bytes, &len), HLC_OK);
+    for (size_t cut = 1; cut < len; cut++) {
+        EXPECT(hlc_file_append_records(file, bytes, cut, 0, &many, &word), HLC_BAD_BYTES);
+        EXPECT(word, 1);
+        EXPECT(many, 0);
+    }
+    EXPECT_VALUE(file, 0, "a", "");
+    /* The same item with other writes, two of which are of one key. */
+    memcpy(bytes + 21, twice, sizeof twice - 1);
+    EXPECT(hlc_file_append_records(file, bytes, 21 + sizeof twice - 1, 0, &many, &word), HLC_KEY_TWICE);
+    EXPECT(many + word, 0);
+    EXPECT(state_of(file).place, 1);
+    memcpy(bytes + 21, writes, sizeof writes - 1);
+    for (int i = 0; i < 2; i++) {
+        EXPECT(hlc_file_append_records(file, bytes, len, 0, &many, &word), HLC_OK);
+        EXPECT(many, 1);
+        EXPECT(state_of(file).place, 2);
+    }
+    EXPECT_VALUE(file, AT(10), "a", "one");
+    hlc_file_close(file);
+    file = opened(PATH);
+    EXPECT_VALUE(file, AT(10), "a", "one");
+    EXPECT_VALUE(file, AT(9), "a", "");
+    hlc_file_close(file);
+}
+
 /* Items of another machine's node 1: numbers from 0, stamps from l on. */
 static size_t items(uint8_t *bytes, uint64_t from, uint64_t many, uint64_t l)
 {
@@ -503,6 +610,9 @@ static const struct test TESTS[] = {
     TEST(refused_writes_change_nothing),
     TEST(a_batch_is_one_row),
     TEST(a_batch_has_a_limit),
+    TEST(a_batch_is_one_item),
+    TEST(a_refused_batch_is_nowhere),
+    TEST(a_batch_comes_by_its_record),
     TEST(records_come_all_or_none),
     TEST(no_snapshot_opens_below_a_threshold),
     TEST(a_threshold_waits_for_the_floor),
