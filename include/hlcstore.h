@@ -45,8 +45,9 @@
  * measurements.
  *
  * All calls. Each call on a store also returns HLC_CLOSED, before every other refusal, except hlc_store_open,
- * hlc_store_restore, hlc_restoring_finish and hlc_store_close. The last column says what may run beside a call: calls
- * with other stores; these and reads of the same store, with copies; calls with other nodes; or all.
+ * hlc_store_restore, hlc_restoring_finish and hlc_store_close; hlc_store_accept_batch returns it after 29 and 106.
+ * The last column says what may run beside a call: calls with other stores; these and reads of the same store, with
+ * copies; calls with other nodes; or all.
  *
  *   call                                        refusals, in this order               memory  beside
  *   hlc_store_open                              101 114 15                            yes     other stores

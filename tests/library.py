@@ -144,6 +144,10 @@ class Model:
         self.writes.append(row)
         self.rows.append(row)
 
+    def write_all(self, rows):
+        for row in rows:
+            self.write(row)
+
     def keys(self):
         return sorted({key for _, _, key, _ in self.rows})
 
@@ -282,6 +286,38 @@ def item_bytes(kind, node, number, stamp, key=b"", value=b""):
     return struct.pack(">BHQQ", 1, node, number, stamp) + body
 
 
+def feed_batch(pick, store, node, raw, reading, keys, model):
+    """Lets a node issue a batch, which the store takes by its own call or as bytes. Returns these."""
+    changes = [
+        (key, pick.choice((None, b"", bytes(pick.choices(b"xyz", k=30)))))
+        for key in pick.sample(sorted(set(keys)), pick.randint(1, len(set(keys))))
+    ]
+    count, writes = no_memory.writes_of(*changes)
+    number, stamp = ok("node_write_batch", raw, reading, count, writes)
+    model.write_all((stamp, node, key, value) for key, value in changes)
+    encoded = whole("item_encode_batch", node, number, stamp, count, writes)
+    assert encoded == no_memory.bytes_of_batch(node, number, stamp, count, writes)
+    if pick.random() < 0.5:
+        assert ok("store_accept_batch", store, node, number, stamp, count, writes) == stamp
+    assert ok("store_accept_items", store, encoded) == (len(encoded), 1, 0)
+    return encoded
+
+
+def feed_item(pick, store, node, raw, reading, keys, model):
+    """Lets a node issue an item that is no batch, which the store takes as bytes. Returns these."""
+    kind = pick.choice(("write", "write", "write", "delete", "report", "report"))
+    key = pick.choice(keys)
+    value = bytes(pick.choices(b"xyz", k=pick.randint(0, 30))) if kind == "write" else None
+    parts = {"write": (key, value), "delete": (key,), "report": ()}[kind]
+    number, stamp = ok("node_" + kind, raw, reading, *parts)
+    if parts:
+        model.write((stamp, node, key, value))
+    encoded = whole("item_encode_" + kind, node, number, stamp, *parts)
+    assert encoded == item_bytes(kind, node, number, stamp, *parts)
+    assert ok("store_accept_items", store, encoded) == (len(encoded), 1, 0)
+    return encoded
+
+
 def feed(pick, store, nodes, keys):
     """Lets the nodes issue items, which the store takes as bytes, and opens snapshots and vacuums between. Returns the
     model; the records of the log, each with its threshold or 0; and a checkpoint of before."""
@@ -290,17 +326,8 @@ def feed(pick, store, nodes, keys):
     for _ in range(pick.randint(5, 60)):
         reading += pick.randint(0, 2)
         node = pick.randrange(len(nodes))
-        kind = pick.choice(("write", "write", "write", "delete", "report", "report"))
-        key = pick.choice(keys)
-        value = bytes(pick.choices(b"xyz", k=pick.randint(0, 30))) if kind == "write" else None
-        parts = {"write": (key, value), "delete": (key,), "report": ()}[kind]
-        number, stamp = ok("node_" + kind, nodes[node], reading, *parts)
-        if parts:
-            model.write((stamp, node, key, value))
-        encoded = whole("item_encode_" + kind, node, number, stamp, *parts)
-        assert encoded == item_bytes(kind, node, number, stamp, *parts)
-        assert ok("store_accept_items", store, encoded) == (len(encoded), 1, 0)
-        log.append((encoded, 0))
+        issue = feed_batch if pick.random() < 0.2 else feed_item
+        log.append((issue(pick, store, node, nodes[node], reading, keys, model), 0))
         if pick.random() < 0.1:
             entry = shared_record(pick, store, nodes, reading)
             assert ok("store_apply_records", store, entry[0]) == (len(entry[0]), 1, entry[1], 0)

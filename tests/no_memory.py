@@ -244,6 +244,44 @@ def item_refusals(kind, store, next, spent):
     return found
 
 
+def writes_of(*changes):
+    """How many writes these are, and their bytes. Of a deletion the value is None."""
+    parts = []
+    for key, value in changes:
+        parts.append(bytes([len(key)]) + key)
+        parts.append(b"\0" if value is None else b"\1" + len(value).to_bytes(2, "big") + value)
+    return len(changes), b"".join(parts)
+
+
+def bytes_of_batch(node, number, stamp, count, writes):
+    """The bytes of an item that is a batch, also of one that no call would write."""
+    return struct.pack(">BHQQBB", 1, node, number, stamp, 3, count - 1) + writes
+
+
+# A batch, and those that are refused, by their numbers.
+BATCH = writes_of((KEY % 1, VALUE % (1, 1)), (KEY % 2, None), (ABSENT, VALUE % (1, 2)))
+BAD_BATCHES = {28: (0, b""), 29: (257, BATCH[1]), 30: writes_of((KEY % 1, None), (KEY % 1, VALUE % (1, 1)))}
+BAD_BATCHES[106] = BATCH[0], BATCH[1][:-1]
+
+
+def count_batches(calls, store, next, spent):
+    """Counts each refusal of a batch, by the calls of a node, a store and a log."""
+    for answer, (each, (*item,)) in item_refusals("report", store, next, spent).items():
+        calls.count(answer, "store_accept_batch", each, *item, *BATCH)
+    for answer, batch in BAD_BATCHES.items():
+        calls.count(answer, "store_accept_batch", store, 0, next, next + 1, *batch)
+        calls.count(answer, "item_encode_batch", 0, next, next + 1, *batch, PLENTY)
+        calls.count(answer, "node_write_batch", RawNode(), 3, *batch)
+    for room in 0, 100, PLENTY:
+        calls.count(OK, "item_encode_batch", 0, next, next + 1, *BATCH, room)
+    for name in "store_accept_items", "store_apply_records":
+        for answer, (each, (*item,)) in item_refusals("report", store, next, spent).items():
+            calls.count(answer, name, each, bytes_of_batch(*item, *BATCH))
+        calls.count(30, name, store, bytes_of_batch(0, next, next + 1, *BAD_BATCHES[30]))
+        calls.count(106, name, store, bytes_of_batch(0, next, next + 1, *BAD_BATCHES[106]))
+        assert calls.starved(name, store, bytes_of_batch(0, 0, 1, *BATCH)) == (OK, False)
+
+
 def count_items(calls, store, next, spent):
     """Counts the checks of items, and each refusal of one."""
     for kind, parts in ("write", (KEY % 1, VALUE % (1, 1))), ("delete", (KEY % 1,)), ("report", ()), ("retire", ()):
@@ -296,8 +334,8 @@ def count_nodes(calls):
     calls.count(OK, "node_restore", 0, 3, 2, RawNode())
     calls.count(105, "node_restore", 0, 2, 3, RawNode())
     before = {"receive": (5,)}
-    after = {"write": (KEY % 1, VALUE % (1, 1)), "delete": (KEY % 1,)}
-    for kind in "write", "delete", "report", "retire", "send", "receive":
+    after = {"write": (KEY % 1, VALUE % (1, 1)), "delete": (KEY % 1,), "write_batch": BATCH}
+    for kind in "write", "delete", "write_batch", "report", "retire", "send", "receive":
         nodes = {OK: RawNode(), 2: RawNode(), 3: RawNode(0, TOP, 1), 27: RawNode(0, 1, 1, True)}
         if kind not in ("send", "receive"):
             nodes[14] = RawNode(0, TOP, TOP)
@@ -425,6 +463,7 @@ def check(library):
     count_reads(calls, store)
     count_questions(calls, store, next, retired)
     count_items(calls, store, next, spent)
+    count_batches(calls, store, next, spent)
     count_opening(calls, store, next, spent)
     count_outputs_refused(calls, store, next)
     count_logs(calls, store, next, spent)

@@ -49,6 +49,8 @@ static void closed_first(hlc_output *with_bytes)
     expect("increment", code, len + word, HLC_CLOSED, 0);
     code = hlc_snapshot_open(&closed, UINT64_MAX, &word);
     expect("open snapshot", code, word, HLC_CLOSED, 0);
+    code = hlc_store_accept_batch(&closed, 7, 7, 0, 0, NULL, 0, &word);
+    expect("accept batch", code, word, HLC_CLOSED, 0);
     code = hlc_restoring_finish(&none, &closed, &word);
     expect("finish", code, word, HLC_NOT_UNDER_WAY, 0);
     expect("feed", hlc_restoring_feed(&none, BYTES("bytes")), 0, HLC_NOT_UNDER_WAY, 0);
@@ -130,6 +132,9 @@ int main(void)
     expect_text(HLC_NOT_LATER, "the increment is not of a later state of the store");
     expect_text(HLC_NOT_PARTS, "the checkpoints are no two parts of one store");
     expect_text(HLC_CHANGED, "the store changed since the saving began");
+    expect_text(HLC_NO_WRITES, "the batch has no writes");
+    expect_text(HLC_TOO_MANY_WRITES, "the batch has more than 256 writes");
+    expect_text(HLC_KEY_TWICE, "the batch writes a key twice");
     expect("open", hlc_store_open(&store, 1), 0, HLC_OK, 0);
     uint32_t code = hlc_store_accept_write(&store, 0, 0, AT(1), BYTES("k"), BYTES("v"), &word);
     expect("accept", code, word, HLC_OK, AT(1));

@@ -84,7 +84,7 @@ static void print_texts(void)
         hlc_error_name(number, NULL, 0, &len);
         answers += len > 0;
     }
-    EXPECT(answers, 38);
+    EXPECT(answers, 41);
     EXPECT(has_text(UINT32_MAX), true);
     EXPECT(strcmp(hlc_strerror(HLC_NO_MEMORY), "out of memory"), 0);
 }
@@ -231,6 +231,10 @@ static size_t write_item(const hlc_item *item, uint8_t *out, size_t room)
                                                           &len); break;
     case HLC_ITEM_RETIRE: answer = hlc_item_encode_retire(item->node, item->number, item->stamp, out, room,
                                                           &len); break;
+    case HLC_ITEM_BATCH:
+        answer = hlc_item_encode_batch(item->node, item->number, item->stamp, item->count, item->writes.at,
+                                       item->writes.len, out, room, &len);
+        break;
     }
     EXPECT(answer, HLC_OK);
     return len;
@@ -255,11 +259,13 @@ static bool reads_as_library(hlc_store *store, const uint8_t *bytes, size_t len)
 static void read_items(void)
 {
     const hlc_item items[] = {
-        { HLC_ITEM_WRITE, 0x102, 3, HLC_STAMP(4, 5), { BYTES("key") }, { BYTES("value") } },
-        { HLC_ITEM_WRITE, 0, 0, 1, { BYTES("k") }, { BYTES("") } },
-        { HLC_ITEM_DELETE, 1, UINT64_MAX, HLC_MAX_STAMP, { BYTES("key") }, { NONE } },
-        { HLC_ITEM_REPORT, 0, 1, 2, { NONE }, { NONE } },
-        { HLC_ITEM_RETIRE, 0, 1, 2, { NONE }, { NONE } },
+        { HLC_ITEM_WRITE, 0x102, 3, HLC_STAMP(4, 5), { BYTES("key") }, { BYTES("value") }, 0, { NONE } },
+        { HLC_ITEM_WRITE, 0, 0, 1, { BYTES("k") }, { BYTES("") }, 0, { NONE } },
+        { HLC_ITEM_DELETE, 1, UINT64_MAX, HLC_MAX_STAMP, { BYTES("key") }, { NONE }, 0, { NONE } },
+        { HLC_ITEM_REPORT, 0, 1, 2, { NONE }, { NONE }, 0, { NONE } },
+        { HLC_ITEM_RETIRE, 0, 1, 2, { NONE }, { NONE }, 0, { NONE } },
+        { HLC_ITEM_BATCH, 1, 1, 2, { NONE }, { NONE }, 1, { BYTES("\1k\1\0\2xy") } },
+        { HLC_ITEM_BATCH, 0, 1, 2, { NONE }, { NONE }, 3, { BYTES("\1k\1\0\1x\3key\0\2bb\1\0\0") } },
     };
     hlc_store store = HLC_CLOSED_STORE;
     EXPECT(hlc_store_open(&store, 1), HLC_OK);

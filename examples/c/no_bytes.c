@@ -26,6 +26,10 @@ static void issue(hlc_node *node)
     expect("node delete, no key", code, word, HLC_BAD_KEY, 0);
     code = hlc_node_write(node, 1, BYTES("a"), NONE, &number, &word);
     expect("node write, no value", code, word, HLC_OK, AT(1));
+    code = hlc_node_write_batch(node, 1, 0, NONE, &number, &word);
+    expect("node batch, no writes", code, number + word, HLC_NO_WRITES, 0);
+    code = hlc_node_write_batch(node, 1, 1, NONE, &number, &word);
+    expect("node batch, no bytes", code, word, HLC_BAD_BYTES, 1);
 }
 
 static void feed(hlc_store *store)
@@ -45,6 +49,14 @@ static void feed(hlc_store *store)
     expect("accept delete, no key", code, word, HLC_BAD_KEY, 0);
     code = hlc_store_accept_write(store, 0, 0, AT(1), BYTES("a"), NONE, &word);
     expect("accept write, no value", code, word, HLC_OK, AT(1));
+    code = hlc_store_accept_batch(store, 0, 1, AT(2), 0, NONE, &word);
+    expect("accept batch, no writes", code, word, HLC_NO_WRITES, 0);
+    code = hlc_store_accept_batch(store, 0, 1, AT(2), 1, NONE, &word);
+    expect("accept batch, no bytes", code, word, HLC_BAD_BYTES, 1);
+    code = hlc_item_encode_batch(0, 1, AT(2), 0, NONE, NONE, &many);
+    expect("batch as bytes, no writes", code, many, HLC_NO_WRITES, 0);
+    code = hlc_item_encode_batch(0, 1, AT(2), 1, BYTES("\1a\0"), NONE, &many);
+    expect("batch as bytes, no room", code, many, HLC_OK, 24);
     code = hlc_store_accept_all(store, NONE, NONE, &many, &word);
     expect("all, no entries", code, many + word, HLC_OK, 0);
     code = hlc_store_accept_all(store, &entry, 1, NONE, &many, &word);

@@ -1,5 +1,6 @@
-/* Refuses one request for memory after another of a story, and checks that the store is unchanged and works on. */
-#include "hlcstore.h"
+/* Refuses one request for memory after another of a story, and of a batch, and checks that the store is unchanged and
+ * works on. */
+#include "hlcstore_inline.h"
 #include <stdio.h>
 #include <stdlib.h>
 #include <string.h>
@@ -222,11 +223,122 @@ static bool story(long request)
     return met;
 }
 
+/* ---- A batch of five keys, two of which are new, and whose values are short and long ---- */
+
+#define LONG_KEY "a lemon whose key is long, and so takes memory"
+#define OTHER_KEY "a lime whose key is long, and so takes memory too"
+#define LONG_VALUE "a value that is too long in place, and so takes memory"
+
+/* Three keys with one row, with two and with four: more rows need a larger block. */
+static void fill(hlc_store *store)
+{
+    static const char *const keys[] = { "apple", "pear", "pear", "plum", "plum", "plum", "plum" };
+    uint64_t word;
+    if (hlc_store_open(store, 1) != HLC_OK) wrong++;
+    for (uint64_t i = 0; i < sizeof keys / sizeof keys[0]; i++) {
+        if (hlc_store_accept_write(store, 0, i, AT(i + 1), (const uint8_t *)keys[i], strlen(keys[i]), BYTES("old"),
+                                   &word) != HLC_OK) wrong++;
+    }
+}
+
+static hlc_batch five_writes(uint8_t *room, size_t len)
+{
+    hlc_batch batch = hlc_batch_in(room, len);
+    if (hlc_batch_write(&batch, BYTES("apple"), BYTES("new")) != HLC_OK) wrong++;
+    if (hlc_batch_write(&batch, BYTES(LONG_KEY), BYTES("new")) != HLC_OK) wrong++;
+    if (hlc_batch_write(&batch, BYTES("pear"), BYTES(LONG_VALUE)) != HLC_OK) wrong++;
+    if (hlc_batch_delete(&batch, BYTES("plum")) != HLC_OK) wrong++;
+    if (hlc_batch_write(&batch, BYTES(OTHER_KEY), BYTES(LONG_VALUE)) != HLC_OK) wrong++;
+    return batch;
+}
+
+/* Lets the store accept the batch: by its own call, or by the bytes of an item in a log, as an item or a record. */
+static uint32_t accept_batch(hlc_store *store, int way)
+{
+    uint8_t room[512], bytes[512];
+    const hlc_batch batch = five_writes(room, sizeof room);
+    size_t len, used, count;
+    uint64_t threshold, word;
+    uint32_t code;
+    if (way == 0) {
+        code = hlc_store_accept_batch(store, 0, 7, AT(8), batch.count, batch.at, batch.len, &word);
+        if (word != (code == HLC_OK ? AT(8) : 0)) wrong++;
+        return code;
+    }
+    if (hlc_item_encode_batch(0, 7, AT(8), batch.count, batch.at, batch.len, bytes, sizeof bytes, &len) != HLC_OK)
+        wrong++;
+    code = way == 1 ? hlc_store_accept_items(store, bytes, len, &used, &count, &word)
+                    : hlc_store_apply_records(store, bytes, len, &used, &count, &threshold, &word);
+    if (word != 0 || count != (code == HLC_OK) || used != (code == HLC_OK ? len : 0)) wrong++;
+    return code;
+}
+
+/* Whether a key has a value at a stamp, or none where the text is NULL. */
+static bool has(hlc_store *store, uint64_t id, const char *key, const char *text)
+{
+    uint8_t out[64];
+    size_t len;
+    uint32_t code = hlc_snapshot_read(store, id, (const uint8_t *)key, strlen(key), out, sizeof out, &len);
+    if (!text) return code == HLC_NO_VALUE;
+    return code == HLC_OK && len == strlen(text) && memcmp(out, text, len) == 0;
+}
+
+/* Whether the store has all of the batch, or nothing of it, at the floor. */
+static bool shows(hlc_store *store, bool batch)
+{
+    uint64_t id, stamp, closed;
+    hlc_store_sizes sizes;
+    if (hlc_snapshot_open_at_floor(store, &id, &stamp) != HLC_OK || stamp != AT(batch ? 8 : 7)) return false;
+    bool good = has(store, id, "apple", batch ? "new" : "old") && has(store, id, LONG_KEY, batch ? "new" : NULL) &&
+                has(store, id, "pear", batch ? LONG_VALUE : "old") && has(store, id, "plum", batch ? NULL : "old") &&
+                has(store, id, OTHER_KEY, batch ? LONG_VALUE : NULL);
+    if (hlc_snapshot_close(store, id, &closed) != HLC_OK || hlc_store_get_sizes(store, &sizes) != HLC_OK) return false;
+    return good && sizes.rows == (batch ? 12 : 7) && sizes.keys == (batch ? 5 : 3);
+}
+
+/* The bytes of a checkpoint, which are of the whole state. */
+static size_t state_of(hlc_store *store, uint8_t *out, size_t room)
+{
+    hlc_output output = HLC_NO_OUTPUT;
+    size_t len;
+    uint32_t code = hlc_checkpoint_make(store, 7, &output, &len);
+    if (code != HLC_OK) wrong++;
+    return take(&output, code, len, out, room);
+}
+
+/* Accepts the batch with this request refused: the store is as it was, and then accepts it. Returns whether there was
+ * such a request. */
+static bool refuse_batch(long request, int way)
+{
+    static uint8_t before[2048], after[2048];
+    hlc_store store = HLC_CLOSED_STORE;
+    fill(&store);
+    size_t len = state_of(&store, before, sizeof before);
+    left = request;
+    uint32_t code = accept_batch(&store, way);
+    bool met = left < 0;
+    left = -1;
+    if (code != (met ? HLC_NO_MEMORY : HLC_OK)) wrong++;
+    if (met) {
+        if (state_of(&store, after, sizeof after) != len || memcmp(before, after, len) != 0) wrong++;
+        if (!shows(&store, false)) wrong++;
+        if (accept_batch(&store, way) != HLC_OK) wrong++;
+    }
+    if (!shows(&store, true)) wrong++;
+    hlc_store_close(&store);
+    return met;
+}
+
 int main(void)
 {
     long request = 0;
     while (request < 1000 && story(request)) request++;
     if (request < 10 || request == 1000) wrong++;
+    for (int way = 0; way < 3; way++) {
+        request = 0;
+        while (request < 1000 && refuse_batch(request, way)) request++;
+        if (request < 5 || request == 1000) wrong++;
+    }
     printf("%s\n", wrong ? "wrong" : "all right");
     return wrong != 0;
 }
