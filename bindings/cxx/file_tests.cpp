@@ -94,6 +94,29 @@ void batches_are_appended_whole(const std::string& path) {
   EXPECT(moved.size() == 0);
 }
 
+// All writes of a batch have one stamp, also after an opening.
+void batches_are_written_at_one_stamp(const std::string& path) {
+  {
+    file store(path);
+    file_batch batch;
+    store.write("c", "old", {0, 4});
+    EXPECT(refusal([&] { store.write_batch(batch); }).code() == HLC_NO_WRITES);
+    for (const char* key : {"a", "b", "b"}) batch.write(key, "1");
+    EXPECT(refusal([&] { store.write_batch(batch, {0, 5}); }).code() == HLC_KEY_TWICE && batch.size() == 3);
+    batch.clear();
+    for (const char* key : {"a", "b"}) batch.write(key, "1");
+    batch.erase("c");
+    EXPECT(refusal([&] { store.write_batch(batch, {7}); }).code() == HLC_NO_NODE);
+    EXPECT(store.write_batch(batch, {0, 5}, promise::group) == at(5) && batch.size() == 0);
+    for (int number = 0; number <= 256; number++) batch.write(std::to_string(number), "");
+    EXPECT(refusal([&] { store.write_batch(batch); }).code() == HLC_TOO_MANY_WRITES && batch.size() == 257);
+  }
+  file store(path);
+  EXPECT(store.status().applied == 2);
+  EXPECT((listed(store.open_snapshot(at(4, 65535))) == pairs{{"c", "old"}}));
+  EXPECT((listed(store.open_snapshot(at(5))) == pairs{{"a", "1"}, {"b", "1"}}));
+}
+
 void all_is_there_after_opening_again(const std::string& path) {
   {
     file store(path);
@@ -293,7 +316,11 @@ void readers_run_beside_a_writer(const std::string& path) {
   file_batch batch;
   for (int number = 0; number < 200; number++) {
     for (const char* key : {"a", "b", "c"}) batch.write(key, std::to_string(number));
-    store.append(batch);
+    if (number % 2 == 0) {
+      store.append(batch);
+    } else {
+      store.write_batch(batch);
+    }
     if (number % 100 == 0) store.vacuum_older(std::chrono::milliseconds(0));
   }
   is_done = true;
@@ -308,6 +335,7 @@ int main(int many, char** arguments) {
   const std::pair<const char*, void (*)(const std::string&)> tests[] = {
       {"past", past_stamps_are_read},
       {"batches", batches_are_appended_whole},
+      {"one stamp", batches_are_written_at_one_stamp},
       {"reopened", all_is_there_after_opening_again},
       {"states", states_are_written_as_checkpoints},
       {"ranges", ranges_have_the_pairs_of_a_model},

@@ -163,19 +163,41 @@ void reads() {
   });
 }
 
+// A batch keeps what it had where a write finds no memory, and so does the item of one that is made of bytes.
 void batches() {
   const pairs all = rising_pairs();
   fail_each([&](failing& once) {
     store store(1);
     node writer(0);
     hlcstore::batch batch;
-    for (const auto& pair : all) {
-      const hlcstore::item item = writer.write(1, pair.first, pair.second);
-      once.make([&] { batch.write(item, pair.first, pair.second); });
-    }
-    expect(batch.size() == all.size() && store.accept(batch), "a batch");
+    for (const auto& pair : all) once.make([&] { batch.write(pair.first, pair.second); });
+    expect(batch.size() == all.size(), "a batch");
+    const hlcstore::item made = writer.write_batch(1, batch);
+    store.accept_batch(made, batch);
     const hlcstore::snapshot snapshot = store.open_snapshot();
     expect(pairs(snapshot.begin(), snapshot.end()) == all, "what a batch wrote");
+    string log;
+    once.make([&] { log = hlcstore::encode_batch(made, batch); });
+    std::string_view rest = log;
+    hlcstore::owned_item read;
+    once.make([&] { read = hlcstore::owned_item::decode(rest); });
+    expect(read.writes == batch && rest.empty(), "a batch of bytes");
+  });
+}
+
+void lists() {
+  const pairs all = rising_pairs();
+  fail_each([&](failing& once) {
+    store store(1);
+    node writer(0);
+    hlcstore::item_list items;
+    for (const auto& pair : all) {
+      const hlcstore::item item = writer.write(1, pair.first, pair.second);
+      once.make([&] { items.write(item, pair.first, pair.second); });
+    }
+    expect(items.size() == all.size() && store.accept(items), "a list");
+    const hlcstore::snapshot snapshot = store.open_snapshot();
+    expect(pairs(snapshot.begin(), snapshot.end()) == all, "what a list wrote");
   });
 }
 
@@ -205,6 +227,7 @@ int main() {
   owning_ranges();
   reads();
   batches();
+  lists();
   outputs();
   std::puts(wrong == 0 ? "all right" : "wrong");
   return wrong != 0;

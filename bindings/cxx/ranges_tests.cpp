@@ -119,6 +119,47 @@ void routes() {
   }));
 }
 
+// A batch is of one store: of another, or of several, it is refused, and nothing is issued.
+void batches() {
+  ranges stores(division::by_keys({"g", "n"}), 1);
+  machine writer = stores.machine(0);
+  hlcstore::batch low, both, none;
+  low.write("a", "x");
+  low.write("b", "y");
+  low.erase("f");
+  both.write("a", "x");
+  both.erase("g");
+  EXPECT(throws<hlcstore::wrong_store>([&] { writer.write_batch(5, both); }));
+  EXPECT(throws<hlcstore::wrong_store>([&] { stores.write_batch(writer, 5, both); }));
+  EXPECT(refusal_of([&] { writer.write_batch(5, none); }) == HLC_NO_WRITES);
+  EXPECT(refusal_of([&] { stores.write_batch(writer, 5, none); }) == HLC_NO_WRITES);
+  EXPECT(writer.last() == timestamp() && writer.report_all(1)[0].item.number == 0);
+  writer = stores.machine(0);
+  const routed_item made = writer.write_batch(5, low);
+  EXPECT(made.store == 0 && made.item.number == 0 && made.item.stamp == at(5) && made.item.writes == low);
+  EXPECT(made.item.kind == hlcstore::item_kind::batch && made.item.key.empty());
+  EXPECT(throws<hlcstore::wrong_store>([&] { stores.accept(1, made.item); }));
+  routed_item other = made;
+  other.item.writes = both;
+  EXPECT(throws<hlcstore::wrong_store>([&] { stores.accept(other); }) && stores.rows() == 0);
+  stores.accept(made);
+  EXPECT(stores.rows() == 3 && refusal_of([&] { stores.accept(made); }) == HLC_NOT_NEXT);
+  hlcstore::batch high;
+  high.write("n", "z");
+  high.write("z", "z");
+  EXPECT(stores.write_batch(writer, 5, high) == at(5, 1) && writer.last() == at(5, 1));
+  high.write("z", "again");
+  EXPECT(refusal_of([&] { stores.write_batch(writer, 6, high); }) == HLC_KEY_TWICE && writer.last() == at(5, 1));
+  stores.report_all(writer, 9);
+  EXPECT((listed(stores.open_snapshot()) == pairs{{"a", "x"}, {"b", "y"}, {"n", "z"}, {"z", "z"}}));
+  EXPECT(listed(stores.open_snapshot(at(4))).empty() && stores.open_snapshot(at(5)).count() == 2);
+  // Where the store refuses, the machine is as it was.
+  machine stale = stores.machine(0);
+  stores.write(writer, 10, "a", "y");
+  const timestamp last = stale.last();
+  EXPECT(refusal_of([&] { stores.write_batch(stale, 20, low); }) == HLC_NOT_NEXT && stale.last() == last);
+}
+
 // One clock for all stores, and the least floor as the cut.
 void clocks_and_cuts() {
   ranges stores(division::by_keys({"g", "n"}), 2);
@@ -344,6 +385,25 @@ struct world {
 
 string random_key(std::mt19937& random) { return "key" + std::to_string(random() % 40); }
 
+// A batch of some random keys of one store.
+hlcstore::batch random_batch(const ranges& stores, std::mt19937& random, const string& value) {
+  std::map<string, bool> writes = {{random_key(random), random() % 4 == 0}};
+  const std::size_t store = stores.store_of(writes.begin()->first);
+  for (int more = 0; more < 8; more++) {
+    const string key = random_key(random);
+    if (stores.store_of(key) == store) writes[key] = random() % 4 == 0;
+  }
+  hlcstore::batch made;
+  for (const auto& [key, erases] : writes) {
+    if (erases) {
+      made.erase(key);
+    } else {
+      made.write(key, value);
+    }
+  }
+  return made;
+}
+
 // Lets a machine act at random. Its items go to the stores by themselves, or wait in the order of their links.
 void act(world& all, std::uint16_t id, int turns) {
   std::mt19937 random(id);
@@ -356,9 +416,16 @@ void act(world& all, std::uint16_t id, int turns) {
   for (int turn = 0; turn < turns; turn++) {
     const std::uint64_t reading = random() % 3 == 0 ? 0 : static_cast<std::uint64_t>(turn) / 4;
     const std::uint32_t kind = random() % 16;
-    if (kind < 11) {
+    if (kind < 4) {
+      routed_item made = acting.write_batch(reading, random_batch(all.stores, random, std::to_string(turn)));
+      for (const hlcstore::batch_write& write : made.item.writes) {
+        const auto value = write.value ? std::optional(string(*write.value)) : std::nullopt;
+        all.past.add(string(write.key), made.item.stamp, id, value);
+      }
+      keep(std::move(made));
+    } else if (kind < 11) {
       const string key = random_key(random);
-      const bool erases = kind == 0;
+      const bool erases = kind == 4;
       routed_item made = erases ? acting.erase(reading, key) : acting.write(reading, key, std::to_string(turn));
       all.past.add(key, made.item.stamp, id, erases ? std::nullopt : std::optional(made.item.value));
       keep(std::move(made));
@@ -427,6 +494,7 @@ int main(int count, char** words) {
     threads(division::by_hash(1), 2, turns);
     divisions();
     routes();
+    batches();
     clocks_and_cuts();
     one_store_refuses();
     opens_and_vacuums();

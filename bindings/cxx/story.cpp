@@ -342,15 +342,15 @@ void restart() {
   print_item("report", made, [&] { return restored.report(1); });
 }
 
-void accept_all(store& store, const hlcstore::batch& batch) {
-  const hlcstore::batch_answer made = store.accept(batch);
+void accept_all(store& store, const hlcstore::item_list& items) {
+  const hlcstore::list_answer made = store.accept(items);
   print("all", made.code, made.many, made.word);
 }
 
 // Lets a node issue a write and a deletion, and passes them to the store in one call, with an entry whose key is not
 // there, which takes a call of hlcstore.h.
 void accept_three(store& store, node& node) {
-  hlcstore::batch again;
+  hlcstore::item_list again;
   item written, erased;
   print_item("write", written, [&] { return node.write(40, "lake", "Como"); });
   print_item("delete", erased, [&] { return node.erase(41, "town"); });

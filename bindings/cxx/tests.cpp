@@ -1,12 +1,14 @@
 // What the story does not show of hlcstore.hpp: moving and closing, ranges in pieces, as views and of temporary
-// snapshots, changes of many keys, the longest keys and values, long certificates, batches, items with their keys and
-// values, the methods of a shared store, increments, restores that are given up, and refusals as exceptions.
+// snapshots, changes of many keys, the longest keys and values, long certificates, lists of items, batches, also beside
+// a model, items with their keys and values, the methods of a shared store, increments, restores that are given up, and
+// refusals as exceptions.
 #include <algorithm>
 #include <cstdio>
 #include <hlcstore.hpp>
 #include <iterator>
 #include <map>
 #include <optional>
+#include <random>
 #include <sstream>
 #include <stdexcept>
 #include <string>
@@ -73,10 +75,10 @@ std::map<string, string> longest_pairs() {
 store filled(const std::map<string, string>& pairs) {
   store filled(1);
   node writer(0);
-  hlcstore::batch batch;
-  for (const auto& [key, value] : pairs) batch.write(writer.write(1, key, value), key, value);
-  const hlcstore::batch_answer made = filled.accept(batch);
-  EXPECT(made && made.many == pairs.size() && batch.size() == pairs.size());
+  hlcstore::item_list items;
+  for (const auto& [key, value] : pairs) items.write(writer.write(1, key, value), key, value);
+  const hlcstore::list_answer made = filled.accept(items);
+  EXPECT(made && made.many == pairs.size() && items.size() == pairs.size());
   return filled;
 }
 
@@ -297,23 +299,23 @@ void refusals() {
   EXPECT(refusal_of([&] { store.link(1); }) == HLC_NO_NODE && store.link(0).next == 1);
 }
 
-// A batch whose third item is refused, and a log of the same items, which goes on after those that were accepted.
+// A list whose third item is refused, and a log of the same items, which goes on after those that were accepted.
 void partly_accepted() {
   store store(1);
   node writer(0);
-  hlcstore::batch batch;
+  hlcstore::item_list items;
   string log;
   for (const char* key : {"a", "b", "", "c"}) {
     const hlcstore::item made = *key != '\0' ? writer.write(1, key, "x") : hlcstore::item{0, 9, timestamp::of(1)};
-    batch.write(made, *key != '\0' ? key : "b", "x");
+    items.write(made, *key != '\0' ? key : "b", "x");
     if (*key != '\0') log += hlcstore::encode_write(made, key, "x");
   }
-  const hlcstore::batch_answer some = store.accept(batch);
+  const hlcstore::list_answer some = store.accept(items);
   EXPECT(!some && some.code == HLC_NOT_NEXT && some.many == 2 && some.word == 2);
   const hlcstore::log_answer rest = store.accept_log(log);
   EXPECT(rest && rest.many == 3 && rest.used == log.size() && store.rows() == 3);
-  batch.clear();
-  EXPECT(store.accept(batch) && batch.size() == 0);
+  items.clear();
+  EXPECT(store.accept(items) && items.size() == 0);
   store.accept_retire(writer.retire(3));
   EXPECT(store.floor_node() == std::nullopt && store.link(0).retired);
   const string more = hlcstore::encode_threshold(timestamp::of(2)) + hlcstore::encode_join(1, timestamp::of(9));
@@ -435,6 +437,18 @@ void certificates() {
   EXPECT(left.key_bytes + left.value_bytes + 10 * left.rows == made.bytes);
 }
 
+hlcstore::batch batch_of(const std::vector<std::pair<string, std::optional<string>>>& writes) {
+  hlcstore::batch made;
+  for (const auto& [key, value] : writes) {
+    if (value) {
+      made.write(key, *value);
+    } else {
+      made.erase(key);
+    }
+  }
+  return made;
+}
+
 // Items with their keys and values are equal where all of them is, and stores take them as they take the parts.
 void owned_items() {
   using hlcstore::item_kind;
@@ -498,7 +512,8 @@ void decoded_items() {
 
   const owned_item first{{0, 0, {1}}, item_kind::write, "key", "value"};
   const owned_item second{{0, 1, {2}}, item_kind::erase, "key", ""};
-  const string some = encode(first) + encode(second);
+  const owned_item third{{0, 2, {3}}, item_kind::batch, "", "", batch_of({{"key", "x"}, {"k", {}}, {"longer", ""}})};
+  const string some = encode(first) + encode(second) + encode(third);
   const auto is_read_alike = [](string_view bytes) {
     store taken(1);
     const hlcstore::log_answer answer = taken.accept_log(bytes);
@@ -530,6 +545,187 @@ void decoded_items() {
   hlcstore::log_items::iterator last(cut);
   const owned_item before = *last;
   EXPECT(refusal_of([&] { ++last; }) == HLC_BAD_BYTES && *last == before && last != read.end());
+}
+
+// ---- Batches ----
+
+// What a batch has, and what it does not take.
+void batches_as_values() {
+  hlcstore::batch batch;
+  EXPECT(batch.empty() && batch.size() == 0 && batch.begin() == batch.end() && batch.bytes().empty());
+  EXPECT(refusal_of([&] { batch.write("", "x"); }) == HLC_BAD_KEY);
+  EXPECT(refusal_of([&] { batch.write(string(256, 'k'), "x"); }) == HLC_BAD_KEY);
+  EXPECT(refusal_of([&] { batch.erase(""); }) == HLC_BAD_KEY);
+  EXPECT(refusal_of([&] { batch.write("a", string(65536, 'v')); }) == HLC_VALUE_TOO_LONG && batch.empty());
+  batch.write("a", "x");
+  batch.erase("b");
+  batch.write("c", string("\0\1", 2));
+  EXPECT(batch.size() == 3 && batch.bytes() == string("\1a\1\0\1x\1b\0\1c\1\0\2\0\1", 16));
+  std::vector<hlcstore::batch_write> found;
+  for (const hlcstore::batch_write& write : batch) found.push_back(write);
+  EXPECT(found.size() == 3 && found[0].key == "a" && found[0].value == "x" && found[1].key == "b" && !found[1].value);
+  EXPECT(found[2] == (hlcstore::batch_write{"c", string_view("\0\1", 2)}) && found[0] != found[1]);
+  hlcstore::batch copy = batch, moved = std::move(batch);
+  EXPECT(copy == moved && moved.size() == 3);
+  copy.clear();
+  EXPECT(copy.empty() && copy != moved);
+  const string key(255, 'k'), value(65535, 'v');
+  copy.write(key, value);
+  EXPECT(copy.size() == 1 && copy.begin()->key == key && copy.begin()->value == value);
+  for (int i = 1; i < 256; i++) copy.erase(key_of(i));
+  EXPECT(copy.size() == 256 && refusal_of([&] { copy.erase("one more"); }) == HLC_TOO_MANY_WRITES);
+  EXPECT(copy.size() == 256 && std::distance(copy.begin(), copy.end()) == 256);
+}
+
+// A snapshot has all writes of a batch or none, and a refused batch leaves nothing.
+void batches() {
+  store store(1);
+  node writer(0);
+  write(store, writer, 1, "b", "old");
+  const node before = writer;
+  EXPECT(refusal_of([&] { writer.write_batch(2, {}); }) == HLC_NO_WRITES);
+  EXPECT(refusal_of([&] { writer.write_batch(2, batch_of({{"a", "x"}, {"a", {}}})); }) == HLC_KEY_TWICE);
+  EXPECT(writer.next() == before.next() && writer.last() == before.last());
+  const hlcstore::batch batch = batch_of({{"a", "x"}, {"b", {}}, {"c", ""}});
+  const hlcstore::item made = writer.write_batch(2, batch);
+  EXPECT(made.number == 1 && made.stamp == timestamp::of(2));
+  EXPECT(refusal_of([&] { store.accept_batch(made, {}); }) == HLC_NO_WRITES);
+  EXPECT(refusal_of([&] { store.accept_batch(made, batch_of({{"a", "x"}, {"a", {}}})); }) == HLC_KEY_TWICE);
+  EXPECT(refusal_of([&] { store.accept_batch({1, 0, {9}}, batch); }) == HLC_NO_NODE);
+  EXPECT(refusal_of([&] { store.accept_batch({0, 1, {9}}, batch); }) == HLC_STAMP_NOT_RISING && store.rows() == 1);
+  store.accept_batch(made, batch);
+  EXPECT(store.rows() == 4 && refusal_of([&] { store.accept_batch(made, batch); }) == HLC_NOT_NEXT);
+  const hlcstore::snapshot early = store.open_snapshot({made.stamp.word - 1}), late = store.open_snapshot();
+  EXPECT(!early.get("a") && early.get("b") == "old" && !early.get("c"));
+  EXPECT(late.get("a") == "x" && !late.get("b") && late.get("c") == "");
+  for (const error_kind kind : {error_kind::no_writes, error_kind::too_many_writes, error_kind::key_twice}) {
+    const auto code = static_cast<std::uint32_t>(kind);
+    EXPECT(hlcstore::error(code).what() == hlcstore::error_text(code) && !hlcstore::error_text(code).empty());
+  }
+  hlcstore::shared_store shared{hlcstore::store(1)};
+  shared.accept_batch({0, 0, made.stamp}, batch);
+  EXPECT(shared.open_snapshot().get("a") == "x" && shared.rows() == 3);
+}
+
+// A batch as an item of a log: it is read as it was written, and stores take it as they take its parts.
+void batches_in_logs() {
+  using hlcstore::item_kind;
+  using hlcstore::owned_item;
+  node writer(0);
+  const hlcstore::batch batch = batch_of({{"a", string(60000, 'x')}, {"b", {}}, {string(255, 'k'), ""}});
+  const owned_item item{writer.write_batch(7, batch), item_kind::batch, "", "", batch};
+  const string log = encode(item);
+  EXPECT(log == encode_batch(item, batch) && log.size() == 21 + batch.bytes().size());
+  string_view rest = log;
+  EXPECT(owned_item::decode(rest) == item && rest.empty());
+  owned_item other = item;
+  other.writes = batch_of({{"a", "x"}});
+  EXPECT(other != item && hlcstore::item(other) == hlcstore::item(item));
+  store taken(1), replayed(1);
+  taken.accept(item);
+  EXPECT(replayed.accept_log(log) && replayed.checkpoint(0) == taken.checkpoint(0) && taken.rows() == 3);
+  hlcstore::shared_store shared{store(1)};
+  shared.accept(item);
+  EXPECT(shared.checkpoint(0) == taken.checkpoint(0));
+  // A part of the bytes is none of the batch.
+  for (std::size_t len = 1; len < log.size(); len += len < 40 || len + 300 > log.size() ? 1 : 997) {
+    rest = string_view(log).substr(0, len);
+    store none(1);
+    const hlcstore::log_answer answer = none.accept_log(rest);
+    EXPECT(answer.code == HLC_BAD_BYTES && answer.word == 1 && answer.many == 0 && none.rows() == 0);
+    EXPECT(refusal_of([&] { owned_item::decode(rest); }) == HLC_BAD_BYTES && rest.size() == len);
+  }
+  EXPECT(refusal_of([] { hlcstore::encode_batch({}, {}); }) == HLC_NO_WRITES);
+  EXPECT(refusal_of([] { hlcstore::encode_batch({}, batch_of({{"a", ""}, {"a", ""}})); }) == HLC_KEY_TWICE);
+}
+
+// Writes of several nodes, by key, stamp and node.
+using history = std::map<string, std::map<std::pair<std::uint64_t, std::uint16_t>, std::optional<string>>>;
+
+std::map<string, string> pairs_at(const history& past, timestamp stamp) {
+  std::map<string, string> found;
+  for (const auto& [key, versions] : past) {
+    const auto later = versions.upper_bound({stamp.word, UINT16_MAX});
+    if (later == versions.begin()) continue;
+    if (const auto& value = std::prev(later)->second) found[key] = *value;
+  }
+  return found;
+}
+
+// A random batch, or one write or deletion, of a node.
+hlcstore::owned_item random_item(std::mt19937& random, node& writer, std::uint64_t reading) {
+  using hlcstore::item_kind;
+  const auto value = [&] { return string(random() % 50, static_cast<char>('a' + random() % 26)); };
+  const string key = key_of(random() % 12);
+  const std::uint32_t kind = random() % 6;
+  if (kind == 0) return {writer.erase(reading, key), item_kind::erase, key, "", {}};
+  if (kind == 1) return {writer.report(reading), item_kind::report, "", "", {}};
+  if (kind == 2) {
+    const string text = value();
+    return {writer.write(reading, key, text), item_kind::write, key, text, {}};
+  }
+  hlcstore::batch batch;
+  for (int i = 0; i < 12; i++) {
+    if (random() % 3 == 0) batch.write(key_of(i), value());
+    else if (random() % 4 == 0) batch.erase(key_of(i));
+  }
+  if (batch.empty()) batch.erase(key);
+  return {writer.write_batch(reading, batch), item_kind::batch, "", "", batch};
+}
+
+void remember(history& past, const hlcstore::owned_item& item) {
+  using hlcstore::item_kind;
+  const std::pair<std::uint64_t, std::uint16_t> place{item.stamp.word, item.node};
+  if (item.kind == item_kind::write) past[item.key][place] = item.value;
+  if (item.kind == item_kind::erase) past[item.key][place] = std::nullopt;
+  for (const hlcstore::batch_write& write : item.writes) {
+    past[string(write.key)][place] = write.value ? std::optional(string(*write.value)) : std::nullopt;
+  }
+}
+
+// Compares snapshots at random stamps with the model.
+void look(std::mt19937& random, store& taken, const history& past) {
+  const std::uint64_t floor = taken.floor().word, least = taken.horizon().word;
+  for (int i = 0; i < 4; i++) {
+    const timestamp stamp{i == 0 ? floor : least + random() % (floor - least + 1)};
+    const hlcstore::snapshot snapshot = taken.open_snapshot(stamp);
+    EXPECT((std::map<string, string>(snapshot.begin(), snapshot.end()) == pairs_at(past, stamp)));
+  }
+}
+
+// Random histories of three nodes, whose items come late and in any order between nodes, beside the model: whatever
+// the stamp of a snapshot is, it never has a part of a batch. Items come by themselves, or as bytes.
+void random_batches(unsigned seed) {
+  std::mt19937 random(seed);
+  store taken(3);
+  history past;
+  std::vector<node> nodes = {node(0), node(1), node(2)};
+  std::vector<std::vector<hlcstore::owned_item>> waiting(3);
+  for (int turn = 0; turn < 300; turn++) {
+    const std::size_t acting = random() % 3, giving = random() % 3;
+    waiting[acting].push_back(random_item(random, nodes[acting], static_cast<std::uint64_t>(turn) / 5));
+    remember(past, waiting[acting].back());
+    if (random() % 8 == 0) nodes[acting].receive(nodes[giving].last(), 0);
+    string log;
+    for (const hlcstore::owned_item& item : waiting[giving]) {
+      if (random() % 2 == 0) {
+        EXPECT(bool(taken.accept_log(log)));
+        log.clear();
+        taken.accept(item);
+      } else {
+        log += encode(item);
+      }
+    }
+    EXPECT(bool(taken.accept_log(log)));
+    waiting[giving].clear();
+    look(random, taken, past);
+    if (random() % 20 == 0) taken.vacuum_to({(taken.horizon().word + taken.floor().word) / 2});
+    if (random() % 40 == 0) {
+      const string saved = taken.checkpoint(0);
+      taken.close();
+      taken.restore(saved);
+    }
+  }
 }
 
 // A shared store has the methods of a store, and can be moved, as its snapshots can.
@@ -747,6 +943,10 @@ int main() {
   stamps();
   owned_items();
   decoded_items();
+  batches_as_values();
+  batches();
+  batches_in_logs();
+  for (unsigned seed = 1; seed <= 10; seed++) random_batches(seed);
   shared_stores();
   views();
   std::puts(wrong == 0 ? "all right" : "wrong");

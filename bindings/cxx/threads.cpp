@@ -3,7 +3,7 @@
 // there are slots, and between the parts of a vacuum; changes wait for readers; what throws leaves no lock behind; and
 // stores end beside their readers. The word, if there is one, is how often a reader looks.
 //
-// In round r the value of each key is r, and one batch writes them all. So in a snapshot all values are the same.
+// In round r the value of each key is r, and one list of items writes them all. So in a snapshot all values are the same.
 #include <algorithm>
 #include <atomic>
 #include <chrono>
@@ -35,14 +35,14 @@ using std::chrono::steady_clock;
 
 constexpr int keys = 50;
 
-// Writes so many keys in one batch, with the value of a round, and returns whether the store accepted them.
+// Writes so many keys by one list of items, with the value of a round, and returns whether the store accepted them.
 bool write_round(hlcstore::store& store, hlcstore::node& writer, int many, std::uint64_t round) {
-  hlcstore::batch batch;
+  hlcstore::item_list items;
   for (int key = 0; key < many; key++) {
     const std::string name = "key" + std::to_string(key), value = std::to_string(round);
-    batch.write(writer.write(round, name, value), name, value);
+    items.write(writer.write(round, name, value), name, value);
   }
-  return static_cast<bool>(store.accept(batch));
+  return static_cast<bool>(store.accept(items));
 }
 
 // Writes all keys again until the readers have ended.

@@ -208,8 +208,9 @@ class file_snapshot {
   timestamp stamp_;
 };
 
-// Writes and deletions that a file appends all or none. Appending clears the batch. One that was moved from may only be
-// destroyed, or get a new value.
+// Writes and deletions that a file appends all or none: each at a stamp of its own by `file::append`, or all at one
+// stamp by `file::write_batch`. Appending clears the batch. One that was moved from may only be destroyed, or get a new
+// value.
 class file_batch {
  public:
   file_batch() {
@@ -286,6 +287,11 @@ class file {
   timestamp retire(origin from = {}) { return {own().word_of(hlc_file_retire, from.node, from.reading)}; }
   timestamp append(file_batch& batch, origin from = {}, promise given = promise::of_options) {
     return {own().word_of(hlc_file_append, from.node, from.reading, batch.raw_.get(), std::uint32_t(given))};
+  }
+
+  // Appends a batch of 1 to 256 different keys as one item, so that all of its writes have one stamp.
+  timestamp write_batch(file_batch& batch, origin from = {}, promise given = promise::of_options) {
+    return {own().word_of(hlc_file_write_batch, from.node, from.reading, batch.raw_.get(), std::uint32_t(given))};
   }
 
   // The stamp of a message from a node, and of the receipt of one with the stamp `seen`.

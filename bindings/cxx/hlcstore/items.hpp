@@ -31,9 +31,10 @@ class item_fields {
     read.number = number(8);
     read.stamp.word = number(8);
     const std::uint64_t kind = number(1);
-    if (kind > 2) fail(no_kind);
-    read.kind = kind == 1 ? item_kind::report : item_kind::retire;
-    if (kind == 0) read_write(read);
+    if (kind > 3) fail(no_kind);
+    read.kind = kind == 1 ? item_kind::report : kind == 2 ? item_kind::retire : item_kind::batch;
+    if (kind == 0) read_item_of_key(read);
+    if (kind == 3) read_batch(read.writes);
     return read;
   }
 
@@ -45,14 +46,33 @@ class item_fields {
 
   [[noreturn]] static void fail(fault number) { throw error(HLC_BAD_BYTES, number); }
 
-  void read_write(owned_item& read) {
+  batch_write read_write() {
+    batch_write read;
     const std::uint64_t len = number(1);
     if (len == 0) fail(empty_key);
     read.key = text(len);
     const std::uint64_t has_value = number(1);
     if (has_value > 1) fail(no_flag);
-    read.kind = has_value == 1 ? item_kind::write : item_kind::erase;
     if (has_value == 1) read.value = text(number(2));
+    return read;
+  }
+
+  void read_item_of_key(owned_item& read) {
+    const batch_write write = read_write();
+    read.kind = write.value ? item_kind::write : item_kind::erase;
+    read.key = write.key;
+    if (write.value) read.value = *write.value;
+  }
+
+  void read_batch(batch& read) {
+    for (std::uint64_t left = number(1) + 1; left > 0; left--) {
+      const batch_write write = read_write();
+      if (write.value) {
+        read.write(write.key, *write.value);
+      } else {
+        read.erase(write.key);
+      }
+    }
   }
 
   // A number of so many bytes, the high one first.

@@ -69,11 +69,25 @@ class division {
   std::shared_ptr<const std::vector<std::string>> boundaries_;
 };
 
-// An item is for another store than that of its key. Nothing was changed.
+// An item is for another store than that of its key, or a batch has keys of several stores. Nothing was changed.
 class wrong_store : public std::invalid_argument {
  public:
   wrong_store() : std::invalid_argument("the item is for another store than that of its key") {}
 };
+
+namespace detail {
+
+// The store of all keys of a batch. Throws wrong_store where they are of several stores. No keys are of the first one.
+inline std::size_t store_of(const division& divided, const batch& writes) {
+  std::optional<std::size_t> store;
+  for (const batch_write& write : writes) {
+    if (store.value_or(divided.store_of(write.key)) != divided.store_of(write.key)) throw wrong_store();
+    store = divided.store_of(write.key);
+  }
+  return store.value_or(0);
+}
+
+}  // namespace detail
 
 // An item, and the store that it is for.
 struct routed_item {
@@ -120,6 +134,15 @@ class machine {
     const std::size_t store = division_.store_of(key);
     return {store, act(store, [&](node& acting) {
               return owned_item{acting.erase(reading, key), item_kind::erase, std::string(key), {}};
+            })};
+  }
+
+  // All writes of a batch as one item, for the store that has their keys. Throws wrong_store where these are of several
+  // stores: then nothing is issued.
+  routed_item write_batch(std::uint64_t reading, const batch& writes) {
+    const std::size_t store = detail::store_of(division_, writes);
+    return {store, act(store, [&](node& acting) {
+              return owned_item{acting.write_batch(reading, writes), item_kind::batch, {}, {}, writes};
             })};
   }
 
@@ -415,6 +438,9 @@ class ranges {
     const bool has_key = item.kind == item_kind::write || item.kind == item_kind::erase;
     shared_store& taker = stores_.at(store);
     if (has_key && store_of(item.key) != store) throw wrong_store();
+    for (const batch_write& write : item.writes) {
+      if (item.kind == item_kind::batch && store_of(write.key) != store) throw wrong_store();
+    }
     taker.accept(item);
   }
   void accept(const routed_item& made) { accept(made.store, made.item); }
@@ -434,6 +460,16 @@ class ranges {
     return by.act(store, [&](node& acting) {
       const item made = acting.erase(reading, key);
       stores_[store].accept_erase(made, key);
+      return made.stamp;
+    });
+  }
+
+  // The same of a batch, whose keys are of one store: else it throws wrong_store.
+  timestamp write_batch(hlcstore::machine& by, std::uint64_t reading, const batch& writes) {
+    const std::size_t store = detail::store_of(division_, writes);
+    return by.act(store, [&](node& acting) {
+      const item made = acting.write_batch(reading, writes);
+      stores_[store].accept_batch(made, writes);
       return made.stamp;
     });
   }

@@ -212,12 +212,13 @@ class shared_store {
     make(&store::accept_write, item, key, value);
   }
   void accept_erase(const item& item, std::string_view key) { make(&store::accept_erase, item, key); }
+  void accept_batch(const item& item, const batch& writes) { make(&store::accept_batch, item, writes); }
   void accept_report(const item& item) { make(&store::accept_report, item); }
   void accept_retire(const item& item) { make(&store::accept_retire, item); }
   void accept(const owned_item& item) {
     change([&](store& changed) { changed.accept(item); });
   }
-  [[nodiscard]] batch_answer accept(const batch& items) {
+  [[nodiscard]] list_answer accept(const item_list& items) {
     return change([&](store& changed) { return changed.accept(items); });
   }
   [[nodiscard]] log_answer accept_log(std::string_view bytes) { return make(&store::accept_log, bytes); }

@@ -19,8 +19,8 @@
 
 namespace hlcstore {
 
-// How many items of a batch were accepted. At a refusal they are those before the refused one, and stay accepted.
-struct batch_answer : answer {
+// How many items of a list were accepted. At a refusal they are those before the refused one, and stay accepted.
+struct list_answer : answer {
   std::size_t many = 0;
 };
 
@@ -210,6 +210,12 @@ class store {
     detail::word_of(hlc_store_accept_delete, own(), item.node, item.number, item.stamp.word, detail::bytes(key),
                     key.size());
   }
+  // Accepts all writes of a batch, or none.
+  void accept_batch(const item& item, const batch& writes) {
+    const std::string_view all = writes.bytes();
+    detail::word_of(hlc_store_accept_batch, own(), item.node, item.number, item.stamp.word, writes.size(),
+                    detail::bytes(all), all.size());
+  }
   void accept_report(const item& item) {
     detail::word_of(hlc_store_accept_report, own(), item.node, item.number, item.stamp.word);
   }
@@ -222,12 +228,13 @@ class store {
       case item_kind::erase: return accept_erase(item, item.key);
       case item_kind::report: return accept_report(item);
       case item_kind::retire: return accept_retire(item);
+      case item_kind::batch: return accept_batch(item, item.writes);
     }
   }
 
   // Accepts the items in turn until one is refused.
-  [[nodiscard]] batch_answer accept(const batch& items) {
-    batch_answer made;
+  [[nodiscard]] list_answer accept(const item_list& items) {
+    list_answer made;
     made.code = hlc_store_accept_all(own(), items.entries_.data(), items.entries_.size(), detail::bytes(items.bytes_),
                                      items.bytes_.size(), &made.many, &made.word);
     return made;
