@@ -3,7 +3,7 @@
 // there are slots, and between the parts of a vacuum; changes wait for readers; what throws leaves no lock behind; and
 // stores end beside their readers. The word, if there is one, is how often a reader looks.
 //
-// In round r the value of each key is r, and one list of items writes them all. So in a snapshot all values are the same.
+// In round r the value of each key is r, and one list of items writes them all. So in a snapshot all values are alike.
 #include <algorithm>
 #include <atomic>
 #include <chrono>

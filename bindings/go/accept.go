@@ -5,7 +5,8 @@ import "C"
 
 // Accept accepts an item, if it is the next one of its node.
 //
-// Refusals: ErrNoNode, ErrRetired, ErrNotNext, ErrNumbersSpent, ErrStampNotRising, ErrBadKey, ErrValueTooLong.
+// Refusals: ErrNoNode, ErrRetired, ErrNotNext, ErrNumbersSpent, ErrStampNotRising, ErrBadKey, ErrValueTooLong; of a
+// batch those of AcceptBatch.
 func (s *Store) Accept(item Item) error {
 	s.mu.Lock()
 	defer s.mu.Unlock()
@@ -25,9 +26,26 @@ func (s *Store) accept(item *Item) error {
 		answer = C.hlcgo_accept_report(&s.raw, node, number, stamp)
 	case Retire:
 		answer = C.hlcgo_accept_retire(&s.raw, node, number, stamp)
+	case WriteBatch:
+		count, writes := item.writes()
+		answer = C.hlcgo_accept_item_batch(&s.raw, node, number, stamp, count, writes)
 	default:
 		return item.unknown()
 	}
+	return refusal(answer.code, answer.word)
+}
+
+// AcceptBatch accepts the writes and deletions of a batch that a node issued under this number with this stamp: all of
+// them, or none. Accept does so with an item, which has a copy of them.
+//
+// Refusals: ErrBadBytes, of an item whose Writes no node made; ErrNoNode, ErrRetired, ErrNotNext, ErrNumbersSpent,
+// ErrStampNotRising, ErrNoWrites, ErrKeyTwice.
+func (s *Store) AcceptBatch(node uint16, number uint64, stamp Stamp, batch *Batch) error {
+	count, writes, writesLen := batch.writes()
+	s.mu.Lock()
+	defer s.mu.Unlock()
+	answer := C.hlcgo_accept_batch(&s.raw, C.uint16_t(node), C.uint64_t(number), C.uint64_t(stamp), count, writes,
+		writesLen)
 	return refusal(answer.code, answer.word)
 }
 
@@ -43,6 +61,9 @@ func (s *Store) Check(item Item) error {
 		answer = C.hlcgo_check_delete(&s.raw, node, number, stamp, item.Key)
 	case Report, Retire:
 		answer = C.hlcgo_check_report(&s.raw, node, number, stamp)
+	case WriteBatch:
+		count, writes := item.writes()
+		answer = C.hlcgo_check_batch(&s.raw, node, number, stamp, count, writes)
 	default:
 		return item.unknown()
 	}
@@ -64,8 +85,8 @@ func (s *Store) AcceptAll(items []Item) (int, error) {
 	return accepted, err
 }
 
-// acceptSome accepts the first of some items: the writes and deletions at their front, as many as fit into the batch,
-// or else the one item that is neither. Of no items it asks C too, since the store may be closed.
+// acceptSome accepts the first of some items: the writes and deletions at their front, as many as fit into the list, or
+// else the one item that is neither. Of no items it asks C too, since the store may be closed.
 func (s *Store) acceptSome(items []Item) (int, error) {
 	many := s.scratch.fill(items)
 	if many == 0 && len(items) > 0 {
@@ -79,37 +100,37 @@ func (s *Store) acceptSome(items []Item) (int, error) {
 	return int(applied.many), refusal(applied.code, applied.word)
 }
 
-// The most items of a batch, and about the most bytes of their keys and values: it is kept for the next one.
+// The most items of a list, and about the most bytes of their keys and values: it is kept for the next one.
 const (
-	batchItems = 1024
-	batchBytes = 256 << 10
+	listItems = 1024
+	listBytes = 256 << 10
 )
 
-// A batch has writes and deletions in the form in which C takes many at once.
-type batch struct {
+// An entryList has writes and deletions in the form in which C takes many at once.
+type entryList struct {
 	entries []C.hlc_entry
 	bytes   []byte
 }
 
 // fill takes the writes and deletions at the front of some items, as many as fit, and returns how many those are.
-func (b *batch) fill(items []Item) int {
-	b.entries, b.bytes = b.entries[:0], b.bytes[:0]
+func (l *entryList) fill(items []Item) int {
+	l.entries, l.bytes = l.entries[:0], l.bytes[:0]
 	for i := range items {
 		item := &items[i]
-		if item.Kind > Delete || i == batchItems || len(b.bytes) >= batchBytes || item.isTooLong() {
+		if item.Kind > Delete || i == listItems || len(l.bytes) >= listBytes || item.isTooLong() {
 			break
 		}
-		b.add(item)
+		l.add(item)
 	}
-	return len(b.entries)
+	return len(l.entries)
 }
 
 // first returns the place of the entries, or nil where there are none.
-func (b *batch) first() *C.hlc_entry {
-	if len(b.entries) == 0 {
+func (l *entryList) first() *C.hlc_entry {
+	if len(l.entries) == 0 {
 		return nil
 	}
-	return &b.entries[0]
+	return &l.entries[0]
 }
 
 // isTooLong returns whether the item is refused for its lengths, so that its bytes need not be copied.
@@ -117,14 +138,14 @@ func (i *Item) isTooLong() bool {
 	return len(i.Key) > longestKey || len(i.Value) > longestValue
 }
 
-func (b *batch) add(item *Item) {
-	keyAt := len(b.bytes)
-	b.bytes = append(b.bytes, item.Key...)
-	valueAt := len(b.bytes)
+func (l *entryList) add(item *Item) {
+	keyAt := len(l.bytes)
+	l.bytes = append(l.bytes, item.Key...)
+	valueAt := len(l.bytes)
 	if item.Kind == Write {
-		b.bytes = append(b.bytes, item.Value...)
+		l.bytes = append(l.bytes, item.Value...)
 	}
-	b.entries = append(b.entries, C.hlc_entry{
+	l.entries = append(l.entries, C.hlc_entry{
 		node:      C.uint16_t(item.Node),
 		deletes:   C.bool(item.Kind == Delete),
 		number:    C.uint64_t(item.Number),
@@ -132,7 +153,7 @@ func (b *batch) add(item *Item) {
 		key_at:    C.size_t(keyAt),
 		key_len:   C.size_t(valueAt - keyAt),
 		value_at:  C.size_t(valueAt),
-		value_len: C.size_t(len(b.bytes) - valueAt),
+		value_len: C.size_t(len(l.bytes) - valueAt),
 	})
 }
 
@@ -148,7 +169,7 @@ type Applied struct {
 // where it is.
 //
 // Refusals, of each item in this order: ErrBadBytes, where 1 is the word if the bytes end within the item; ErrNoNode,
-// ErrRetired, ErrNotNext, ErrNumbersSpent, ErrStampNotRising.
+// ErrRetired, ErrNotNext, ErrNumbersSpent, ErrStampNotRising, ErrKeyTwice.
 func (s *Store) AcceptItems(log []byte) (Applied, error) {
 	bytes, bytesLen := pointer(log)
 	s.mu.Lock()

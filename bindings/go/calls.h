@@ -79,6 +79,14 @@ static inline hlcgo_issued hlcgo_node_delete(hlc_node node, uint64_t reading, co
     return issued;
 }
 
+static inline hlcgo_issued hlcgo_node_write_batch(hlc_node node, uint64_t reading, size_t count, const uint8_t *writes,
+                                                  size_t writes_len)
+{
+    hlcgo_issued issued = { .node = node };
+    issued.code = hlc_node_write_batch(&issued.node, reading, count, writes, writes_len, &issued.number, &issued.word);
+    return issued;
+}
+
 static inline hlcgo_issued hlcgo_node_report(hlc_node node, uint64_t reading)
 {
     hlcgo_issued issued = { .node = node };
@@ -143,6 +151,15 @@ static inline hlcgo_part hlcgo_item_retire(uint16_t node, uint64_t number, uint6
     return part;
 }
 
+static inline hlcgo_part hlcgo_item_batch(uint16_t node, uint64_t number, uint64_t stamp, size_t count,
+                                          _GoString_ writes, uint8_t *out, size_t out_len)
+{
+    hlcgo_part part = { 0 };
+    part.code = hlc_item_encode_batch(node, number, stamp, count, hlcgo_bytes(writes), _GoStringLen(writes), out,
+                                      out_len, &part.len);
+    return part;
+}
+
 typedef struct {
     uint8_t bytes[16];
     size_t len;
@@ -196,6 +213,36 @@ static inline hlcgo_answer hlcgo_accept_retire(hlc_store *store, uint16_t node, 
     hlcgo_answer answer;
     answer.code = hlc_store_accept_retire(store, node, number, stamp, &answer.word);
     return answer;
+}
+
+static inline hlcgo_answer hlcgo_accept_batch(hlc_store *store, uint16_t node, uint64_t number, uint64_t stamp,
+                                              size_t count, const uint8_t *writes, size_t writes_len)
+{
+    hlcgo_answer answer;
+    answer.code = hlc_store_accept_batch(store, node, number, stamp, count, writes, writes_len, &answer.word);
+    return answer;
+}
+
+static inline hlcgo_answer hlcgo_accept_item_batch(hlc_store *store, uint16_t node, uint64_t number, uint64_t stamp,
+                                                   size_t count, _GoString_ writes)
+{
+    return hlcgo_accept_batch(store, node, number, stamp, count, hlcgo_bytes(writes), _GoStringLen(writes));
+}
+
+/* What hlc_store_accept_batch would return, except 15: a new node refuses the same writes, and those are refused before
+ * the item where they are too many or no writes, and otherwise after it. */
+static inline hlcgo_answer hlcgo_check_batch(const hlc_store *store, uint16_t node, uint64_t number, uint64_t stamp,
+                                             size_t count, _GoString_ writes)
+{
+    hlc_store mine = *store;
+    hlc_node issuing = hlc_node_open(0, 0);
+    hlcgo_answer of_writes, of_item;
+    uint64_t issued;
+    of_writes.code = hlc_node_write_batch(&issuing, 0, count, hlcgo_bytes(writes), _GoStringLen(writes), &issued,
+                                          &of_writes.word);
+    if (of_writes.code == HLC_TOO_MANY_WRITES || of_writes.code == HLC_BAD_BYTES) return of_writes;
+    of_item.code = hlc_store_check_report(&mine, node, number, stamp, &of_item.word);
+    return of_item.code == HLC_OK ? of_writes : of_item;
 }
 
 static inline hlcgo_answer hlcgo_check_write(const hlc_store *store, uint16_t node, uint64_t number, uint64_t stamp,

@@ -73,6 +73,28 @@ func (d Division) storeOf(key string) int {
 	return sort.Search(len(d.boundaries), func(i int) bool { return key < d.boundaries[i] })
 }
 
+// storeOfAll returns the number of the store that has all keys of a batch, or ErrWrongStore. No keys are of the first
+// one.
+func (d Division) storeOfAll(batch *Batch) (int, error) {
+	if batch.Len() == 0 {
+		return 0, nil
+	}
+	return d.storeOfWrites(itemFields{rest: batch.bytes})
+}
+
+// storeOfWrites does so with the writes up to the first fault.
+func (d Division) storeOfWrites(fields itemFields) (int, error) {
+	store, wrong := -1, error(nil)
+	fields.batch(func(key, _ []byte, _ Kind) {
+		of := d.StoreOf(key)
+		if store >= 0 && store != of {
+			wrong = ErrWrongStore
+		}
+		store = of
+	})
+	return store, wrong
+}
+
 // hash returns the 64-bit FNV-1a.
 func hash(key string) uint64 {
 	sum := uint64(0xcbf29ce484222325)

@@ -31,6 +31,9 @@ const (
 	ErrNotShown         = Code(C.HLC_NOT_SHOWN)          // word: the number of the reason, see docs/formats.md
 	ErrTooManyNodes     = Code(C.HLC_TOO_MANY_NODES)     // 1,024 node numbers are assigned
 	ErrRetired          = Code(C.HLC_RETIRED)            // the node retired
+	ErrNoWrites         = Code(C.HLC_NO_WRITES)          // the batch has no writes
+	ErrTooManyWrites    = Code(C.HLC_TOO_MANY_WRITES)    // the batch has more than 256 writes
+	ErrKeyTwice         = Code(C.HLC_KEY_TWICE)          // two writes of the batch are of one key
 	ErrClosed           = Code(C.HLC_CLOSED)             // the store is closed
 	ErrNoValue          = Code(C.HLC_NO_VALUE)           // the key has no value in the snapshot
 	ErrNoSuchNode       = Code(C.HLC_NO_SUCH_NODE)       // no node has issued so many items up to this stamp

@@ -26,6 +26,8 @@ var codes = map[string]hlcstore.Code{
 	"HLC_NO_INCREMENT": hlcstore.ErrNoIncrement, "HLC_NOT_LATER": hlcstore.ErrNotLater,
 	"HLC_NOT_PARTS": hlcstore.ErrNotParts, "HLC_BAD_NODE_COUNT": hlcstore.ErrBadNodeCount,
 	"HLC_ALL_RETIRED": hlcstore.ErrAllRetired, "HLC_BELOW_FLOOR": hlcstore.ErrBelowFloor,
+	"HLC_NO_WRITES": hlcstore.ErrNoWrites, "HLC_TOO_MANY_WRITES": hlcstore.ErrTooManyWrites,
+	"HLC_KEY_TWICE": hlcstore.ErrKeyTwice,
 }
 
 // Answers that never reach the caller of the package: a call that was made, and those whose cause would be its own.

@@ -30,6 +30,8 @@ func FuzzApplyRecords(f *testing.F) {
 	f.Add(hlcstore.AppendThreshold(hlcstore.AppendJoin(log, 1, at(9000)), at(3)))
 	f.Add(log[:20])
 	f.Add([]byte{})
+	batch := batchOf("a", "x", "b", "", "key", "value")
+	f.Add(must(must(hlcstore.NewNode(0, 0).WriteBatch(5, batch)).Encode()))
 	f.Fuzz(func(t *testing.T, log []byte) {
 		store := must(hlcstore.Open(1))
 		defer store.Close()
@@ -40,6 +42,30 @@ func FuzzApplyRecords(f *testing.F) {
 		again, err := store.ApplyRecords(log[:applied.Bytes])
 		if err != nil || again.Records != applied.Records || again.Threshold != applied.Threshold {
 			t.Fatal(again, applied, err)
+		}
+	})
+}
+
+// Arbitrary bytes are refused, or are an item that has just these bytes, and whose writes can be listed.
+func FuzzDecodeItem(f *testing.F) {
+	for _, item := range mixed(8) {
+		f.Add(must(item.Encode()))
+	}
+	f.Fuzz(func(t *testing.T, log []byte) {
+		item, rest, err := hlcstore.DecodeItem(log)
+		if err != nil {
+			return
+		}
+		encoded, err := item.Encode()
+		if errors.Is(err, hlcstore.ErrKeyTwice) {
+			return
+		}
+		batch, other := item.Batch()
+		if err != nil || other != nil || string(encoded) != string(log[:len(log)-len(rest)]) {
+			t.Fatal(item, err, other)
+		}
+		if item.Kind == hlcstore.WriteBatch && (len(batch.Writes()) != batch.Len() || batch.Len() == 0) {
+			t.Fatal(item, batch)
 		}
 	})
 }

@@ -16,6 +16,8 @@ const (
 	Delete             // the key has no value from now on
 	Report             // the node's later stamps are greater
 	Retire             // this is the node's last item
+
+	WriteBatch // several keys have values, or none, from now on: a Batch
 )
 
 // String returns the kind in lower case.
@@ -29,6 +31,8 @@ func (k Kind) String() string {
 		return "report"
 	case Retire:
 		return "retire"
+	case WriteBatch:
+		return "batch"
 	}
 	return fmt.Sprintf("Kind(%d)", uint8(k))
 }
@@ -42,22 +46,26 @@ type Item struct {
 	Stamp  Stamp
 	Key    string // of a write and a deletion
 	Value  string // of a write
+	Writes string // of a batch: their bytes, which Item.Batch reads
 }
 
 // How many bytes an item takes in a log beside its key and its value, or more.
 const itemRoom = 24
 
-// Encode returns the item as bytes for a log, at most 65,814. docs/formats.md describes them.
+// Encode returns the item as bytes for a log, at most 65,814, or of a batch 16,843,285. docs/formats.md describes them.
 //
-// Refusals: ErrBadKey, ErrValueTooLong.
+// Refusals: ErrBadKey, ErrValueTooLong; of a batch ErrBadBytes, ErrNoWrites, ErrKeyTwice.
 func (i Item) Encode() ([]byte, error) {
-	return i.AppendTo(make([]byte, 0, itemRoom+len(i.Key)+len(i.Value)))
+	return i.AppendTo(make([]byte, 0, i.room()))
 }
+
+// room returns how many bytes the item takes in a log, or more.
+func (i *Item) room() int { return itemRoom + len(i.Key) + len(i.Value) + len(i.Writes) }
 
 // AppendTo appends these bytes to a log, and returns the longer log. After a refusal, which are those of Encode, it
 // returns the log as it was.
 func (i Item) AppendTo(log []byte) ([]byte, error) {
-	longer := grown(log, itemRoom+len(i.Key)+len(i.Value))
+	longer := grown(log, i.room())
 	out, outLen := room(longer)
 	node, number, stamp := C.uint16_t(i.Node), C.uint64_t(i.Number), C.uint64_t(i.Stamp)
 	var part C.hlcgo_part
@@ -70,8 +78,16 @@ func (i Item) AppendTo(log []byte) ([]byte, error) {
 		part = C.hlcgo_item_report(node, number, stamp, out, outLen)
 	case Retire:
 		part = C.hlcgo_item_retire(node, number, stamp, out, outLen)
+	case WriteBatch:
+		count, writes := i.writes()
+		part = C.hlcgo_item_batch(node, number, stamp, count, writes, out, outLen)
 	default:
 		return log, i.unknown()
+	}
+	if part.code == C.HLC_BAD_BYTES {
+		if _, err := i.Batch(); err != nil { // with the number of the fault
+			return log, err
+		}
 	}
 	if part.code != C.HLC_OK {
 		return log, refusal(part.code, 0)
@@ -99,6 +115,7 @@ const (
 	faultKind
 	faultKey
 	faultFlag
+	faultTrailing
 )
 
 // itemFields has the bytes of a log from the next field on, and the first fault of those before, or 0. After a fault
@@ -145,28 +162,49 @@ func (f *itemFields) item() Item {
 		item.Kind = Report
 	case 2:
 		item.Kind = Retire
+	case 3:
+		all := f.rest
+		item.Kind = WriteBatch
+		f.batch(func(_, _ []byte, _ Kind) {})
+		item.Writes = string(all[:len(all)-len(f.rest)])
 	default:
 		f.fail(faultKind)
 	}
 	return item
 }
 
+// batch passes each write of a batch, up to the first fault.
+func (f *itemFields) batch(take func(key, value []byte, kind Kind)) {
+	for left := f.number(1) + 1; left > 0 && f.fault == 0; left-- {
+		if key, value, kind := f.keyAndValue(); f.fault == 0 {
+			take(key, value, kind)
+		}
+	}
+}
+
 // write fills the kind, the key and the value of a write or a deletion.
 func (f *itemFields) write(item *Item) {
+	key, value, kind := f.keyAndValue()
+	item.Kind = kind
+	item.Key, item.Value = owned(key, value)
+}
+
+// keyAndValue returns the key and the value of a write, or the key of a deletion.
+func (f *itemFields) keyAndValue() (key, value []byte, kind Kind) {
 	length := f.number(1)
 	if length == 0 {
 		f.fail(faultKey)
 	}
-	key, value := f.bytes(int(length)), []byte(nil)
+	key = f.bytes(int(length))
 	switch f.number(1) {
 	case 0:
-		item.Kind = Delete
+		kind = Delete
 	case 1:
 		value = f.bytes(int(f.number(2)))
 	default:
 		f.fail(faultFlag)
 	}
-	item.Key, item.Value = owned(key, value)
+	return key, value, kind
 }
 
 // unknown returns why an item of no kind is refused.

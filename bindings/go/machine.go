@@ -51,6 +51,19 @@ func (m *Machine) Delete(reading uint64, key []byte) (Routed, error) {
 	return m.issued(store, item, err)
 }
 
+// WriteBatch issues the writes and deletions of a batch at this reading, as one item for the store of their keys. It
+// copies them.
+//
+// Refusals: ErrWrongStore, where the keys are of several stores; those of Node.WriteBatch.
+func (m *Machine) WriteBatch(reading uint64, batch *Batch) (Routed, error) {
+	store, err := m.division.storeOfAll(batch)
+	if err != nil {
+		return Routed{}, err
+	}
+	item, err := m.acting(store).WriteBatch(reading, batch)
+	return m.issued(store, item, err)
+}
+
 // ReportAll issues a report at this reading for each store, so that all floors may rise, and with them the cut. Where
 // one is refused, none is issued.
 //

@@ -106,20 +106,23 @@ func TestAllocations(t *testing.T) {
 	snapshot := must(store.Snapshot())
 	key, none, value, dst := []byte("key"), []byte("none"), []byte("value"), make([]byte, 0, 100)
 	item := hlcstore.Item{Stamp: at(1), Key: "key", Value: "value"}
+	batch := batchOf("a", "x", "b", "y")
 	for name, call := range map[string]struct {
 		most float64
 		call func()
 	}{
-		"Get, the value":            {1, func() { snapshot.Get(key) }},
-		"Get of no value":           {0, func() { snapshot.Get(none) }},
-		"GetTo":                     {0, func() { snapshot.GetTo(dst, key) }},
-		"Has":                       {0, func() { snapshot.Has(key) }},
-		"Node.Write, its bytes":     {1, func() { node.Write(1, key, value) }},
-		"Node.Report":               {0, func() { node.Report(1) }},
-		"Item.AppendTo":             {0, func() { item.AppendTo(dst) }},
-		"a refused item, its error": {1, func() { store.Accept(item) }},
-		"Floor":                     {0, func() { store.Floor() }},
-		"Count":                     {0, func() { snapshot.Count(nil, nil) }},
+		"Get, the value":             {1, func() { snapshot.Get(key) }},
+		"Get of no value":            {0, func() { snapshot.Get(none) }},
+		"GetTo":                      {0, func() { snapshot.GetTo(dst, key) }},
+		"Has":                        {0, func() { snapshot.Has(key) }},
+		"Node.Write, its bytes":      {1, func() { node.Write(1, key, value) }},
+		"Node.WriteBatch, its bytes": {1, func() { node.WriteBatch(1, batch) }},
+		"Batch.Write, no more room":  {0, func() { batch.Clear(); batch.Write(key, value) }},
+		"Node.Report":                {0, func() { node.Report(1) }},
+		"Item.AppendTo":              {0, func() { item.AppendTo(dst) }},
+		"a refused item, its error":  {1, func() { store.Accept(item) }},
+		"Floor":                      {0, func() { store.Floor() }},
+		"Count":                      {0, func() { snapshot.Count(nil, nil) }},
 	} {
 		if many := testing.AllocsPerRun(100, call.call); many > call.most {
 			t.Errorf("%s: %v allocations", name, many)

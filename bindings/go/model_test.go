@@ -30,9 +30,24 @@ func (m *model) accept(item hlcstore.Item) {
 	link := &m.links[item.Node]
 	link.Next, link.Head = item.Number+1, item.Stamp
 	link.Retired = item.Kind == hlcstore.Retire
-	if item.Kind == hlcstore.Write || item.Kind == hlcstore.Delete {
-		m.writes = append(m.writes, item)
+	m.writes = append(m.writes, writesOf(item)...)
+}
+
+// writesOf returns an item that is a write or a deletion, or for each of those of a batch such an item.
+func writesOf(item hlcstore.Item) []hlcstore.Item {
+	switch item.Kind {
+	case hlcstore.Write, hlcstore.Delete:
+		return []hlcstore.Item{item}
+	case hlcstore.WriteBatch:
+		var writes []hlcstore.Item
+		for _, write := range must(item.Batch()).Writes() {
+			one := item
+			one.Kind, one.Key, one.Value, one.Writes = write.Kind, write.Key, write.Value, ""
+			writes = append(writes, one)
+		}
+		return writes
 	}
+	return nil
 }
 
 // floor returns the least head of the nodes that have not retired, of which there is one, and the first such node.
@@ -157,7 +172,7 @@ func (g *game) wants(err error, code hlcstore.Code, word uint64) bool {
 }
 
 func (g *game) move() {
-	switch g.pick(18) {
+	switch g.pick(21) {
 	case 0, 1, 2, 3:
 		g.issue(func(node *hlcstore.Node, key []byte) (hlcstore.Item, error) {
 			return node.Write(g.clock, key, []byte(strings.Repeat("v", g.pick(256))))
@@ -188,7 +203,28 @@ func (g *game) move() {
 		g.retire()
 	case 17:
 		g.look()
+	case 18, 19, 20:
+		g.issue(func(node *hlcstore.Node, key []byte) (hlcstore.Item, error) {
+			return node.WriteBatch(g.clock, g.batch(key))
+		})
 	}
+}
+
+// batch returns writes and deletions of this key and of some others.
+func (g *game) batch(key []byte) *hlcstore.Batch {
+	batch := new(hlcstore.Batch)
+	for i, chosen := 0, g.pick(256)|g.pick(256)<<8; i < 12; i++ {
+		other := []byte(fmt.Sprint("k", i))
+		if chosen>>i&1 == 0 && !bytes.Equal(other, key) {
+			continue
+		}
+		if value := g.pick(256); value%4 == 0 {
+			g.check(batch.Delete(other) == nil, i)
+		} else {
+			g.check(batch.Write(other, []byte(strings.Repeat("b", value))) == nil, i)
+		}
+	}
+	return batch
 }
 
 func (g *game) issue(issue func(*hlcstore.Node, []byte) (hlcstore.Item, error)) {

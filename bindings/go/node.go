@@ -71,6 +71,18 @@ func (n *Node) Delete(reading uint64, key []byte) (Item, error) {
 	return item, err
 }
 
+// WriteBatch issues the writes and deletions of a batch at this reading, as one item. It copies them.
+//
+// Refusals: ErrRetired, ErrNoWrites, ErrKeyTwice, ErrNumbersSpent, ErrReadingTooLarge, ErrCounterFull.
+func (n *Node) WriteBatch(reading uint64, batch *Batch) (Item, error) {
+	count, writes, writesLen := batch.writes()
+	item, err := n.issue(WriteBatch, C.hlcgo_node_write_batch(n.raw, C.uint64_t(reading), count, writes, writesLen))
+	if err == nil {
+		item.Writes = string(batch.bytes)
+	}
+	return item, err
+}
+
 // Report issues a report at this reading, which lets the floor rise where the node has nothing to write.
 //
 // Refusals: ErrRetired, ErrNumbersSpent, ErrReadingTooLarge, ErrCounterFull.

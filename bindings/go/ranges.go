@@ -76,10 +76,22 @@ func (r *Ranges) Accept(store int, item Item) error {
 	if err != nil {
 		return err
 	}
-	if item.Kind <= Delete && r.division.storeOf(item.Key) != store {
+	if !r.hasKeys(store, &item) {
 		return ErrWrongStore
 	}
 	return of.Accept(item)
+}
+
+// hasKeys returns whether a store has all keys of an item. An item whose Writes no node made is refused by the store.
+func (r *Ranges) hasKeys(store int, item *Item) bool {
+	switch {
+	case item.Kind <= Delete:
+		return r.division.storeOf(item.Key) == store
+	case item.Kind == WriteBatch && item.Writes != "":
+		of, err := r.division.storeOfWrites(itemFields{rest: []byte(item.Writes)})
+		return err == nil && (of == store || of < 0)
+	}
+	return true
 }
 
 // Write lets a machine write at this reading, accepts the item, and returns its stamp. After a refusal the machine is
@@ -96,6 +108,17 @@ func (r *Ranges) Write(m *Machine, reading uint64, key, value []byte) (Stamp, er
 // Refusals: those of Write.
 func (r *Ranges) Delete(m *Machine, reading uint64, key []byte) (Stamp, error) {
 	return r.put(m, r.StoreOf(key), func(node *Node) (Item, error) { return node.Delete(reading, key) })
+}
+
+// WriteBatch does with a batch, whose keys are of one store, what Write does with a write.
+//
+// Refusals: ErrWrongStore, where the keys are of several stores; those of Write; those of Machine.WriteBatch.
+func (r *Ranges) WriteBatch(m *Machine, reading uint64, batch *Batch) (Stamp, error) {
+	store, err := r.division.storeOfAll(batch)
+	if err != nil {
+		return 0, err
+	}
+	return r.put(m, store, func(node *Node) (Item, error) { return node.WriteBatch(reading, batch) })
 }
 
 // ReportAll lets a machine report to one store after another at this reading, and accepts the reports. It ends at the

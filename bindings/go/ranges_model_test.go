@@ -22,7 +22,9 @@ type issuedModel struct {
 func (m *issuedModel) add(item hlcstore.Item) {
 	m.mu.Lock()
 	defer m.mu.Unlock()
-	m.writes[item.Key] = append(m.writes[item.Key], item)
+	for _, write := range writesOf(item) {
+		m.writes[write.Key] = append(m.writes[write.Key], write)
+	}
 }
 
 // pairs returns what a snapshot at a cut has, as pairsOf does.
@@ -70,9 +72,7 @@ type town struct {
 // accept adds a write to the model before the store has it.
 func (w *town) accept(issued hlcstore.Routed, err error) {
 	if err == nil {
-		if issued.Item.Kind <= hlcstore.Delete {
-			w.model.add(issued.Item)
-		}
+		w.model.add(issued.Item)
 		err = w.r.Accept(issued.Store, issued.Item)
 	}
 	if err != nil {
@@ -87,9 +87,12 @@ func (w *town) work(m *hlcstore.Machine, random *rand.Rand, turn int) {
 	clock := uint64(time.Since(w.began).Microseconds()) + uint64(random.Intn(50))
 	w.accept(m.Write(clock, []byte(fmt.Sprint("began", id)), []byte(fmt.Sprint(turn))))
 	key := []byte(fmt.Sprint("key", random.Intn(20)))
-	if random.Intn(4) == 0 {
+	switch random.Intn(8) {
+	case 0, 1:
 		w.accept(m.Delete(clock, key))
-	} else {
+	case 2, 3, 4:
+		w.accept(m.WriteBatch(clock, w.batch(random, key, []byte(fmt.Sprint(id, "x", turn)))))
+	default:
 		w.accept(m.Write(clock, key, []byte(fmt.Sprint(id, "x", turn))))
 	}
 	select {
@@ -105,6 +108,25 @@ func (w *town) work(m *hlcstore.Machine, random *rand.Rand, turn int) {
 	for _, report := range must(m.ReportAll(clock)) {
 		w.accept(report, nil)
 	}
+}
+
+// batch returns writes and deletions of this key and of some others of its store.
+func (w *town) batch(random *rand.Rand, key, value []byte) *hlcstore.Batch {
+	batch := new(hlcstore.Batch)
+	for i := 0; i < 20; i++ {
+		other := []byte(fmt.Sprint("key", i))
+		if w.r.StoreOf(other) != w.r.StoreOf(key) || random.Intn(3) > 0 && string(other) != string(key) {
+			continue
+		}
+		put := func() error { return batch.Write(other, value) }
+		if random.Intn(5) == 0 {
+			put = func() error { return batch.Delete(other) }
+		}
+		if err := put(); err != nil {
+			w.t.Error(err)
+		}
+	}
+	return batch
 }
 
 // look compares a new snapshot with the model, and all that it opened before with what they answered then.

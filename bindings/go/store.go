@@ -15,7 +15,7 @@ type Store struct {
 	// side.
 	mu      storeLock
 	raw     C.hlc_store
-	scratch batch
+	scratch entryList
 	watched bool // whether the garbage collector closes it
 }
 
@@ -46,7 +46,7 @@ func (s *Store) Close() error {
 	s.mu.Lock()
 	defer s.mu.Unlock()
 	C.hlc_store_close(&s.raw)
-	s.scratch = batch{}
+	s.scratch = entryList{}
 	if s.watched {
 		runtime.SetFinalizer(s, nil)
 		s.watched = false

@@ -28,6 +28,7 @@ func calls(store *hlcstore.Store, snapshot *hlcstore.Snapshot) map[string]error 
 	item := hlcstore.Item{Stamp: at(9), Key: "a"}
 	made := map[string]error{
 		"Accept":      store.Accept(item),
+		"AcceptBatch": store.AcceptBatch(0, 0, at(9), batchOf("a", "x")),
 		"Check":       store.Check(item),
 		"CloseAll":    store.CloseAll(),
 		"CheckVacuum": store.CheckVacuum(0),
@@ -129,8 +130,13 @@ func TestRefusalsOfAccept(t *testing.T) {
 	node := hlcstore.NewNode(0, 0)
 	put(t, store, node, 5, "a", "x")
 	ok(t, store.Accept(must(hlcstore.NewNode(1, 0).Retire(5))))
-	for _, kind := range []hlcstore.Kind{hlcstore.Write, hlcstore.Delete, hlcstore.Report, hlcstore.Retire} {
+	for _, kind := range []hlcstore.Kind{
+		hlcstore.Write, hlcstore.Delete, hlcstore.Report, hlcstore.Retire, hlcstore.WriteBatch,
+	} {
 		next := hlcstore.Item{Kind: kind, Number: 1, Stamp: at(6), Key: "a"}
+		if kind == hlcstore.WriteBatch {
+			next.Writes = must(hlcstore.NewNode(0, 0).WriteBatch(1, batchOf("a", "x", "b", "y"))).Writes
+		}
 		ok(t, store.Check(next))
 		for name, change := range map[string]struct {
 			change func(*hlcstore.Item)
@@ -182,7 +188,7 @@ func TestLengthsOfKeysAndValues(t *testing.T) {
 	equal(t, string(value), longest.Value)
 }
 
-// mixed returns items of one node, of all kinds, the last a retirement; enough for several batches.
+// mixed returns items of one node, of all kinds, the last a retirement; enough for several lists.
 func mixed(many int) []hlcstore.Item {
 	var node hlcstore.Node
 	var items []hlcstore.Item
@@ -191,6 +197,8 @@ func mixed(many int) []hlcstore.Item {
 		switch {
 		case i%100 == 7:
 			item = must(node.Report(uint64(i)))
+		case i%10 == 5:
+			item = must(node.WriteBatch(uint64(i), batchOf(keyOf(i%50), valueOf(i), keyOf(60+i%7), "")))
 		case i%10 == 3:
 			item = must(node.Delete(uint64(i), []byte(keyOf(i%50))))
 		case i%1000 == 0:
@@ -210,7 +218,7 @@ func digestOf(t *testing.T, store *hlcstore.Store) [32]byte {
 	return must(snapshot.Digest(nil, nil))
 }
 
-func TestBatchIsItsItemsInTurn(t *testing.T) {
+func TestListIsItsItemsInTurn(t *testing.T) {
 	items := mixed(5000)
 	alone, together, logged := open(t, 2), open(t, 2), open(t, 2)
 	var log []byte
@@ -233,7 +241,7 @@ func TestBatchIsItsItemsInTurn(t *testing.T) {
 	}
 }
 
-func TestBatchStopsAtARefusal(t *testing.T) {
+func TestListStopsAtARefusal(t *testing.T) {
 	items := mixed(3000)
 	for _, stop := range []int{0, 1, 8, 1023, 1024, 1025, 2999} {
 		store := open(t, 1)

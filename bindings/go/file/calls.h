@@ -91,6 +91,14 @@ static inline file_answer file_append(hlc_file *file, uint16_t node, uint64_t re
     return answer;
 }
 
+static inline file_answer file_write_batch(hlc_file *file, uint16_t node, uint64_t reading, hlc_file_batch *batch,
+                                           uint32_t promise)
+{
+    file_answer answer;
+    answer.code = hlc_file_write_batch(file, node, reading, batch, promise, &answer.word);
+    return answer;
+}
+
 static inline file_answer file_write(hlc_file *file, uint16_t node, uint64_t reading, const uint8_t *key,
                                      size_t key_len, const uint8_t *value, size_t value_len)
 {

@@ -117,6 +117,43 @@ func TestBatchIsThereAfterAReopening(t *testing.T) {
 	}
 }
 
+func TestBatchAtOneStamp(t *testing.T) {
+	path := fresh(t)
+	f := open(t, path, nil)
+	put(t, f, 5, "lake", "old")
+	var batch file.Batch
+	defer batch.Close()
+	is(t, second(f.WriteBatch(0, 10, &batch, file.Default)), hlcstore.ErrNoWrites)
+	for i := 0; i < 257; i++ {
+		ok(t, batch.Put([]byte(fmt.Sprint(i)), nil))
+	}
+	is(t, second(f.WriteBatch(0, 10, &batch, file.Default)), hlcstore.ErrTooManyWrites)
+	batch.Clear()
+	ok(t, batch.Put([]byte("city"), []byte("Lyon")))
+	ok(t, batch.Delete([]byte("lake")))
+	ok(t, batch.Delete([]byte("city")))
+	is(t, second(f.WriteBatch(0, 10, &batch, file.Default)), hlcstore.ErrKeyTwice)
+	equal(t, batch.Len(), 3)
+	batch.Clear()
+	ok(t, batch.Put([]byte("city"), []byte("Lyon")))
+	ok(t, batch.Delete([]byte("lake")))
+	is(t, second(f.WriteBatch(1, 10, &batch, file.Default)), hlcstore.ErrNoNode)
+	equal(t, must(f.WriteBatch(0, 10, &batch, file.Group)), at(10))
+	equal(t, batch.Len(), 0)
+	for i := 0; i < 2; i++ {
+		early, late := must(f.SnapshotAt(at(10)-1)), must(f.SnapshotAt(at(10)))
+		equal(t, string(must(early.Get([]byte("lake"))))+string(must(late.Get([]byte("city")))), "oldLyon")
+		is(t, second(early.Get([]byte("city"))), hlcstore.ErrNoValue)
+		is(t, second(late.Get([]byte("lake"))), hlcstore.ErrNoValue)
+		ok(t, f.Close())
+		f = open(t, path, nil)
+	}
+	equal(t, must(f.Status()).Applied, 2)
+	ok(t, batch.Put([]byte("city"), nil))
+	ok(t, f.Close())
+	is(t, second(f.WriteBatch(0, 10, &batch, file.Default)), hlcstore.ErrClosed)
+}
+
 func TestCheckpointAndVacuum(t *testing.T) {
 	path := fresh(t)
 	f := open(t, path, nil)

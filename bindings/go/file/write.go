@@ -31,6 +31,25 @@ func (f *File) Append(node uint16, reading uint64, batch *Batch, promise Promise
 	return stamped(C.file_append(f.raw, C.uint16_t(node), C.uint64_t(reading), batch.owned.at, C.uint32_t(promise)))
 }
 
+// WriteBatch appends a batch of 1 to 256 different keys as one item of a node, so that all of its writes have one stamp,
+// and returns that; and clears the batch, also where the error is ErrLater. A snapshot, at whatever stamp, shows all of
+// them or none.
+//
+// Refusals: ErrBadOption; ErrNoWrites, ErrTooManyWrites, ErrKeyTwice, ErrNoNode, ErrRetired, ErrNumbersSpent,
+// ErrReadingTooLarge, ErrCounterFull of package hlcstore.
+func (f *File) WriteBatch(node uint16, reading uint64, batch *Batch, promise Promise) (hlcstore.Stamp, error) {
+	if err := batch.allocate(); err != nil {
+		return 0, err
+	}
+	defer runtime.KeepAlive(batch.owned)
+	if err := f.use(); err != nil {
+		return 0, err
+	}
+	defer f.done()
+	return stamped(C.file_write_batch(f.raw, C.uint16_t(node), C.uint64_t(reading), batch.owned.at,
+		C.uint32_t(promise)))
+}
+
 // Write appends one write of a node, as Options.Promise says. It returns its stamp.
 //
 // Refusals: ErrNoNode, ErrRetired, ErrNumbersSpent, ErrBadKey, ErrValueTooLong, ErrReadingTooLarge, ErrCounterFull of
