@@ -5,6 +5,11 @@
 // [Snapshot] opens at or below the floor (closed timestamp) of the store: everything accepted later has a greater
 // stamp, so its answers never change. A vacuum drops what no open snapshot and no later one can read.
 //
+// # Several keys at once
+//
+// A [Batch] is up to 256 writes and deletions of different keys, which a node issues as one item at one stamp: a
+// snapshot shows all of them or none.
+//
 // # Several stores
 //
 // A [Ranges] is several stores that share the keys, by a [Division], and are read at one stamp, a cut. A [Machine]
@@ -14,8 +19,8 @@
 //
 // A store and its snapshots are safe for concurrent use. Calls that only ask run beside each other; a call that changes
 // the store, as one that accepts an item, opens or closes a snapshot or vacuums, runs alone. A call that waits to
-// change the store comes before reads that begin later. A node, a machine and an iterator are for one goroutine at a
-// time.
+// change the store comes before reads that begin later. A node, a machine, a batch and an iterator are for one goroutine
+// at a time.
 //
 // # Bytes
 //
