@@ -377,7 +377,7 @@ static inline hlc_batch hlc_batch_in(uint8_t *buffer, size_t room)
 
 /* Adds a write, or a deletion where there is no value. */
 HLC_CHECKED(1) static inline hlc_answer hlc_inline_batch_put(hlc_batch *batch, const uint8_t *key, size_t key_len,
-                                                                const hlc_bytes *value)
+                                                             const hlc_bytes *value)
 {
     const size_t len = 2 + key_len + (value ? 2 + value->len : 0);
     uint8_t *end;
@@ -403,7 +403,7 @@ HLC_CHECKED(1) static inline hlc_answer hlc_inline_batch_put(hlc_batch *batch, c
 /* Adds a write, or a deletion. Refusals: 12, 13, 29, 104 where it does not fit; then nothing is added. That a key is
  * there twice is refused by hlc_node_write_batch. */
 HLC_CHECKED(1) static inline hlc_answer hlc_batch_write(hlc_batch *batch, const uint8_t *key, size_t key_len,
-                                                           const uint8_t *value, size_t value_len)
+                                                        const uint8_t *value, size_t value_len)
 {
     hlc_bytes bytes;
     bytes.at = value;
