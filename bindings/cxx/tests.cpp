@@ -541,7 +541,7 @@ void decoded_items() {
   }
   rest = string_view(some).substr(0, 9);
   EXPECT(refusal_of([&] { owned_item::decode(rest); }) == HLC_BAD_BYTES && rest.size() == 9);
-  const string cut = some.substr(0, some.size() - 1);
+  const string cut = some.substr(0, encode(first).size() + encode(second).size() - 1);
   hlcstore::log_items::iterator last(cut);
   const owned_item before = *last;
   EXPECT(refusal_of([&] { ++last; }) == HLC_BAD_BYTES && *last == before && last != read.end());
