@@ -4,6 +4,7 @@ use core::ffi::c_void;
 
 pub const HLC_MAX_KEY: u32 = 255;
 pub const HLC_MAX_VALUE: u32 = 65535;
+pub const HLC_MAX_BATCH: u32 = 256;
 pub const HLC_MAX_INITIAL_NODES: u32 = 64;
 pub const HLC_MAX_NODES: u32 = 1024;
 pub const HLC_MAX_OPEN_SNAPSHOTS: u32 = 1024;
@@ -17,6 +18,8 @@ pub const HLC_MAX_CHANGE: u32 = 65807;
 pub const HLC_MAX_READ_ANSWER: u32 = 65544;
 pub const HLC_MAX_ROW: u32 = 65554;
 pub const HLC_MAX_ITEM: u32 = 65814;
+pub const HLC_MAX_BATCH_ITEM: u32 = 16843285;
+pub const HLC_MAX_WRITE: u32 = 65794;
 pub const HLC_JOIN_LEN: u32 = 11;
 pub const HLC_THRESHOLD_LEN: u32 = 9;
 pub const HLC_DIGEST_LEN: u32 = 32;
@@ -42,6 +45,9 @@ pub const HLC_BAD_LINE: u32 = 16;
 pub const HLC_NOT_SHOWN: u32 = 22;
 pub const HLC_TOO_MANY_NODES: u32 = 26;
 pub const HLC_RETIRED: u32 = 27;
+pub const HLC_NO_WRITES: u32 = 28;
+pub const HLC_TOO_MANY_WRITES: u32 = 29;
+pub const HLC_KEY_TWICE: u32 = 30;
 pub const HLC_CLOSED: u32 = 100;
 pub const HLC_IS_OPEN: u32 = 101;
 pub const HLC_NO_VALUE: u32 = 102;
@@ -148,6 +154,16 @@ unsafe extern "C" {
     ) -> u32;
     pub fn hlc_store_accept_report(store: *mut hlc_store, node: u16, number: u64, stamp: u64, word: *mut u64) -> u32;
     pub fn hlc_store_accept_retire(store: *mut hlc_store, node: u16, number: u64, stamp: u64, word: *mut u64) -> u32;
+    pub fn hlc_store_accept_batch(
+        store: *mut hlc_store,
+        node: u16,
+        number: u64,
+        stamp: u64,
+        count: usize,
+        writes: *const u8,
+        writes_len: usize,
+        word: *mut u64,
+    ) -> u32;
     pub fn hlc_store_accept_all(
         store: *mut hlc_store,
         entries: *const hlc_entry,
@@ -364,6 +380,17 @@ unsafe extern "C" {
         out_len: usize,
         len: *mut usize,
     ) -> u32;
+    pub fn hlc_item_encode_batch(
+        node: u16,
+        number: u64,
+        stamp: u64,
+        count: usize,
+        writes: *const u8,
+        writes_len: usize,
+        out: *mut u8,
+        out_len: usize,
+        len: *mut usize,
+    ) -> u32;
     pub fn hlc_item_encode_report(
         node: u16,
         number: u64,
@@ -476,6 +503,15 @@ unsafe extern "C" {
         reading: u64,
         key: *const u8,
         key_len: usize,
+        number: *mut u64,
+        word: *mut u64,
+    ) -> u32;
+    pub fn hlc_node_write_batch(
+        node: *mut hlc_node,
+        reading: u64,
+        count: usize,
+        writes: *const u8,
+        writes_len: usize,
         number: *mut u64,
         word: *mut u64,
     ) -> u32;

@@ -1,4 +1,4 @@
-use crate::RangesError;
+use crate::{RangesError, Writes};
 use std::sync::Arc;
 
 /// How many stores a division has at most.
@@ -69,6 +69,13 @@ impl Division {
             // The remainder is below the number of stores.
             Rule::Hash(stores) => (hash(key) % *stores as u64) as usize,
         }
+    }
+
+    /// The number of the store to which all keys of a batch belong; of one without keys that of the first store.
+    pub(crate) fn store_of_all(&self, writes: Writes<'_>) -> Result<usize, RangesError> {
+        let mut owners = writes.iter().map(|(key, _)| self.store_of(key));
+        let store = owners.next().unwrap_or(0);
+        owners.find(|owner| *owner != store).map_or(Ok(store), |other| Err(RangesError::WrongStore(other)))
     }
 
     /// Whether the stores have the keys in order, each those above the keys of the one before it.

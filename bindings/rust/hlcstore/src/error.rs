@@ -63,6 +63,12 @@ pub enum ErrorKind {
     TooManyNodes,
     /// The node retired.
     Retired,
+    /// A batch has no writes.
+    NoWrites,
+    /// A batch would have more than 256 writes.
+    TooManyWrites,
+    /// A batch writes a key twice.
+    KeyTwice,
     /// The store is closed.
     Closed,
     /// The store is open already.
@@ -132,6 +138,9 @@ impl Error {
             sys::HLC_NOT_SHOWN => ErrorKind::NotShown,
             sys::HLC_TOO_MANY_NODES => ErrorKind::TooManyNodes,
             sys::HLC_RETIRED => ErrorKind::Retired,
+            sys::HLC_NO_WRITES => ErrorKind::NoWrites,
+            sys::HLC_TOO_MANY_WRITES => ErrorKind::TooManyWrites,
+            sys::HLC_KEY_TWICE => ErrorKind::KeyTwice,
             sys::HLC_CLOSED => ErrorKind::Closed,
             sys::HLC_IS_OPEN => ErrorKind::IsOpen,
             sys::HLC_NO_SUCH_NODE => ErrorKind::NoSuchNode,

@@ -105,6 +105,10 @@ impl Handle {
                 Content::Delete { key } => {
                     sys::hlc_store_accept_delete(store, node, number, stamp, key.as_ptr(), key.len(), word)
                 }
+                Content::Batch(writes) => {
+                    let (count, bytes, bytes_len) = (writes.len(), writes.bytes().as_ptr(), writes.bytes().len());
+                    sys::hlc_store_accept_batch(store, node, number, stamp, count, bytes, bytes_len, word)
+                }
                 Content::Report => sys::hlc_store_accept_report(store, node, number, stamp, word),
                 Content::Retire => sys::hlc_store_accept_retire(store, node, number, stamp, word),
             }
@@ -124,10 +128,14 @@ impl Handle {
                 Content::Delete { key } => {
                     sys::hlc_store_check_delete(store, node, number, stamp, key.as_ptr(), key.len(), word)
                 }
-                Content::Report | Content::Retire => sys::hlc_store_check_report(store, node, number, stamp, word),
+                // What follows for a batch needs no store.
+                Content::Batch(_) | Content::Report | Content::Retire => {
+                    sys::hlc_store_check_report(store, node, number, stamp, word)
+                }
             }
         });
-        checked.map(drop)
+        checked?;
+        if let Content::Batch(writes) = content { writes.check() } else { Ok(()) }
     }
 
     pub(crate) fn accept_all(&mut self, items: &[Item<'_>]) -> std::result::Result<(), Stopped> {

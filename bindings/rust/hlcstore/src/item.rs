@@ -1,9 +1,10 @@
+use crate::batch::{Batch, Writes};
 use crate::buffer::{append, reserve};
 use crate::{Error, Result, Stamp};
 use hlcstore_sys as sys;
 
-/// An item that a node issued: a write, a deletion, a report or a retirement, with its number on the node's link and
-/// its stamp.
+/// An item that a node issued: a write, a deletion, a batch of both, a report or a retirement, with its number on the
+/// node's link and its stamp.
 ///
 /// A [`Node`](crate::Node) makes items, and [`Store::accept`](crate::Store::accept) takes them. As bytes they can be
 /// kept in a log, or sent to replicas:
@@ -46,6 +47,8 @@ pub enum Content<'a> {
         /// The key, of 1 to 255 bytes.
         key: &'a [u8],
     },
+    /// Writes of different keys, of which a snapshot shows all or none.
+    Batch(Writes<'a>),
     /// How far the node's stamps are.
     Report,
     /// That this is the node's last item.
@@ -65,6 +68,11 @@ impl<'a> Item<'a> {
     /// Returns a deletion.
     pub fn delete<K: AsRef<[u8]> + ?Sized>(node: u16, number: u64, stamp: Stamp, key: &'a K) -> Item<'a> {
         Item { node, number, stamp, content: Content::Delete { key: key.as_ref() } }
+    }
+
+    /// Returns the item of the writes of a batch.
+    pub fn batch(node: u16, number: u64, stamp: Stamp, batch: &'a Batch) -> Item<'a> {
+        Item { node, number, stamp, content: Content::Batch(batch.as_writes()) }
     }
 
     /// Returns a report.
@@ -106,9 +114,9 @@ impl<'a> Item<'a> {
         OwnedItem { node, number, stamp, content: content.into_owned() }
     }
 
-    /// Returns the item as bytes, at most 65,814. `docs/formats.md` describes them.
+    /// Returns the item as bytes, at most 65,814, and of a batch 16,843,285. `docs/formats.md` describes them.
     ///
-    /// Refusals: `BadKey`, `ValueTooLong`, `NoMemory`.
+    /// Refusals: `BadKey`, `ValueTooLong`; of a batch `NoWrites`, `KeyTwice`; `NoMemory`.
     pub fn encode(self) -> Result<Vec<u8>> {
         let mut bytes = Vec::new();
         self.encode_into(&mut bytes)?;
@@ -138,6 +146,10 @@ impl<'a> Item<'a> {
                 ),
                 Content::Delete { key } => {
                     sys::hlc_item_encode_delete(node, number, stamp, key.as_ptr(), key.len(), out, room, len)
+                }
+                Content::Batch(writes) => {
+                    let (count, bytes) = (writes.len(), writes.bytes());
+                    sys::hlc_item_encode_batch(node, number, stamp, count, bytes.as_ptr(), bytes.len(), out, room, len)
                 }
                 Content::Report => sys::hlc_item_encode_report(node, number, stamp, out, room, len),
                 Content::Retire => sys::hlc_item_encode_retire(node, number, stamp, out, room, len),
@@ -188,24 +200,40 @@ impl<'a> Fields<'a> {
 
     fn content(&mut self) -> Result<Content<'a>> {
         match self.byte()? {
-            0 => self.write(),
+            0 => Ok(match self.write()? {
+                (key, Some(value)) => Content::Write { key, value },
+                (key, None) => Content::Delete { key },
+            }),
             1 => Ok(Content::Report),
             2 => Ok(Content::Retire),
+            3 => self.batch(),
             _ => bad_bytes(NO_KIND),
         }
     }
 
-    fn write(&mut self) -> Result<Content<'a>> {
+    /// One less than the number of writes, and the writes.
+    fn batch(&mut self) -> Result<Content<'a>> {
+        let count = usize::from(self.byte()?) + 1;
+        let bytes = self.rest;
+        for _ in 0..count {
+            self.write()?;
+        }
+        let len = bytes.len() - self.rest.len();
+        Ok(Content::Batch(Writes::of(count, &bytes[..len])))
+    }
+
+    /// A key, and a value or the mark of a deletion.
+    fn write(&mut self) -> Result<(&'a [u8], Option<&'a [u8]>)> {
         let len = self.byte()?;
         if len == 0 {
             return bad_bytes(EMPTY_KEY);
         }
         let key = self.bytes(len.into())?;
         match self.byte()? {
-            0 => Ok(Content::Delete { key }),
+            0 => Ok((key, None)),
             1 => {
                 let len = u16::from_be_bytes(self.array()?);
-                Ok(Content::Write { key, value: self.bytes(len.into())? })
+                Ok((key, Some(self.bytes(len.into())?)))
             }
             _ => bad_bytes(NO_FLAG),
         }
@@ -253,6 +281,8 @@ pub enum OwnedContent {
         /// The key, of 1 to 255 bytes.
         key: Vec<u8>,
     },
+    /// Writes of different keys, of which a snapshot shows all or none.
+    Batch(Batch),
     /// How far the node's stamps are.
     Report,
     /// That this is the node's last item.
@@ -265,6 +295,7 @@ impl OwnedItem {
         let content = match &self.content {
             OwnedContent::Write { key, value } => Content::Write { key, value },
             OwnedContent::Delete { key } => Content::Delete { key },
+            OwnedContent::Batch(batch) => Content::Batch(batch.as_writes()),
             OwnedContent::Report => Content::Report,
             OwnedContent::Retire => Content::Retire,
         };
@@ -289,6 +320,7 @@ impl Content<'_> {
         match self {
             Content::Write { key, value } => OwnedContent::Write { key: key.to_vec(), value: value.to_vec() },
             Content::Delete { key } => OwnedContent::Delete { key: key.to_vec() },
+            Content::Batch(writes) => OwnedContent::Batch(writes.into_owned()),
             Content::Report => OwnedContent::Report,
             Content::Retire => OwnedContent::Retire,
         }
@@ -300,6 +332,7 @@ impl Content<'_> {
         match self {
             Content::Write { key, value } => WITHOUT_BYTES + key.len() + value.len(),
             Content::Delete { key } => WITHOUT_BYTES + key.len(),
+            Content::Batch(writes) => WITHOUT_BYTES + writes.bytes().len(),
             Content::Report | Content::Retire => WITHOUT_BYTES,
         }
     }

@@ -1,9 +1,10 @@
 //! A proved in-memory multi-version store that several nodes feed, and the nodes' clocks.
 //!
-//! Nodes issue [`Item`]s: writes, deletions and reports, each with a [`Stamp`] of a hybrid logical clock. A store
-//! accepts them in any order of the nodes. Its floor (closed timestamp) is the stamp up to which all items are there. A
-//! [`Snapshot`] reads the store as it was at a stamp, and returns the same answers whatever is accepted later. A vacuum
-//! drops the rows that no snapshot needs, and a certificate shows that those which are left are the fewest and cheapest.
+//! Nodes issue [`Item`]s: writes, deletions, batches of both and reports, each with a [`Stamp`] of a hybrid logical
+//! clock. A store accepts them in any order of the nodes. Its floor (closed timestamp) is the stamp up to which all
+//! items are there. A [`Snapshot`] reads the store as it was at a stamp, and returns the same answers whatever is
+//! accepted later; of a [`Batch`] it shows all writes or none. A vacuum drops the rows that no snapshot needs, and a
+//! certificate shows that those which are left are the fewest and cheapest.
 //!
 //! ```
 //! use hlcstore::{Node, Stamp, Store};
@@ -40,6 +41,7 @@
 //! The crate links with the C library; `hlcstore-sys` says how it is found. `docs/` of its repository describes what is
 //! proved, and the formats of items, checkpoints, increments and certificates.
 
+mod batch;
 mod buffer;
 mod division;
 mod error;
@@ -64,6 +66,7 @@ mod store;
 mod vacuum;
 mod version;
 
+pub use batch::{Batch, Writes, WritesIter};
 pub use division::Division;
 pub use error::{Error, ErrorKind, Result, Stopped, error_name, error_text};
 pub use item::{Content, Item, OwnedContent, OwnedItem};

@@ -1,4 +1,4 @@
-use crate::{Division, Error, Item, Link, Node, RangesError, Result, Stamp};
+use crate::{Batch, Division, Error, Item, Link, Node, RangesError, Result, Stamp};
 
 /// A machine that feeds the stores of a [`Division`]: one clock, and a node in each store, with numbers of its own. All
 /// its nodes have the machine's number. It is a plain value, apart from any store. Of two copies only one may go on.
@@ -121,6 +121,34 @@ impl Machine {
         let key = key.as_ref();
         let store = self.division.store_of(key);
         Ok((store, self.issue(store, |node| node.delete(reading, key))?))
+    }
+
+    /// Issues one item of the writes of a batch at this reading, whose keys are all of one store. Returns it, with the
+    /// number of its store.
+    ///
+    /// Refusals: `WrongStore`, with the store of the first key that is not of the store of the first one; those of
+    /// [`Node::write_batch`].
+    ///
+    /// ```
+    /// use hlcstore::{Batch, Division, Machine, RangesError, Stamp};
+    ///
+    /// let mut machine = Machine::new(&Division::by_keys(&["m"])?, 0);
+    /// let mut batch = Batch::new();
+    /// batch.write("pear", "green")?;
+    /// batch.write("plum", "blue")?;
+    /// assert_eq!(machine.write_batch(5, &batch)?.0, 1);
+    /// batch.delete("apple")?;
+    /// assert_eq!(machine.write_batch(6, &batch), Err(RangesError::WrongStore(0)));
+    /// assert_eq!(machine.last(), Stamp::new(5, 0));
+    /// # Ok::<(), RangesError>(())
+    /// ```
+    pub fn write_batch<'a>(
+        &mut self,
+        reading: u64,
+        batch: &'a Batch,
+    ) -> std::result::Result<(usize, Item<'a>), RangesError> {
+        let store = self.division.store_of_all(batch.as_writes())?;
+        Ok((store, self.issue(store, |node| node.write_batch(reading, batch))?))
     }
 
     /// Issues a report for each store at this reading, which lets their floors rise. Returns them, each with the number

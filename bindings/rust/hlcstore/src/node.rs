@@ -1,5 +1,5 @@
 use crate::error::answer;
-use crate::{Content, Item, Link, Result, Stamp};
+use crate::{Batch, Content, Item, Link, Result, Stamp};
 use hlcstore_sys as sys;
 
 /// A node: its clock, and the numbers of its items. It is a plain value, apart from any store. Of two copies only one
@@ -97,6 +97,31 @@ impl Node {
         // SAFETY: the key has this length.
         self.issue(Content::Delete { key }, |node, number, word| unsafe {
             sys::hlc_node_delete(node, reading, key.as_ptr(), key.len(), number, word)
+        })
+    }
+
+    /// Issues one item of the writes of a batch at this reading: a snapshot shows all of them or none.
+    ///
+    /// Refusals, in this order: `Retired`, `NoWrites`, `KeyTwice`, `NumbersSpent`, `ReadingTooLarge`, `CounterFull`.
+    ///
+    /// ```
+    /// use hlcstore::{Batch, Node, Stamp, Store};
+    ///
+    /// let store = Store::open(1)?;
+    /// let mut node = Node::new(0, Stamp::ZERO);
+    /// let mut batch = Batch::new();
+    /// batch.write("city", "Lyon")?;
+    /// batch.write("river", "Rhone")?;
+    /// store.accept(node.write_batch(5, &batch)?)?;
+    /// assert_eq!((node.next_number(), store.rows()?), (1, 2));
+    /// # Ok::<(), hlcstore::Error>(())
+    /// ```
+    pub fn write_batch<'a>(&mut self, reading: u64, batch: &'a Batch) -> Result<Item<'a>> {
+        let writes = batch.as_writes();
+        let (count, bytes) = (writes.len(), writes.bytes());
+        // SAFETY: the bytes have this length.
+        self.issue(Content::Batch(writes), |node, number, word| unsafe {
+            sys::hlc_node_write_batch(node, reading, count, bytes.as_ptr(), bytes.len(), number, word)
         })
     }
 

@@ -1,7 +1,7 @@
 use crate::handle::Handle;
 use crate::{
-    Content, Division, Error, ErrorKind, Item, Link, Machine, Node, RangesError, RangesSnapshot, Result as StoreResult,
-    SharedStore, Stamp, Vacuumed,
+    Batch, Content, Division, Error, ErrorKind, Item, Link, Machine, Node, RangesError, RangesSnapshot,
+    Result as StoreResult, SharedStore, Stamp, Vacuumed,
 };
 use std::ops::DerefMut;
 use std::sync::Arc;
@@ -120,19 +120,14 @@ impl Ranges {
         self.least(SharedStore::floor)
     }
 
-    /// Accepts an item in the store with this number, if its key belongs there and it is the next one of its node. A
+    /// Accepts an item in the store with this number, if its keys belong there and it is the next one of its node. A
     /// report or a retirement belongs to the store for which it was issued, which is not checked.
     ///
     /// Refusals, in this order: `NoStore`; `WrongStore`; of the store those of
     /// [`Store::accept`](crate::Store::accept).
     pub fn accept(&self, store: usize, item: Item<'_>) -> Result<()> {
         let accepting = self.store(store)?;
-        if let Content::Write { key, .. } | Content::Delete { key } = item.content {
-            let owner = self.store_of(key);
-            if owner != store {
-                return Err(RangesError::WrongStore(owner));
-            }
-        }
+        self.check_owner(store, item.content)?;
         accepting.accept(item).map_err(RangesError::of_store(store))
     }
 
@@ -153,6 +148,27 @@ impl Ranges {
     pub fn delete<K: AsRef<[u8]> + ?Sized>(&self, machine: &mut Machine, reading: u64, key: &K) -> Result<Stamp> {
         let key = key.as_ref();
         self.issue(machine, machine.division().store_of(key), |node| node.delete(reading, key))
+    }
+
+    /// Lets a machine issue the writes of a batch, whose keys are all of one store, and accepts them, as
+    /// [`write`](Ranges::write) does: a snapshot shows all of them or none. Returns their stamp.
+    ///
+    /// Refusals: those of [`Machine::write_batch`] and of [`accept`](Ranges::accept).
+    ///
+    /// ```
+    /// use hlcstore::{Batch, Division, Ranges, Stamp};
+    ///
+    /// let ranges = Ranges::open(&Division::by_keys(&["m"])?, 1)?;
+    /// let mut machine = ranges.machine(0, Stamp::ZERO)?;
+    /// let mut batch = Batch::new();
+    /// batch.write("pear", "green")?;
+    /// batch.delete("plum")?;
+    /// assert_eq!(ranges.write_batch(&mut machine, 5, &batch)?, Stamp::new(5, 0));
+    /// # Ok::<(), hlcstore::RangesError>(())
+    /// ```
+    pub fn write_batch(&self, machine: &mut Machine, reading: u64, batch: &Batch) -> Result<Stamp> {
+        let store = machine.division().store_of_all(batch.as_writes())?;
+        self.issue(machine, store, |node| node.write_batch(reading, batch))
     }
 
     /// Lets a machine report to every store from which it did not retire.
@@ -276,6 +292,17 @@ impl Ranges {
             }
         }
         Ok(())
+    }
+
+    /// Checks that the keys of an item belong to a store.
+    fn check_owner(&self, store: usize, content: Content<'_>) -> Result<()> {
+        let is_other = |key: &[u8]| Some(self.store_of(key)).filter(|owner| *owner != store);
+        let other = match content {
+            Content::Write { key, .. } | Content::Delete { key } => is_other(key),
+            Content::Batch(writes) => writes.iter().find_map(|(key, _)| is_other(key)),
+            Content::Report | Content::Retire => None,
+        };
+        other.map_or(Ok(()), |owner| Err(RangesError::WrongStore(owner)))
     }
 
     fn store(&self, store: usize) -> Result<&SharedStore> {

@@ -166,7 +166,7 @@ impl SharedStore {
         self.read().check(item)
     }
 
-    /// Accepts a batch of items, as [`Store::accept_all`] does. The store is locked once for all of them.
+    /// Accepts items in turn, as [`Store::accept_all`] does. The store is locked once for all of them.
     pub fn accept_all(&self, items: &[Item<'_>]) -> std::result::Result<(), Stopped> {
         self.write().accept_all(items)
     }

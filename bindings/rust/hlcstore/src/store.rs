@@ -104,8 +104,8 @@ impl Store {
 
     /// Accepts an item, if it is the next one of its node.
     ///
-    /// Refusals, in this order: `NoNode`, `Retired`, `NotNext`, `NumbersSpent`, `StampNotRising`, `BadKey`,
-    /// `ValueTooLong`, `NoMemory`.
+    /// Refusals, in this order: `NoNode`, `Retired`, `NotNext`, `NumbersSpent`, `StampNotRising`; `BadKey`,
+    /// `ValueTooLong`; of a batch `NoWrites`, `KeyTwice`; `NoMemory`.
     pub fn accept(&self, item: Item<'_>) -> Result<()> {
         self.write().accept(item)
     }
@@ -115,7 +115,7 @@ impl Store {
         self.read().check(item)
     }
 
-    /// Accepts a batch of items in turn, as [`accept`](Store::accept) does, until one is refused. Those before it stay
+    /// Accepts items in turn, as [`accept`](Store::accept) does, until one is refused. Those before it stay
     /// accepted.
     pub fn accept_all(&self, items: &[Item<'_>]) -> std::result::Result<(), Stopped> {
         self.write().accept_all(items)
@@ -126,7 +126,7 @@ impl Store {
     /// items were accepted or passed over.
     ///
     /// Refusals, of each item in this order: `BadBytes`, where 1 is the word if the bytes end within the item;
-    /// `NoNode`, `Retired`, `NotNext`, `NumbersSpent`, `StampNotRising`, `NoMemory`.
+    /// `NoNode`, `Retired`, `NotNext`, `NumbersSpent`, `StampNotRising`; of a batch `KeyTwice`; `NoMemory`.
     pub fn accept_items(&self, log: &[u8]) -> std::result::Result<usize, Stopped> {
         self.write().accept_items(log)
     }

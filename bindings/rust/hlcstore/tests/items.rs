@@ -1,6 +1,15 @@
 //! Items as bytes, and items that own their bytes.
 
-use hlcstore::{ErrorKind, Item, OwnedItem, Record, Stamp, Store};
+use hlcstore::{Batch, ErrorKind, Item, OwnedItem, Record, Stamp, Store};
+use std::sync::LazyLock;
+
+static BATCH: LazyLock<Batch> = LazyLock::new(|| {
+    let mut batch = Batch::new();
+    batch.write("city", "Rome").unwrap();
+    batch.delete("a").unwrap();
+    batch.write("b", "").unwrap();
+    batch
+});
 
 fn items() -> Vec<Item<'static>> {
     const LONG_KEY: &[u8] = &[7; 255];
@@ -12,7 +21,8 @@ fn items() -> Vec<Item<'static>> {
         Item::write(0, 2, at(2), LONG_KEY, LONG_VALUE),
         Item::delete(0, 3, at(3), b"city"),
         Item::report(0, 4, at(4)),
-        Item::retire(0, 5, Stamp::MAX),
+        Item::batch(0, 5, at(5), &BATCH),
+        Item::retire(0, 6, Stamp::MAX),
     ]
 }
 
@@ -40,7 +50,11 @@ fn compare(bytes: &[u8]) {
     match Item::decode(bytes) {
         Ok((item, rest)) => {
             let used = bytes.len() - rest.len();
-            assert_eq!(item.encode().unwrap(), &bytes[..used]);
+            match item.encode() {
+                Ok(encoded) => assert_eq!(encoded, &bytes[..used]),
+                // It has writes that no item may have.
+                Err(error) => assert_eq!(error.kind(), ErrorKind::KeyTwice),
+            }
             assert!(
                 theirs.is_ok() || theirs.is_err_and(|error| error.kind() != ErrorKind::BadBytes || !rest.is_empty())
             );
@@ -56,8 +70,8 @@ fn bad_bytes_have_the_fault_that_the_library_finds() {
         for len in (1..bytes.len()).filter(|len| len % 997 == 0 || *len < 300) {
             compare(&bytes[..len]);
         }
-        for place in 0..bytes.len().min(30) {
-            for changed in [0, 1, 2, 3, 4, 5, 254, 255] {
+        for place in 0..bytes.len().min(50) {
+            for changed in [0, 1, 2, 3, 4, 5, b'a', b'b', 254, 255] {
                 let mut bytes = bytes.clone();
                 bytes[place] = changed;
                 compare(&bytes);

@@ -1,7 +1,7 @@
 //! Each decision of a key space over several stores, on its own.
 
 use hlcstore::{
-    Division, ErrorKind, Item, Link, Machine, Ranges, RangesError, RangesSnapshot, SharedStore, Stamp, Store,
+    Batch, Division, ErrorKind, Item, Link, Machine, Ranges, RangesError, RangesSnapshot, SharedStore, Stamp, Store,
 };
 use std::io::{self, Write};
 use std::panic::{AssertUnwindSafe, catch_unwind};
@@ -27,6 +27,14 @@ fn opened(division: &Division, machines: u16) -> (Ranges, Vec<Machine>) {
 fn refusal<T: std::fmt::Debug>(result: Result<T, RangesError>) -> (usize, ErrorKind) {
     match result.unwrap_err() {
         RangesError::Store { store, error } => (store, error.kind()),
+        error => panic!("{error}"),
+    }
+}
+
+/// The kind of the refusal of a machine.
+fn refused<T: std::fmt::Debug>(result: Result<T, RangesError>) -> ErrorKind {
+    match result.unwrap_err() {
+        RangesError::Refused(error) => error.kind(),
         error => panic!("{error}"),
     }
 }
@@ -86,6 +94,44 @@ fn item_of_another_store_is_refused() {
     assert_eq!(ranges.accept(1, Item::report(0, 0, at(5))), Ok(()));
     assert_eq!(refusal(ranges.accept(0, apple)), (0, ErrorKind::NotNext));
     assert_eq!(ranges.rows(), Ok(2));
+}
+
+/// A batch of writes, each of a key with itself as its value.
+fn batch(keys: &[&str]) -> Batch {
+    let mut batch = Batch::new();
+    keys.iter().for_each(|key| batch.write(key, key).unwrap());
+    batch
+}
+
+#[test]
+fn batch_is_of_one_store() {
+    let (ranges, mut machines) = opened(&by_keys(), 1);
+    let (before, machine) = (machines[0].clone(), &mut machines[0]);
+    for (keys, owner) in [(["h", "m", "n"], 2), (["h", "m", "a"], 0), (["a", "t", "n"], 3)] {
+        assert_eq!(machine.write_batch(5, &batch(&keys)), Err(RangesError::WrongStore(owner)));
+        assert_eq!(ranges.write_batch(machine, 5, &batch(&keys)), Err(RangesError::WrongStore(owner)));
+    }
+    assert_eq!(refused(machine.write_batch(5, &batch(&["h", "h"]))), ErrorKind::KeyTwice);
+    assert_eq!(refused(ranges.write_batch(machine, 5, &Batch::new())), ErrorKind::NoWrites);
+    assert_eq!((&*machine, ranges.rows()), (&before, Ok(0)));
+
+    let middle = batch(&["m", "h", "mm"]);
+    let (store, item) = machine.write_batch(5, &middle).unwrap();
+    assert_eq!((store, item), (1, Item::batch(0, 0, at(5), &middle)));
+    assert_eq!(ranges.accept(2, item), Err(RangesError::WrongStore(1)));
+    let other = batch(&["h", "z"]);
+    assert_eq!(ranges.accept(1, Item::batch(0, 0, at(5), &other)), Err(RangesError::WrongStore(3)));
+    assert_eq!((ranges.accept(1, item), ranges.rows()), (Ok(()), Ok(3)));
+    assert_eq!(ranges.write_batch(machine, 5, &batch(&["z", "x"])), Ok(Stamp::new(5, 1)));
+    ranges.report_all(machine, 6).unwrap();
+    let keys: Vec<_> = pairs(&ranges.snapshot().unwrap()).into_iter().map(|pair| pair.0).collect();
+    assert_eq!(keys, ["h", "m", "mm", "x", "z"]);
+
+    // A batch that the store refuses is issued again with the same number.
+    ranges.stores()[3].accept(Item::report(0, 2, at(7))).unwrap();
+    let (before, late) = (machine.next_numbers().collect::<Vec<_>>(), batch(&["z", "x"]));
+    assert_eq!(refusal(ranges.write_batch(machine, 8, &late)), (3, ErrorKind::NotNext));
+    assert_eq!(machine.next_numbers().collect::<Vec<_>>(), before);
 }
 
 #[test]

@@ -1,9 +1,12 @@
-//! Threads at random beside a model: machines with messages, whose items are on their way to each store for a time;
-//! readers at the cut; and vacuums. Each snapshot has the newest write of each key that was issued at or below its
-//! stamp, for whatever store, and keeps it.
+//! Threads at random beside a model: machines with messages, whose items, also batches, are on their way to each store
+//! for a time; readers at the cut; and vacuums. Each snapshot has the newest write of each key that was issued at or
+//! below its stamp, for whatever store, and keeps it.
 
-use hlcstore::{Division, Item, Machine, OwnedContent, OwnedItem, Ranges, RangesSnapshot, Stamp};
-use std::collections::{BTreeMap, VecDeque};
+mod random;
+
+use hlcstore::{Batch, Content, Division, Item, Machine, OwnedItem, Ranges, RangesSnapshot, Stamp};
+use random::Random;
+use std::collections::{BTreeMap, BTreeSet, VecDeque};
 use std::sync::Mutex;
 use std::sync::atomic::{AtomicUsize, Ordering};
 use std::sync::mpsc::{self, Receiver, Sender};
@@ -13,25 +16,9 @@ use std::time::{Duration, Instant};
 const EVENTS: usize = 1_000;
 const KEYS: u64 = 40;
 
-/// Numbers at random, from a seed.
-struct Random(u64);
-
-impl Random {
-    fn new(seed: u64) -> Random {
-        Random((seed + 1).wrapping_mul(0x9e37_79b9_7f4a_7c15))
-    }
-
-    fn below(&mut self, end: u64) -> u64 {
-        self.0 ^= self.0 << 13;
-        self.0 ^= self.0 >> 7;
-        self.0 ^= self.0 << 17;
-        self.0 % end
-    }
-
-    fn key(&mut self) -> Vec<u8> {
-        let letter = b'a' + self.below(26) as u8;
-        vec![letter; 1 + self.below(KEYS / 26 + 1) as usize]
-    }
+fn key_of(random: &mut Random) -> Vec<u8> {
+    let letter = b'a' + random.below(26) as u8;
+    vec![letter; 1 + random.below(KEYS / 26 + 1) as usize]
 }
 
 type Write = (Stamp, u16, Option<Vec<u8>>);
@@ -55,14 +42,18 @@ impl Model {
         Model(Mutex::new(Issued { of_machines: vec![Vec::new(); machines.into()], ..Issued::default() }))
     }
 
-    fn add(&self, item: &OwnedItem, known: &mut Known) {
-        let (key, value) = match &item.content {
-            OwnedContent::Write { key, value } => (key.clone(), Some(value.clone())),
-            OwnedContent::Delete { key } => (key.clone(), None),
-            OwnedContent::Report | OwnedContent::Retire => return,
+    fn add(&self, item: Item<'_>, known: &mut Known) {
+        let writes = match item.content {
+            Content::Write { key, value } => vec![(key, Some(value))],
+            Content::Delete { key } => vec![(key, None)],
+            Content::Batch(writes) => writes.iter().collect(),
+            Content::Report | Content::Retire => return,
         };
         let mut issued = self.0.lock().unwrap();
-        issued.of_keys.entry(key).or_default().push((item.stamp, item.node, value));
+        for (key, value) in writes {
+            let value = value.map(<[u8]>::to_vec);
+            issued.of_keys.entry(key.into()).or_default().push((item.stamp, item.node, value));
+        }
         issued.of_machines[usize::from(item.node)].push((item.stamp, known.clone()));
         known[usize::from(item.node)] += 1;
     }
@@ -106,9 +97,26 @@ struct Feed<'a> {
 
 impl Feed<'_> {
     fn add(&mut self, (store, item): (usize, Item<'_>)) {
-        let item = item.into_owned();
-        self.model.add(&item, &mut self.known);
-        self.queues[store].push_back(item);
+        self.model.add(item, &mut self.known);
+        self.queues[store].push_back(item.into_owned());
+    }
+
+    /// A batch of a key, and of others of its store.
+    fn batch(&mut self, key: &[u8], event: usize) -> Batch {
+        let (mut batch, mut keys) = (Batch::new(), BTreeSet::from([key.to_vec()]));
+        for _ in 0..self.random.below(8) {
+            let other = key_of(&mut self.random);
+            if self.ranges.store_of(&other) == self.ranges.store_of(key) {
+                keys.insert(other);
+            }
+        }
+        for key in keys {
+            match self.random.below(4) {
+                0 => batch.delete(key).unwrap(),
+                _ => batch.write(&key, [&key[..], &event.to_be_bytes()].concat()).unwrap(),
+            }
+        }
+        batch
     }
 
     fn deliver(&mut self, store: usize, most: usize) {
@@ -125,9 +133,14 @@ impl Feed<'_> {
     /// Makes an event at random. The readings of machines differ, and stop at times.
     fn step(&mut self, event: usize) {
         let reading = (event / 7 + 10 * usize::from(self.machine.id() % 2)) as u64;
-        let key = self.random.key();
+        let key = key_of(&mut self.random);
         match self.random.below(12) {
-            0..5 => {
+            0..3 => {
+                let batch = self.batch(&key, event);
+                let item = self.machine.write_batch(reading, &batch).unwrap();
+                self.add(item);
+            }
+            3..5 => {
                 let value = [&key[..], &event.to_be_bytes()].concat();
                 let item = self.machine.write(reading, &key, &value).unwrap();
                 self.add(item);
@@ -199,11 +212,11 @@ impl Drop for Ended<'_> {
 fn check(snapshot: &RangesSnapshot, model: &Model, random: &mut Random) {
     let expected = model.at(snapshot.stamp());
     assert!(snapshot.iter().map(Result::unwrap).eq(expected.iter().cloned()), "at {}", snapshot.stamp());
-    let (from, to) = (random.key(), random.key());
+    let (from, to) = (key_of(random), key_of(random));
     let within: Vec<_> = expected.iter().filter(|(key, _)| (&from..&to).contains(&key)).cloned().collect();
     assert!(snapshot.range(&from..&to).map(Result::unwrap).eq(within.iter().cloned()));
     assert_eq!(snapshot.count(from..to), Ok(within.len() as u64));
-    let key = random.key();
+    let key = key_of(random);
     let value = expected.iter().find(|pair| pair.0 == key).map(|pair| &pair.1);
     assert_eq!(snapshot.get(&key).unwrap().as_ref(), value);
 }

@@ -1,7 +1,8 @@
 //! Each request of the crate for memory is refused in its turn, by the allocator of this program. An iterator returns
 //! the error once, and then none.
 
-use hlcstore::{Error, ErrorKind, Item, Node, Stamp, Store, apply_increment, merge_checkpoints, split_checkpoint};
+use hlcstore::{Batch, Error, ErrorKind, Item, Node, Stamp, Store};
+use hlcstore::{apply_increment, merge_checkpoints, split_checkpoint};
 use std::alloc::{GlobalAlloc, Layout, System};
 use std::cell::Cell;
 use std::fmt::Debug;
@@ -162,4 +163,38 @@ fn log_is_as_it_was_after_a_refusal() {
         let added = if was_refused { &[] } else { &encoded[..] };
         assert_eq!(log, [&b"log"[..], added].concat());
     });
+}
+
+#[test]
+fn batch_is_as_it_was_after_a_refusal() {
+    let value = [b'v'; 500];
+    let build = || {
+        let mut batch = Batch::new();
+        let mut refused = 0;
+        for key in ["a", "b", "c", "d", "e"] {
+            let before = (batch.len(), batch.iter().count());
+            if let Err(error) = batch.write(key, value) {
+                refused += 1;
+                assert_eq!((error.kind(), before), (ErrorKind::NoMemory, (batch.len(), batch.iter().count())));
+            }
+        }
+        (refused, batch)
+    };
+    refuse_each(build, |(refused, batch), was_refused| {
+        assert_eq!(refused, usize::from(was_refused));
+        assert_eq!(batch.len(), 5 - refused);
+        assert!(batch.iter().all(|(key, written)| key.len() == 1 && written == Some(&value[..])));
+    });
+    let (_, batch) = build();
+    let item = Item::batch(0, 0, Stamp::new(1, 0), &batch);
+    let encoded = item.encode().unwrap();
+    refuse_each(
+        || item.encode(),
+        |bytes, was_refused| {
+            assert_eq!(
+                bytes.map_err(Error::kind),
+                if was_refused { Err(ErrorKind::NoMemory) } else { Ok(encoded.clone()) }
+            );
+        },
+    );
 }

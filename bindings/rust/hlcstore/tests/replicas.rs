@@ -1,9 +1,9 @@
 //! Replicas: a log of items as bytes, checkpoints, and nodes after a restart.
 
-use hlcstore::{Applied, Content, ErrorKind, Item, Node, Record, Result, Stamp, Stopped, Store};
+use hlcstore::{Applied, Batch, Content, ErrorKind, Item, Node, Record, Result, Stamp, Stopped, Store};
 use hlcstore::{apply_increment, merge_checkpoints, split_checkpoint};
 
-/// Appends the items of two nodes to a log: writes, deletions, reports and, at the end, a retirement.
+/// Appends the items of two nodes to a log: writes, deletions, batches, reports and, at the end, a retirement.
 fn make_log() -> Result<Vec<u8>> {
     let mut log = Vec::new();
     let (mut one, mut two) = (Node::new(0, Stamp::ZERO), Node::new(1, Stamp::ZERO));
@@ -13,6 +13,13 @@ fn make_log() -> Result<Vec<u8>> {
         match reading % 3 {
             0 => two.delete(reading, key.as_bytes())?.encode_into(&mut log)?,
             1 => two.report(reading)?.encode_into(&mut log)?,
+            _ if reading % 4 == 0 => {
+                let mut batch = Batch::new();
+                batch.write("key of two", &value)?;
+                batch.write(format!("key {}", reading % 5), &value)?;
+                batch.delete(format!("key {}", 5 + reading % 11))?;
+                two.write_batch(reading, &batch)?.encode_into(&mut log)?;
+            }
             _ => two.write(reading, b"key of two", value.as_bytes())?.encode_into(&mut log)?,
         }
     }
@@ -114,16 +121,36 @@ fn checkpoint_becomes_a_newer_one_by_increments() {
     assert!(lengths.is_sorted());
 }
 
-/// Accepts the items of a log: those of keys of a part as they are, and the others as reports, but for a retirement.
+/// The writes of an item that are of keys of a part.
+fn part_of(content: Content<'_>, has: impl Fn(&[u8]) -> bool) -> Batch {
+    let mut part = Batch::new();
+    let mut add = |key: &[u8], value: Option<&[u8]>| match value.filter(|_| has(key)) {
+        Some(value) => part.write(key, value).unwrap(),
+        None if has(key) => part.delete(key).unwrap(),
+        None => (),
+    };
+    match content {
+        Content::Write { key, value } => add(key, Some(value)),
+        Content::Delete { key } => add(key, None),
+        Content::Batch(writes) => writes.iter().for_each(|(key, value)| add(key, value)),
+        Content::Report | Content::Retire => (),
+    }
+    part
+}
+
+/// Accepts the items of a log: of each its writes of keys of a part, and where there are none a report, but for a
+/// retirement.
 fn accept_part(store: &Store, mut log: &[u8], has: impl Fn(&[u8]) -> bool) {
     while !log.is_empty() {
         let (item, rest) = Item::decode(log).unwrap();
-        let is_other = match item.content {
-            Content::Write { key, .. } | Content::Delete { key } => !has(key),
-            Content::Report | Content::Retire => false,
-        };
-        let report = Item::report(item.node, item.number, item.stamp);
-        store.accept(if is_other { report } else { item }).unwrap();
+        let (part, Item { node, number, stamp, content }) = (part_of(item.content, &has), item);
+        store
+            .accept(match content {
+                Content::Retire => item,
+                _ if part.is_empty() => Item::report(node, number, stamp),
+                _ => Item::batch(node, number, stamp, &part),
+            })
+            .unwrap();
         log = rest;
     }
 }

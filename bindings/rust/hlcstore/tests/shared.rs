@@ -1,6 +1,6 @@
 //! A shared store has the calls of a store, and returns the same.
 
-use hlcstore::{Item, Node, SharedStore, Stamp, Store};
+use hlcstore::{Batch, Item, Node, SharedStore, Stamp, Store};
 use std::sync::mpsc;
 use std::thread;
 use std::time::Duration;
@@ -19,6 +19,11 @@ macro_rules! answers {
             add(&store.check(item));
             add(&store.accept(item));
         }
+        let mut batch = Batch::new();
+        batch.write(b"lake", b"Como").unwrap();
+        batch.delete(b"river").unwrap();
+        let item = node.write_batch(10, &batch).unwrap();
+        add(&(store.check(item), store.accept(item), store.check(item), store.accept(item)));
         let items = [node.delete(10, b"lake").unwrap(), node.report(11).unwrap()];
         add(&store.accept_all(&items));
         add(&store.accept_all(&items));
