@@ -87,7 +87,8 @@ class Items(unittest.TestCase):
     def each_kind(self):
         key, value = b"k" * 255, bytes(65535)
         items = [Item.write(0, 0, 1, b"a", b"x"), Item.write(0, 1, 2, key, value), Item.write(0, 2, 3, b"b", b"")]
-        return [*items, Item.delete(0, 3, 4, key), Item.report(0, 4, 5), Item.retire(0, 5, 2**64 - 1)]
+        items += [Item.delete(0, 3, 4, key), Item.report(0, 4, 5), Item.batch(0, 5, 6, [(key, value), (b"b", None)])]
+        return [*items, Item.retire(0, 6, 2**64 - 1)]
 
     def test_bad_bytes_have_the_fault_that_the_library_finds(self):
         for item in self.each_kind():
@@ -699,7 +700,7 @@ class Arguments(unittest.TestCase):
         self.assertEqual((store.link(0), store.nodes, node.last, node.next), (Link(0, 0, False), 1, 0, 0))
 
     def test_classes_are_final(self):
-        for kind in Store, Node, Item, hlcstore.Snapshot:
+        for kind in Store, Node, Item, hlcstore.Batch, hlcstore.Snapshot:
             with self.assertRaises(TypeError):
                 type("Sub", (kind,), {})
             with self.assertRaises(TypeError):

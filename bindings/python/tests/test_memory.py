@@ -9,7 +9,7 @@ import tracemalloc
 import unittest
 
 import hlcstore
-from hlcstore import Error, Item, Node, Store, stamp
+from hlcstore import Batch, Error, Item, Node, Store, stamp
 
 KEY, VALUE = b"a key of many", b"a value " * 300
 LONG_KEY = b"a long key " * 20
@@ -23,6 +23,41 @@ def refuse(kind, call, *args):
     except kind:
         return
     raise AssertionError(f"{call} was not refused")
+
+
+def use_batches():
+    """Makes each call of a batch."""
+    store, node, batch = Store(1), Node(0), Batch([(KEY, VALUE), (bytearray(LONG_KEY), None)])
+    refuse(hlcstore.BadKey, batch.write, b"", VALUE)
+    refuse(hlcstore.ValueTooLong, batch.write, b"other", TOO_LONG)
+    refuse(TypeError, batch.write, b"other", "text")
+    refuse(TypeError, batch.delete, "text")
+    refuse(TypeError, Batch, [(KEY, VALUE), (KEY, "text")])
+    refuse(TypeError, Batch, [(KEY, VALUE), KEY])
+    refuse(TypeError, node.write_batch, 1, [(KEY, VALUE), None])
+    refuse(hlcstore.KeyTwice, node.write_batch, 1, [(KEY, VALUE), (KEY, None)])
+    item = node.write_batch(1, batch)
+    repr(batch), repr(item), batch.writes, item.writes, len(batch), hash(item), item == Item.batch(0, 0, 2, batch)
+    with node.batch(2) as block:
+        block[KEY] = memoryview(VALUE)
+        del block[LONG_KEY]
+    refuse(ZeroDivisionError, fail_in_block, node)
+    refuse(hlcstore.NoWrites, node.batch(3).__exit__, None, None, None)
+    refuse(ValueError, block.write, KEY, VALUE)
+    refuse(TypeError, batch.__enter__)
+    store.check_item(item), store.accept(item), store.accept(block.item)
+    store.check_batch(0, 2, stamp(9), batch), store.accept_batch(0, 2, stamp(9), [(KEY, VALUE)])
+    refuse(hlcstore.NotNext, store.accept_batch, 0, 2, stamp(9), batch)
+    refuse(hlcstore.KeyTwice, bytes, Item.batch(0, 0, 1, [(KEY, None)] * 2))
+    refuse(hlcstore.BadBytes, Item.decode, bytes(item)[:-1])
+    Item.decode(bytes(item)), pickle.loads(pickle.dumps(item)), item.__reduce__()
+    batch.clear()
+
+
+def fail_in_block(node):
+    with node.batch(3) as block:
+        block[KEY] = VALUE
+        1 // 0
 
 
 def feed(store, node):
@@ -158,6 +193,7 @@ def play():
     with Store(1).snapshot() as apart, Store(1).snapshot() as other:
         refuse(hlcstore.NoSnapshot, apart.changes, other, KEY)
     change()
+    use_batches()
     Store(1)
     refuse(hlcstore.BadNodeCount, Store, 0)
 
@@ -195,6 +231,7 @@ class Memory(unittest.TestCase):
 
         def use():
             read(snapshot)
+            use_batches()
             snapshot.get(b"other", default)
             iterators = snapshot.items(KEY, VALUE), iter(snapshot), store.snapshot(), store.snapshots()
             del iterators
@@ -205,7 +242,8 @@ class Memory(unittest.TestCase):
             Item.decode(bytes(items[0])), items[0].__reduce__(), list(snapshot.values(KEY)), repr(store)
             refuse(hlcstore.BadBytes, Item.decode, KEY)
 
-        watched = [KEY, VALUE, TOO_LONG, default, store, node, snapshot, items[0], Store, Node, Item, Error, None, True]
+        watched = [KEY, VALUE, LONG_KEY, TOO_LONG, default, store, node, snapshot, items[0]]
+        watched += [Store, Node, Item, Batch, Error, None, True]
         for _ in range(50):
             use()
         gc.collect()

@@ -360,8 +360,8 @@ class Threads(unittest.TestCase):
     def accept(self, stores, store, item):
         """Adds a write to the model before the store has it."""
         with self.lock:
-            if item.key is not None:
-                self.writes.setdefault(item.key, []).append((item.stamp, item.node, item.value))
+            for key, value in item.writes:
+                self.writes.setdefault(key, []).append((item.stamp, item.node, value))
         stores.accept(store, item)
 
     def expected(self, cut):
@@ -375,6 +375,10 @@ class Threads(unittest.TestCase):
         key = b"key%d" % chance.randrange(20)
         issued = machine.delete(clock, key) if turn % 4 == 0 else machine.write(clock, key, b"%d" % turn)
         self.accept(stores, *issued)
+        others = {b"key%d" % chance.randrange(20) for _ in range(9)}
+        others = [other for other in others if stores.store_of(other) == stores.store_of(key)]
+        batch = [(other, chance.choice((None, b"%d of a batch" % turn))) for other in others] or [(key, b"alone")]
+        self.accept(stores, *machine.write_batch(clock, batch))
         chance.choice(boxes).put((machine.id, turn, machine.send(clock)))
         try:
             sender, told, sent = boxes[machine.id].get_nowait()

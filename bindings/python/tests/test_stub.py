@@ -56,7 +56,7 @@ class Stub(unittest.TestCase):
                 self.assertEqual(stub_parameters(part), real_parameters(getattr(_native, name)), name)
 
     def test_classes(self):
-        for kind in hlcstore.Item, hlcstore.Node, hlcstore.Snapshot, hlcstore.Store:
+        for kind in hlcstore.Batch, hlcstore.Item, hlcstore.Node, hlcstore.Snapshot, hlcstore.Store:
             part = declared(STUB.body)[kind.__name__]
             named = declared(part.body)
             self.assertEqual(set(dir(kind)) - COMMON, set(named) - COMMON, kind)
@@ -72,7 +72,7 @@ class Stub(unittest.TestCase):
             self.assertEqual(stub_parameters(function), real_parameters(real), (kind, name))
 
     def test_all_calls_are_documented(self):
-        for kind in hlcstore.Item, hlcstore.Node, hlcstore.Snapshot, hlcstore.Store:
+        for kind in hlcstore.Batch, hlcstore.Item, hlcstore.Node, hlcstore.Snapshot, hlcstore.Store:
             for name in {"__doc__"} | set(dir(kind)) - COMMON:
                 self.assertTrue(inspect.getdoc(getattr(kind, name)), (kind, name))
 

@@ -6,8 +6,8 @@ from datetime import timedelta
 from typing import assert_type
 
 import hlcstore
-from hlcstore import AboveFloor, Applied, Certified, Checked, Item, Link, Node, NotNext, Sizes, Snapshot, Store, Vacuum
-from hlcstore import Stamp, VacuumPart, Version, check, split, stamp
+from hlcstore import AboveFloor, Applied, Batch, Certified, Checked, Item, Link, Node, NotNext, Sizes, Snapshot, Store
+from hlcstore import Stamp, Vacuum, VacuumPart, Version, check, split, stamp
 from hlcstore import file as files
 from hlcstore.ranges import Division, Machine, Ranges, RangesSnapshot, WrongStore
 
@@ -17,6 +17,14 @@ with Store(1) as store:
     store.accept(item)
     assert_type(Item.decode(bytes(item)), tuple[Item, int])
     assert_type(store.accept_all([item, node.report(2)]), int)
+    with node.batch(3) as batch_of_node:
+        batch_of_node[bytearray(b"a")] = memoryview(b"x")
+        del batch_of_node[b"b"]
+    assert_type(batch_of_node, Batch)
+    assert_type(batch_of_node.item, Item | None)
+    assert_type(node.write_batch(4, Batch({b"a": b"x"}.items())).writes, tuple[tuple[bytes, bytes | None], ...])
+    assert_type(node.write_batch(5, [(b"a", b"x"), (b"b", None)]), Item)
+    store.accept_batch(0, 5, stamp(6), Batch())
     assert_type(store.accept_items(memoryview(bytes(item))), int)
     assert_type(store.apply_records(bytes(item)), Applied)
     assert_type(hlcstore.threshold_record(stamp(2)), bytes)
@@ -66,6 +74,8 @@ with Ranges(division, machines=1) as ranges:
     assert_type((machine.send(3), machine.receive(stamp(5), 4), machine.last), tuple[Stamp, Stamp, Stamp])
     assert_type((ranges.join(), ranges.machine(0)), tuple[Machine, Machine])
     assert_type(ranges.write(machine, 5, b"a", bytearray(b"x")), Stamp)
+    assert_type(ranges.write_batch(machine, 6, [(b"a", None)]), Stamp)
+    assert_type(machine.write_batch(7, Batch()), tuple[int, Item])
     try:
         ranges.accept(0, item)
     except WrongStore as wrong:

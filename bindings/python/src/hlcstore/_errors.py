@@ -108,6 +108,18 @@ class Retired(Error):
     code = _native.HLC_RETIRED
 
 
+class NoWrites(Error):
+    code = _native.HLC_NO_WRITES
+
+
+class TooManyWrites(Error):
+    code = _native.HLC_TOO_MANY_WRITES
+
+
+class KeyTwice(Error):
+    code = _native.HLC_KEY_TWICE
+
+
 class Closed(Error):
     code = _native.HLC_CLOSED
 

@@ -27,15 +27,17 @@ from contextlib import ExitStack
 from itertools import chain
 from operator import index, itemgetter
 from types import TracebackType
-from typing import TYPE_CHECKING, Concatenate, ParamSpec, Self, TypeVar, final, overload
+from typing import TYPE_CHECKING, Concatenate, ParamSpec, Self, TypeAlias, TypeVar, final, overload
 
 from ._errors import AboveFloor, BelowHorizon, Error, Retired, TooManyNodes
-from ._native import Item, Node, Snapshot, Store
+from ._native import Batch, Item, Node, Snapshot, Store
 from ._results import Link, Vacuum
 from ._stamp import Stamp, stamp_of
 
 if TYPE_CHECKING:
     from _typeshed import ReadableBuffer as _ReadableBuffer
+
+    _Writes: TypeAlias = Batch | Iterable[tuple[_ReadableBuffer, _ReadableBuffer | None]]
 
 __all__ = ["BadDivision", "Division", "Machine", "NotOneCut", "Ranges", "RangesError", "RangesSnapshot", "WrongStore"]
 
@@ -65,6 +67,11 @@ class WrongStore(RangesError, LookupError):
 
 class NotOneCut(RangesError, ValueError):
     """the checkpoints are not those of all stores at one cut"""
+
+
+def _batch_of(writes: "_Writes") -> Batch:
+    """Return a batch of the writes, or the batch that they are."""
+    return writes if isinstance(writes, Batch) else Batch(writes)
 
 
 @final
@@ -117,6 +124,13 @@ class Division:
         for byte in taken:
             found = (found ^ byte) * 0x100000001B3 & _MAX_STAMP
         return found % self._hashed
+
+    def _store_of_all(self, batch: Batch) -> int:
+        """Return the number of the store that has all keys of a batch, or 0 where there are none."""
+        stores = {self.store_of(key) for key, _ in batch.writes} or {0}
+        if len(stores) > 1:
+            raise WrongStore
+        return stores.pop()
 
     def __reduce__(self) -> tuple[Callable[..., "Division"], tuple[object]]:
         return (Division.by_hash, (self._hashed,)) if self._hashed else (Division.by_keys, (self._boundaries,))
@@ -186,6 +200,15 @@ class Machine:
         store = self._division.store_of(key)
         with self._lock:
             return store, self._issue(store, Node.delete, reading, key)
+
+    def write_batch(self, reading: int, batch: "_Writes") -> tuple[int, Item]:
+        """Issue one item at this reading, of a `Batch` or of pairs of a key and its value, or None for a deletion.
+        Return the number of the store that has the keys, and the item for it. Where not all keys are of one store, it
+        is refused with `WrongStore`, and nothing is issued."""
+        taken = _batch_of(batch)
+        store = self._division._store_of_all(taken)
+        with self._lock:
+            return store, self._issue(store, Node.write_batch, reading, taken)
 
     def report_all(self, reading: int, /) -> list[tuple[int, Item]]:
         """Issue a report at this reading for each store, all or none, so that all floors may rise, and with them the
@@ -454,10 +477,10 @@ class Ranges:
         return self._stores[store]
 
     def accept(self, store: int, item: Item) -> None:
-        """Accept an item for a store, if it is the next one of its node there. Where the key is of another store, or no
+        """Accept an item for a store, if it is the next one of its node there. Where a key is of another store, or no
         store has this number, it is refused with `WrongStore`; otherwise as by `Store.accept`."""
         of = self._of(store)
-        if item.key is not None and self._division.store_of(item.key) != store:
+        if any(self._division.store_of(key) != store for key, _ in item.writes):
             raise WrongStore
         with self._locks[store]:
             of.accept(item)
@@ -472,6 +495,14 @@ class Ranges:
         """Let a machine delete a key at this reading, likewise."""
         with machine._lock:
             return self._put(machine, self.store_of(key), Node.delete, reading, key)
+
+    def write_batch(self, machine: Machine, reading: int, batch: "_Writes") -> Stamp:
+        """Let a machine issue one item at this reading, of a `Batch` or of pairs of a key and its value, or None for a
+        deletion, likewise: a snapshot shows all of its writes or none. Where not all keys are of one store, it is
+        refused with `WrongStore`."""
+        taken = _batch_of(batch)
+        with machine._lock:
+            return self._put(machine, self._division._store_of_all(taken), Node.write_batch, reading, taken)
 
     def report_all(self, machine: Machine, reading: int) -> None:
         """Let a machine report to one store after another at this reading, and accept the reports. It ends at the first

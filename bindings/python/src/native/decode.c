@@ -55,6 +55,23 @@ static Fault take_write(Rest *rest, Content *item)
     return flag ? take_sized(rest, 2, &item->value) : FINE;
 }
 
+/* Takes one less than the number of writes, and the writes. */
+static Fault take_batch(Rest *rest, Content *item)
+{
+    uint64_t less;
+    Content write;
+    if (take(rest, 1, &less)) return CUT;
+    item->kind = BATCH;
+    item->count = (size_t)less + 1;
+    item->writes.at = rest->at;
+    for (size_t i = 0; i < item->count; i++) {
+        Fault fault = take_write(rest, &write);
+        if (fault) return fault;
+    }
+    item->writes.len = (size_t)(rest->at - item->writes.at);
+    return FINE;
+}
+
 static Fault take_item(Rest *rest, Content *item)
 {
     uint64_t version, node, kind;
@@ -64,6 +81,7 @@ static Fault take_item(Rest *rest, Content *item)
         return CUT;
     item->node = (uint16_t)node;
     if (kind == 0) return take_write(rest, item);
+    if (kind == 3) return take_batch(rest, item);
     item->kind = kind == 1 ? REPORT : RETIRE;
     return kind <= 2 ? FINE : NO_KIND;
 }
@@ -79,7 +97,8 @@ static bool own(Bytes *bytes)
 static PyObject *item_of(PyObject *type, Content content)
 {
     bool has_key = content.kind == WRITE || content.kind == DELETE;
-    if ((has_key && !own(&content.key)) || (content.kind == WRITE && !own(&content.value))) {
+    if ((has_key && !own(&content.key)) || (content.kind == WRITE && !own(&content.value))
+        || (content.kind == BATCH && !own(&content.writes))) {
         drop_content(&content);
         return NULL;
     }

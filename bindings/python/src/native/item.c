@@ -2,17 +2,27 @@
 #include "native.h"
 #include <string.h>
 
-static const char *const KIND_NAMES[] = { "write", "delete", "report", "retire" };
+static const char *const KIND_NAMES[] = { "write", "delete", "report", "retire", "batch" };
 static const char *const FORMATS[] = { "O&O&O&O&O&", "O&O&O&O&", "O&O&O&", "O&O&O&" };
 static char *WRITE_NAMES[] = { "node", "number", "stamp", "key", "value", NULL };
 static char *DELETE_NAMES[] = { "node", "number", "stamp", "key", NULL };
 static char *REPORT_NAMES[] = { "node", "number", "stamp", NULL };
 static char **const ARGUMENT_NAMES[] = { WRITE_NAMES, DELETE_NAMES, REPORT_NAMES, REPORT_NAMES };
 
-bool take_content(Content *content, Kind kind, PyObject *args, PyObject *words)
+static bool take_batch(Classes *classes, Content *content, PyObject *args, PyObject *words)
+{
+    static char *names[] = { "node", "number", "stamp", "writes", NULL };
+    PyObject *writes;
+    return PyArg_ParseTupleAndKeywords(args, words, "O&O&O&O", names, take_u16, &content->node, take_u64,
+                                       &content->number, take_u64, &content->stamp, &writes)
+           && take_writes(classes, writes, content);
+}
+
+bool take_content(Classes *classes, Content *content, Kind kind, PyObject *args, PyObject *words)
 {
     memset(content, 0, sizeof *content);
     content->kind = kind;
+    if (kind == BATCH) return take_batch(classes, content, args, words);
     /* A format that is shorter ignores the last arguments. */
     return PyArg_ParseTupleAndKeywords(args, words, FORMATS[kind], ARGUMENT_NAMES[kind], take_u16, &content->node,
                                        take_u64, &content->number, take_u64, &content->stamp, take_bytes,
@@ -23,12 +33,13 @@ void drop_content(Content *content)
 {
     drop_bytes(&content->key);
     drop_bytes(&content->value);
+    drop_bytes(&content->writes);
 }
 
 static PyObject *make(PyObject *type, Kind kind, PyObject *args, PyObject *words)
 {
     Content content;
-    if (!take_content(&content, kind, args, words)) return NULL;
+    if (!take_content(PyType_GetModuleState((PyTypeObject *)type), &content, kind, args, words)) return NULL;
     Item *item = allocate((PyTypeObject *)type);
     if (item) item->content = content;
     else drop_content(&content);
@@ -44,6 +55,7 @@ MAKE(item_write, WRITE)
 MAKE(item_delete, DELETE)
 MAKE(item_report, REPORT)
 MAKE(item_retire, RETIRE)
+MAKE(item_batch, BATCH)
 
 static void item_dealloc(PyObject *self)
 {
@@ -60,6 +72,9 @@ static uint32_t encode(const Content *item, uint8_t *out, size_t out_len, size_t
                                      out, out_len, len);
     case DELETE:
         return hlc_item_encode_delete(item->node, item->number, item->stamp, key->at, key->len, out, out_len, len);
+    case BATCH:
+        return hlc_item_encode_batch(item->node, item->number, item->stamp, item->count, item->writes.at,
+                                     item->writes.len, out, out_len, len);
     case REPORT: return hlc_item_encode_report(item->node, item->number, item->stamp, out, out_len, len);
     default: return hlc_item_encode_retire(item->node, item->number, item->stamp, out, out_len, len);
     }
@@ -97,7 +112,7 @@ static bool has_same_content(const Content *left, const Content *right)
 {
     return left->kind == right->kind && left->node == right->node && left->number == right->number
            && left->stamp == right->stamp && has_same_bytes(&left->key, &right->key)
-           && has_same_bytes(&left->value, &right->value);
+           && has_same_bytes(&left->value, &right->value) && has_same_bytes(&left->writes, &right->writes);
 }
 
 static PyObject *item_compare(PyObject *self, PyObject *other, int operation)
@@ -124,9 +139,35 @@ static const char *const REPR_FORMATS[] = {
 /* A format that is shorter ignores the last values. */
 static const char *const REDUCE_FORMATS[] = { "N(HKKOO)", "N(HKKO)", "N(HKK)", "N(HKK)" };
 
+/* The writes of an item, whatever kind it is. */
+static PyObject *item_writes(PyObject *self, void *none)
+{
+    const Content *item = &((Item *)self)->content;
+    (void)none;
+    switch (item->kind) {
+    case WRITE: return Py_BuildValue("((OO))", item->key.owner, item->value.owner);
+    case DELETE: return Py_BuildValue("((OO))", item->key.owner, Py_None);
+    case BATCH: return pairs_of_writes(item->writes.at, item->count);
+    default: return PyTuple_New(0);
+    }
+}
+
+static PyObject *batch_item_repr(PyObject *self)
+{
+    const Content *item = &((Item *)self)->content;
+    PyObject *writes = item_writes(self, NULL);
+    PyObject *text = writes ? PyUnicode_FromFormat("Item.batch(%d, %llu, %llu, %R)", item->node,
+                                                   (unsigned long long)item->number, (unsigned long long)item->stamp,
+                                                   writes)
+                            : NULL;
+    Py_XDECREF(writes);
+    return text;
+}
+
 static PyObject *item_repr(PyObject *self)
 {
     const Content *item = &((Item *)self)->content;
+    if (item->kind == BATCH) return batch_item_repr(self);
     return PyUnicode_FromFormat(REPR_FORMATS[item->kind], item->node, (unsigned long long)item->number,
                                 (unsigned long long)item->stamp, item->key.owner, item->value.owner);
 }
@@ -137,12 +178,25 @@ static PyObject *item_kind(PyObject *self, void *none)
     return PyUnicode_FromString(KIND_NAMES[((Item *)self)->content.kind]);
 }
 
+/* The call of a maker, whose reference it takes, that makes the same batch. */
+static PyObject *reduced_batch(PyObject *self, PyObject *maker)
+{
+    const Content *item = &((Item *)self)->content;
+    PyObject *writes = item_writes(self, NULL);
+    if (writes)
+        return Py_BuildValue("N(HKKN)", maker, item->node, (unsigned long long)item->number,
+                             (unsigned long long)item->stamp, writes);
+    Py_DECREF(maker);
+    return NULL;
+}
+
 /* The call that makes the same item, as a pickle has it. */
 static PyObject *item_reduce(PyObject *self, PyObject *none)
 {
     const Content *item = &((Item *)self)->content;
     PyObject *maker = attribute_of((PyObject *)Py_TYPE(self), KIND_NAMES[item->kind]);
     (void)none;
+    if (maker && item->kind == BATCH) return reduced_batch(self, maker);
     return maker ? Py_BuildValue(REDUCE_FORMATS[item->kind], maker, item->node, (unsigned long long)item->number,
                                  (unsigned long long)item->stamp, item->key.owner, item->value.owner)
                  : NULL;
@@ -157,6 +211,9 @@ static PyMethodDef item_methods[] = {
                  "report($type, /, node, number, stamp)\n--\n\nReturn the item of a report."),
     CLASS_METHOD("retire", item_retire,
                  "retire($type, /, node, number, stamp)\n--\n\nReturn the item of a retirement."),
+    CLASS_METHOD("batch", item_batch,
+                 "batch($type, /, node, number, stamp, writes)\n--\n\n"
+                 "Return the item of a Batch, or of pairs of a key and its value, or None for a deletion."),
     CLASS_METHOD("decode", item_decode,
                  "decode($type, /, log, at=0)\n--\n\n"
                  "Return the item of a log that begins at a place in its bytes, and the place after it.\n\n"
@@ -183,7 +240,10 @@ static PyObject *item_stamp(PyObject *self, void *none)
 
 static PyGetSetDef item_fields[] = {
     { "stamp", item_stamp, NULL, "Its stamp.", NULL },
-    { "kind", item_kind, NULL, "What it is: 'write', 'delete', 'report' or 'retire'.", NULL },
+    { "kind", item_kind, NULL, "What it is: 'write', 'delete', 'batch', 'report' or 'retire'.", NULL },
+    { "writes", item_writes, NULL,
+      "Pairs of each key that it writes and the value, or None of a deletion: those of a batch; or one, or none.",
+      NULL },
     { 0 },
 };
 

@@ -20,7 +20,8 @@ static bool add_classes(PyObject *module)
     Classes *classes = PyModule_GetState(module);
     classes->stamp = stamp_class();
     return classes->stamp && add_class(module, &item_spec, &classes->item)
-           && add_class(module, &node_spec, &classes->node) && add_class(module, &store_spec, &classes->store)
+           && add_class(module, &batch_spec, &classes->batch) && add_class(module, &node_spec, &classes->node)
+           && add_class(module, &store_spec, &classes->store)
            && add_class(module, &snapshot_spec, &classes->snapshot) && make_class(module, &pairs_spec, &classes->pairs);
 }
 
@@ -40,6 +41,7 @@ static int visit_module(PyObject *module, visitproc visit, void *arg)
 {
     Classes *classes = PyModule_GetState(module);
     Py_VISIT(classes->item);
+    Py_VISIT(classes->batch);
     Py_VISIT(classes->node);
     Py_VISIT(classes->store);
     Py_VISIT(classes->snapshot);
@@ -52,6 +54,7 @@ static int clear_module(PyObject *module)
 {
     Classes *classes = PyModule_GetState(module);
     Py_CLEAR(classes->item);
+    Py_CLEAR(classes->batch);
     Py_CLEAR(classes->node);
     Py_CLEAR(classes->store);
     Py_CLEAR(classes->snapshot);

@@ -20,6 +20,7 @@
 /* The classes of the module. */
 typedef struct {
     PyTypeObject *item;
+    PyTypeObject *batch;
     PyTypeObject *node;
     PyTypeObject *store;
     PyTypeObject *snapshot;
@@ -134,9 +135,9 @@ bool write_piece(PyObject *write, PyObject *piece);
 
 /* ---- item.c ---- */
 
-typedef enum { WRITE, DELETE, REPORT, RETIRE } Kind;
+typedef enum { WRITE, DELETE, REPORT, RETIRE, BATCH } Kind;
 
-/* What an item says. A key or a value that its kind does not have is empty. */
+/* What an item says. A key, a value or writes that its kind does not have are empty. */
 typedef struct {
     Kind kind;
     uint16_t node;
@@ -144,6 +145,8 @@ typedef struct {
     uint64_t stamp;
     Bytes key;
     Bytes value;
+    size_t count; /* how many writes a batch has */
+    Bytes writes; /* as hlc_node_write_batch takes them */
 } Content;
 
 typedef struct {
@@ -151,11 +154,36 @@ typedef struct {
     Content content;
 } Item;
 
-/* Fills the content from the arguments of a call: node, number, stamp, and the key and the value of its kind. */
-bool take_content(Content *content, Kind kind, PyObject *args, PyObject *words);
+/* Fills the content from the arguments of a call: node, number, stamp, and the key and the value of its kind, or its
+ * writes. */
+bool take_content(Classes *classes, Content *content, Kind kind, PyObject *args, PyObject *words);
 void drop_content(Content *content);
 
 extern PyType_Spec item_spec;
+
+/* ---- batch.c ---- */
+
+typedef struct {
+    PyObject_HEAD
+    uint8_t *at; /* the bytes of the writes */
+    size_t room;
+    size_t len;
+    size_t count;
+    PyObject *node; /* that issues the item at the end of a block, or NULL */
+    uint64_t reading;
+    PyObject *item; /* that was issued at the end of the block, or NULL */
+} Batch;
+
+/* Fills in the writes of a batch, or of an iterable of pairs, as a copy. Returns false with an exception. */
+bool take_writes(Classes *classes, PyObject *from, Content *content);
+
+/* A tuple of so many writes: pairs of a key and its value, or None. */
+PyObject *pairs_of_writes(const uint8_t *at, size_t count);
+
+/* An empty batch for a block at whose end the node issues it. */
+PyObject *batch_of_node(Classes *classes, PyObject *node, uint64_t reading);
+
+extern PyType_Spec batch_spec;
 
 /* ---- decode.c ---- */
 
@@ -172,6 +200,9 @@ typedef struct {
     PyObject_HEAD
     hlc_node node;
 } Node;
+
+/* Lets a node issue the item of a batch, or of an iterable of pairs. */
+PyObject *issued_batch(PyObject *node, uint64_t reading, PyObject *writes);
 
 extern PyType_Spec node_spec;
 

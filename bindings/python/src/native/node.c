@@ -37,30 +37,31 @@ static uint32_t issue(hlc_node *node, uint64_t reading, Content *item)
     case WRITE:
         return hlc_node_write(node, reading, key->at, key->len, value->at, value->len, &item->number, &item->stamp);
     case DELETE: return hlc_node_delete(node, reading, key->at, key->len, &item->number, &item->stamp);
+    case BATCH:
+        return hlc_node_write_batch(node, reading, item->count, item->writes.at, item->writes.len, &item->number,
+                                    &item->stamp);
     case REPORT: return hlc_node_report(node, reading, &item->number, &item->stamp);
     default: return hlc_node_retire(node, reading, &item->number, &item->stamp);
     }
 }
 
-/* Issues an item. The object is made before, so that no item is issued and then lost. It takes the bytes. */
-static PyObject *issued(PyObject *self, Kind kind, uint64_t reading, Bytes key, Bytes value)
+/* Issues an item. The object is made before, so that no item is issued and then lost. It takes the content's bytes. */
+static PyObject *issued(PyObject *self, uint64_t reading, Content content)
 {
     hlc_node *node = &((Node *)self)->node;
     Item *item = allocate(classes_of(self)->item);
     if (!item) {
-        drop_bytes(&key);
-        drop_bytes(&value);
+        drop_content(&content);
         return NULL;
     }
-    item->content = (Content){ .kind = kind, .node = node->id, .key = key, .value = value };
+    item->content = content;
+    item->content.node = node->id;
     uint32_t code = issue(node, reading, &item->content);
     if (code == HLC_OK) return (PyObject *)item;
     refuse(code, item->content.stamp);
     Py_DECREF((PyObject *)item);
     return NULL;
 }
-
-static const Bytes NO_BYTES;
 
 static PyObject *node_write(PyObject *self, PyObject *args, PyObject *words)
 {
@@ -70,7 +71,7 @@ static PyObject *node_write(PyObject *self, PyObject *args, PyObject *words)
     if (!PyArg_ParseTupleAndKeywords(args, words, "O&O&O&:write", names, take_u64, &reading, take_bytes, &key,
                                      take_bytes, &value))
         return NULL;
-    return issued(self, WRITE, reading, key, value);
+    return issued(self, reading, (Content){ .kind = WRITE, .key = key, .value = value });
 }
 
 static PyObject *node_delete(PyObject *self, PyObject *args, PyObject *words)
@@ -80,19 +81,40 @@ static PyObject *node_delete(PyObject *self, PyObject *args, PyObject *words)
     Bytes key = { 0 };
     if (!PyArg_ParseTupleAndKeywords(args, words, "O&O&:delete", names, take_u64, &reading, take_bytes, &key))
         return NULL;
-    return issued(self, DELETE, reading, key, NO_BYTES);
+    return issued(self, reading, (Content){ .kind = DELETE, .key = key });
+}
+
+PyObject *issued_batch(PyObject *self, uint64_t reading, PyObject *writes)
+{
+    Content content = { .kind = BATCH };
+    return take_writes(classes_of(self), writes, &content) ? issued(self, reading, content) : NULL;
+}
+
+static PyObject *node_write_batch(PyObject *self, PyObject *args, PyObject *words)
+{
+    static char *names[] = { "reading", "batch", NULL };
+    uint64_t reading;
+    PyObject *batch;
+    if (!PyArg_ParseTupleAndKeywords(args, words, "O&O:write_batch", names, take_u64, &reading, &batch)) return NULL;
+    return issued_batch(self, reading, batch);
+}
+
+static PyObject *node_batch(PyObject *self, PyObject *from)
+{
+    uint64_t reading;
+    return take_u64(from, &reading) ? batch_of_node(classes_of(self), self, reading) : NULL;
 }
 
 static PyObject *node_report(PyObject *self, PyObject *from)
 {
     uint64_t reading;
-    return take_u64(from, &reading) ? issued(self, REPORT, reading, NO_BYTES, NO_BYTES) : NULL;
+    return take_u64(from, &reading) ? issued(self, reading, (Content){ .kind = REPORT }) : NULL;
 }
 
 static PyObject *node_retire(PyObject *self, PyObject *from)
 {
     uint64_t reading;
-    return take_u64(from, &reading) ? issued(self, RETIRE, reading, NO_BYTES, NO_BYTES) : NULL;
+    return take_u64(from, &reading) ? issued(self, reading, (Content){ .kind = RETIRE }) : NULL;
 }
 
 /* ---- The clock ---- */
@@ -144,6 +166,14 @@ static PyMethodDef node_methods[] = {
     METHOD("write", node_write,
            "write($self, /, reading, key, value)\n--\n\nIssue a write at this reading of a physical clock."),
     METHOD("delete", node_delete, "delete($self, /, reading, key)\n--\n\nIssue a deletion."),
+    METHOD("write_batch", node_write_batch,
+           "write_batch($self, /, reading, batch)\n--\n\n"
+           "Issue one item of the writes of a Batch, or of pairs of a key and its value, or None for a deletion.\n\n"
+           "NoWrites is raised where there are none, and KeyTwice where two are of one key."),
+    { "batch", node_batch, METH_O,
+      "batch($self, reading, /)\n--\n\n"
+      "Return an empty Batch for a with statement, at whose end its item is issued at this reading.\n\n"
+      "The item is then its attribute item. Where the block raises an exception, nothing is issued." },
     { "report", node_report, METH_O, "report($self, reading, /)\n--\n\nIssue a report, which raises the floor." },
     { "retire", node_retire, METH_O,
       "retire($self, reading, /)\n--\n\nIssue the node's retirement. It issues nothing after it." },

@@ -14,68 +14,68 @@ typedef struct {
     size_t keys_len;
     uint8_t answers[ROOM];
     size_t answers_len;
-} Batch;
+} Asked;
 
-static void free_batch(Batch *batch)
+static void free_asked(Asked *asked)
 {
-    free(batch->places);
-    free(batch->keys);
-    free(batch);
+    free(asked->places);
+    free(asked->keys);
+    free(asked);
 }
 
 /* Appends a key. Returns false with an exception. */
-static bool append(Batch *batch, const Bytes *key)
+static bool append(Asked *asked, const Bytes *key)
 {
-    uint8_t *keys = realloc(batch->keys, batch->keys_len + key->len + 1);
+    uint8_t *keys = realloc(asked->keys, asked->keys_len + key->len + 1);
     if (!keys) {
         PyErr_NoMemory();
         return false;
     }
-    memcpy(keys + batch->keys_len, key->at, key->len);
-    batch->keys = keys;
-    batch->places[batch->many++] = (hlc_place){ batch->keys_len, key->len };
-    batch->keys_len += key->len;
+    memcpy(keys + asked->keys_len, key->at, key->len);
+    asked->keys = keys;
+    asked->places[asked->many++] = (hlc_place){ asked->keys_len, key->len };
+    asked->keys_len += key->len;
     return true;
 }
 
-static bool append_all(Batch *batch, PyObject *tuple)
+static bool append_all(Asked *asked, PyObject *tuple)
 {
     for (Py_ssize_t i = 0; i < PyTuple_Size(tuple); i++) {
         Bytes key;
         if (!take_bytes(PyTuple_GetItem(tuple, i), &key)) return false;
-        bool is_appended = append(batch, &key);
+        bool is_appended = append(asked, &key);
         drop_bytes(&key);
         if (!is_appended) return false;
     }
     return true;
 }
 
-static Batch *batch_of(PyObject *tuple)
+static Asked *asked_of(PyObject *tuple)
 {
-    Batch *batch = calloc(1, sizeof *batch);
-    if (!batch) return (Batch *)PyErr_NoMemory();
-    batch->places = calloc((size_t)PyTuple_Size(tuple) + 1, sizeof *batch->places);
-    if (!batch->places) PyErr_NoMemory();
-    if (batch->places && append_all(batch, tuple)) return batch;
-    free_batch(batch);
+    Asked *asked = calloc(1, sizeof *asked);
+    if (!asked) return (Asked *)PyErr_NoMemory();
+    asked->places = calloc((size_t)PyTuple_Size(tuple) + 1, sizeof *asked->places);
+    if (!asked->places) PyErr_NoMemory();
+    if (asked->places && append_all(asked, tuple)) return asked;
+    free_asked(asked);
     return NULL;
 }
 
 /* Reads the keys from one on, as many as fit. many: how many. */
-static uint32_t read_from(Snapshot *snapshot, Batch *batch, size_t from, size_t *many)
+static uint32_t read_from(Snapshot *snapshot, Asked *asked, size_t from, size_t *many)
 {
     PyThreadState *thread = lock_to_ask(snapshot->store, LONG);
     hlc_store mine = snapshot->store->handle;
-    uint32_t code = hlc_snapshot_read_all(&mine, snapshot->id, batch->places + from, batch->many - from, batch->keys,
-                                          batch->keys_len, batch->answers, ROOM, &batch->answers_len, many);
+    uint32_t code = hlc_snapshot_read_all(&mine, snapshot->id, asked->places + from, asked->many - from, asked->keys,
+                                          asked->keys_len, asked->answers, ROOM, &asked->answers_len, many);
     unlock(snapshot->store, thread);
     return code;
 }
 
 /* Appends the values of the answers to the list. */
-static bool append_values(const Batch *batch, PyObject *list, size_t many)
+static bool append_values(const Asked *asked, PyObject *list, size_t many)
 {
-    const uint8_t *at = batch->answers;
+    const uint8_t *at = asked->answers;
     for (size_t i = 0; i < many; i++) {
         PyObject *value = answer_object(&at);
         bool is_appended = value && PyList_Append(list, value) == 0;
@@ -86,16 +86,16 @@ static bool append_values(const Batch *batch, PyObject *list, size_t many)
 }
 
 /* The list never has an empty place: gc.get_objects shows it to other threads, which run between the calls. */
-static PyObject *values_of(Snapshot *snapshot, Batch *batch)
+static PyObject *values_of(Snapshot *snapshot, Asked *asked)
 {
     PyObject *list = PyList_New(0);
     uint32_t code = HLC_MORE;
     size_t many;
     for (size_t from = 0; list && code == HLC_MORE; from += many) {
-        code = read_from(snapshot, batch, from, &many);
+        code = read_from(snapshot, asked, from, &many);
         bool is_answered = code == HLC_OK || code == HLC_MORE;
         if (!is_answered) refuse(code, 0);
-        if (!is_answered || !append_values(batch, list, many)) Py_CLEAR(list);
+        if (!is_answered || !append_values(asked, list, many)) Py_CLEAR(list);
     }
     return list;
 }
@@ -104,10 +104,10 @@ PyObject *snapshot_read_all(PyObject *self, PyObject *keys)
 {
     PyObject *tuple = PySequence_Tuple(keys), *list = NULL;
     if (!tuple) return NULL;
-    Batch *batch = batch_of(tuple);
+    Asked *asked = asked_of(tuple);
     Py_DECREF(tuple);
-    if (!batch) return NULL;
-    list = values_of((Snapshot *)self, batch);
-    free_batch(batch);
+    if (!asked) return NULL;
+    list = values_of((Snapshot *)self, asked);
+    free_asked(asked);
     return list;
 }

@@ -177,22 +177,35 @@ static uint32_t accept(hlc_store *store, const Content *item, uint64_t *word)
         return hlc_store_accept_write(store, item->node, item->number, item->stamp, key->at, key->len, value->at,
                                       value->len, word);
     case DELETE: return hlc_store_accept_delete(store, item->node, item->number, item->stamp, key->at, key->len, word);
+    case BATCH:
+        return hlc_store_accept_batch(store, item->node, item->number, item->stamp, item->count, item->writes.at,
+                                      item->writes.len, word);
     case REPORT: return hlc_store_accept_report(store, item->node, item->number, item->stamp, word);
     default: return hlc_store_accept_retire(store, item->node, item->number, item->stamp, word);
     }
 }
 
-/* hlc_store_check_report answers for a retirement too. */
+/* Why no store accepts a batch, whatever it has. */
+static uint32_t check_writes(const Content *item)
+{
+    size_t len;
+    return hlc_item_encode_batch(item->node, item->number, item->stamp, item->count, item->writes.at, item->writes.len,
+                                 NULL, 0, &len);
+}
+
+/* hlc_store_check_report answers for a retirement too, and for all of a batch but its writes. */
 static uint32_t check(hlc_store *store, const Content *item, uint64_t *word)
 {
     const Bytes *key = &item->key, *value = &item->value;
+    uint32_t code;
     switch (item->kind) {
     case WRITE:
         return hlc_store_check_write(store, item->node, item->number, item->stamp, key->at, key->len, value->at,
                                      value->len, word);
     case DELETE: return hlc_store_check_delete(store, item->node, item->number, item->stamp, key->at, key->len, word);
-    default: return hlc_store_check_report(store, item->node, item->number, item->stamp, word);
+    default: code = hlc_store_check_report(store, item->node, item->number, item->stamp, word);
     }
+    return code == HLC_OK && item->kind == BATCH ? check_writes(item) : code;
 }
 
 /* None, or the exception of a refusal. */
@@ -226,7 +239,7 @@ static PyObject *with_content(PyObject *self, PyObject *(*call)(Store *, const C
                               PyObject *words)
 {
     Content content;
-    if (!take_content(&content, kind, args, words)) return NULL;
+    if (!take_content(classes_of(self), &content, kind, args, words)) return NULL;
     PyObject *result = call((Store *)self, &content);
     drop_content(&content);
     return result;
@@ -239,10 +252,12 @@ static PyObject *with_content(PyObject *self, PyObject *(*call)(Store *, const C
     }
 WITH_CONTENT(store_accept_write, accept_content, WRITE)
 WITH_CONTENT(store_accept_delete, accept_content, DELETE)
+WITH_CONTENT(store_accept_batch, accept_content, BATCH)
 WITH_CONTENT(store_accept_report, accept_content, REPORT)
 WITH_CONTENT(store_accept_retire, accept_content, RETIRE)
 WITH_CONTENT(store_check_write, check_content, WRITE)
 WITH_CONTENT(store_check_delete, check_content, DELETE)
+WITH_CONTENT(store_check_batch, check_content, BATCH)
 WITH_CONTENT(store_check_report, check_content, REPORT)
 
 /* The content of an item, or NULL with an exception where the object is none. */
@@ -485,6 +500,9 @@ static PyMethodDef store_methods[] = {
            "accept_write($self, /, node, number, stamp, key, value)\n--\n\nAccept the write of a node."),
     METHOD("accept_delete", store_accept_delete,
            "accept_delete($self, /, node, number, stamp, key)\n--\n\nAccept the deletion of a node."),
+    METHOD("accept_batch", store_accept_batch,
+           "accept_batch($self, /, node, number, stamp, writes)\n--\n\n"
+           "Accept the batch of a node, a Batch or pairs of a key and its value, or None: all writes or none."),
     METHOD("accept_report", store_accept_report,
            "accept_report($self, /, node, number, stamp)\n--\n\nAccept the report of a node."),
     METHOD("accept_retire", store_accept_retire,
@@ -513,6 +531,9 @@ static PyMethodDef store_methods[] = {
     METHOD("check_delete", store_check_delete,
            "check_delete($self, /, node, number, stamp, key)\n--\n\n"
            "Raise what accept_delete would raise, except NoMemory."),
+    METHOD("check_batch", store_check_batch,
+           "check_batch($self, /, node, number, stamp, writes)\n--\n\n"
+           "Raise what accept_batch would raise, except NoMemory."),
     METHOD("check_report", store_check_report,
            "check_report($self, /, node, number, stamp)\n--\n\n"
            "Raise what accept_report and accept_retire would raise."),
