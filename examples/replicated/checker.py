@@ -9,6 +9,7 @@ Each file of the folder has what one client wrote and read (history.py). Of what
     a read at a cut has each write at or below it that was acknowledged: its value is that of the newest such write, or
       of a newer one at or below the cut that nobody heard of, which was sent
     what was refused is in no read
+    no read shows a part of an item: where one has a write of it, all of its writes are in the log
     the stamps of a client rise, also over its restarts: a cut that has one of its writes has all that it wrote before
     what a client wrote after it saw a read is above the stamp of that read
 """
@@ -20,7 +21,14 @@ import sys
 
 from programs import Difference
 
-ACKNOWLEDGED, UNKNOWN = True, None
+UNKNOWN, ACKNOWLEDGED, SHOWN = None, "was acknowledged", "is of an item that a read shows"
+
+
+class Item:
+    """What a client sent at a stamp. `known` says from what it is known to be in the log, if it is."""
+
+    def __init__(self, stamp, known):
+        self.stamp, self.known = stamp, known
 
 
 def lines_of(path):
@@ -32,20 +40,24 @@ def lines_of(path):
 
 
 def rise(name, last, sent):
-    """Returns the last stamp of these writes, which are to be above another one, each above the one before."""
-    for key, stamp, _ in sent:
+    """Returns the last stamp of these items, which are to be above another one, each above the one before."""
+    for stamp, writes in sent:
         if stamp <= last:
-            raise Difference(f"{name} wrote {key} at {stamp}, and had been at {last} before")
+            raise Difference(f"{name} wrote {writes} at {stamp}, and had been at {last} before")
         last = stamp
     return last
 
 
+def stamp_of(write):
+    return write[0].stamp
+
+
 class Checker:
     def __init__(self):
-        self.writes = {}  # of each key: the stamp, the value, and whether it was acknowledged, of each write
-        self.refused = set()  # (key, stamp, value)
+        self.writes = {}  # of each key: the item and the value of each write
+        self.refused = set()  # the key, the stamp and the value of each write
         self.reads = []
-        self.many = 0
+        self.many = self.together = 0  # writes, and items of several
 
     # ---- What the files say ----
 
@@ -60,47 +72,71 @@ class Checker:
                 sent[by] = words["sends"]
                 last[by] = rise(path.name, last[by], words["sends"])
             elif "done" in words:
-                writes = sent.pop(by, ())
-                self.keep(writes, words["done"])
+                items = sent.pop(by, ())
                 if words["done"]:
-                    acknowledged = max([acknowledged, *(stamp for _, stamp, _ in writes)])
+                    self.keep(items, ACKNOWLEDGED)
+                    acknowledged = max([acknowledged, *(stamp for stamp, _ in items)])
+                else:
+                    self.refuse(items)
             elif "saw" in words:
                 last[by] = max(last[by], words["saw"])
             else:
                 self.reads.append(words)
-        for writes in sent.values():
-            self.keep(writes, UNKNOWN)
+        for items in sent.values():
+            self.keep(items, UNKNOWN)
 
-    def keep(self, sent, done):
-        for key, stamp, value in sent:
-            if done is False:
-                self.refused.add((key, stamp, value))
-            else:
+    def refuse(self, items):
+        self.refused.update((key, stamp, value) for stamp, writes in items for key, value in writes)
+
+    def keep(self, items, known):
+        for stamp, writes in items:
+            item = Item(stamp, known)
+            self.together += len(writes) > 1
+            for key, value in writes:
                 self.many += 1
-                self.writes.setdefault(key, []).append((stamp, value, done))
+                self.writes.setdefault(key, []).append((item, value))
 
     # ---- What must be true ----
 
+    def mark_shown(self):
+        """What a read shows of an item is in the log, and so are all of its writes. Where the value may be that of
+        another item, as of one that was lost and one that a process sent after it, that says nothing of either."""
+        with_value = {}
+        for key, writes in self.writes.items():
+            for item, value in writes:
+                with_value.setdefault((key, value), []).append(item)
+        for key, stamp, value in self.values():
+            items = [item for item in with_value.get((key, value), ()) if value is not None and item.stamp <= stamp]
+            if len(items) == 1 and items[0].known is UNKNOWN:
+                items[0].known = SHOWN
+
     def check(self):
         for writes in self.writes.values():
-            writes.sort(key=lambda write: write[0])
+            writes.sort(key=stamp_of)
         seen = {}
+        for key, stamp, value in self.values():
+            before = seen.setdefault((stamp, key), value)
+            if before != value:
+                raise Difference(f"{key} at {stamp} was {before}, and is now {value}")
+        self.mark_shown()
+        for key, stamp, value in self.values():
+            self.check_value(key, stamp, value)
+
+    def values(self):
+        """Yields what all reads answered: a key, the stamp of the read, and the value."""
         for read in self.reads:
             for key, value in read["values"]:
-                before = seen.setdefault((read["read"], key), value)
-                if before != value:
-                    raise Difference(f"{key} at {read['read']} was {before}, and is now {value}")
-                self.check_value(key, read["read"], value)
+                yield key, read["read"], value
 
     def check_value(self, key, stamp, value):
-        """Looks back from the stamp: what was not acknowledged may be missing, and the first that was may not."""
+        """Looks back from the stamp: what is not known to be in the log may be missing, the first that is may not."""
         writes = self.writes.get(key, [])
-        for place in range(bisect.bisect_right(writes, stamp, key=lambda write: write[0]) - 1, -1, -1):
-            _, written, done = writes[place]
+        for place in range(bisect.bisect_right(writes, stamp, key=stamp_of) - 1, -1, -1):
+            item, written = writes[place]
             if written == value:
                 return
-            if done is ACKNOWLEDGED:
-                raise Difference(f"{key} at {stamp} is {value}, and {written} at {writes[place][0]} was acknowledged")
+            if item.known:
+                raise Difference(f"{key} at {stamp} is {value}, and {written} at {item.stamp} {item.known}")
         if value is not None:
             raise Difference(f"{key} at {stamp} is {value}, which nobody wrote at or below it")
 
@@ -113,7 +149,7 @@ def judge(folder):
     checker.check()
     values = sum(len(read["values"]) for read in checker.reads)
     stamps = len({read["read"] for read in checker.reads})
-    said = f"the history: {checker.many} writes, {len(checker.refused)} refused"
+    said = f"the history: {checker.many} writes, {len(checker.refused)} refused, {checker.together} items of several"
     yield f"{said}; {len(checker.reads)} reads of {values} values at {stamps} cuts"
 
 

@@ -1,12 +1,12 @@
 """The history of what a client wrote and read, for checker.py: lines of JSON in a file, which is added to.
 
-    {"sends": [[key, stamp, value], ..]}   writes, before they are appended; a value of null is a deletion
+    {"sends": [[stamp, [[key, value], ..]], ..]}    items, before they are appended; a value of null is a deletion
     {"done": true}                         they are in the log, or with false: they were refused, and are in none
     {"saw": stamp}                         the stamp of a read of which the client knows before it writes on
     {"read": stamp, "values": [[key, value], ..], "began": time}    what a read at a stamp answered
 
 Each line has `by`, the process, as another one of the same name may add to the file while the first stands still. Keys
-and values are in hexadecimal digits. Writes without a word on what came of them may be in the log or not.
+and values are in hexadecimal digits. Items without a word on what came of them may be in the log or not.
 """
 
 import json
@@ -24,9 +24,10 @@ class History:
         if self.file:
             self.file.write(json.dumps(words | {"by": os.getpid()}) + "\n")
 
-    def issue(self, key, stamp, value):
+    def issue(self, stamp, writes):
         if self.file:
-            self.batch.append([key.hex(), int(stamp), None if value is None else value.hex()])
+            hexadecimal = [[key.hex(), None if value is None else value.hex()] for key, value in writes]
+            self.batch.append([int(stamp), hexadecimal])
 
     def sends(self):
         self.say(sends=self.batch)

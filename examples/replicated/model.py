@@ -24,26 +24,35 @@ from etcd import Etcd
 
 ITEM = struct.Struct(">BHQQB")  # version, node, number, stamp, kind: docs/formats.md
 JOINED, THRESHOLD = struct.Struct(">BHQ"), struct.Struct(">BQ")  # what else a record is, by its first byte
-WRITE, REPORT, RETIRE = 0, 1, 2
+WRITE, REPORT, RETIRE, BATCH = 0, 1, 2, 3
 
 
 def items_of(data):
-    """Yields what each item says: node, number, stamp, kind, key, value. The value of a deletion is None."""
+    """Yields what each item says: node, number, stamp, kind, and of each write its key and its value, or None."""
     at = 0
     while at < len(data):
         version, node, number, stamp, kind = ITEM.unpack_from(data, at)
-        expect(version == 1 and kind in (WRITE, REPORT, RETIRE), f"an item of version {version} and kind {kind}")
+        known = version == 1 and kind in (WRITE, REPORT, RETIRE, BATCH)
+        expect(known, f"an item of version {version} and kind {kind}")
         at += ITEM.size
-        key = value = None
-        if kind == WRITE:
-            key = data[at + 1 : at + 1 + data[at]]
-            at += 1 + len(key)
-            if data[at]:
-                length = int.from_bytes(data[at + 1 : at + 3])
-                value = data[at + 3 : at + 3 + length]
-                at += 2 + length
+        many, writes = int(kind == WRITE), []
+        if kind == BATCH:
+            many = data[at] + 1
             at += 1
-        yield node, number, stamp, kind, key, value
+        for _ in range(many):
+            key, value, at = write_at(data, at)
+            writes.append((key, value))
+        yield node, number, stamp, kind, writes
+
+
+def write_at(data, at):
+    """Returns the key and the value of a write, or None in a deletion, and the place after it."""
+    key = data[at + 1 : at + 1 + data[at]]
+    at += 1 + len(key)
+    if not data[at]:
+        return key, None, at + 1
+    end = at + 3 + int.from_bytes(data[at + 1 : at + 3])
+    return key, data[at + 3 : end], end
 
 
 def expect(truth, text):
@@ -136,15 +145,18 @@ class Model(serve.Answerer):
         expect(node == len(of_range.links) and start >= of_range.floor(), f"a bad join of node {node} at {start}")
         of_range.links.append([0, start, False])
 
-    def accept(self, of_range, node, number, stamp, kind, key, value):
+    def accept(self, of_range, node, number, stamp, kind, writes):
         link = of_range.links[node]
         expect(not link[2], f"item {number} of node {node}, which retired")
         expect(number == link[0], f"item {number} of node {node}, where {link[0]} is next")
         expect(stamp > link[1], f"item {number} of node {node} at {stamp}, which is not above {link[1]}")
         link[:] = [number + 1, stamp, kind == RETIRE]
         self.items += 1
-        if kind != WRITE:
-            return
+        expect(len({key for key, _ in writes}) == len(writes), f"item {number} of node {node} writes a key twice")
+        for key, value in writes:
+            self.write(of_range, node, number, stamp, key, value)
+
+    def write(self, of_range, node, number, stamp, key, value):
         expect(value is None or value.startswith(b"%d.%d." % (node, number)), f"{number} of {node} is {value}")
         expect(of_range.has(key), f"a write of {key} in the log of range {of_range.number}")
         if key not in self.versions:

@@ -1,5 +1,7 @@
 """A writer: issues writes and deletions as a node, and appends them to the node's links in batches.
 
+A fifth of its items write several keys of one range, which a snapshot shows all or none of.
+
     writer.py --name w1 --members HOST:PORT ..
 
 Each write goes to the range that has its key. Where the log of that range has ended, nothing of the batch is in it: its
@@ -30,6 +32,7 @@ from hlcstore import split
 MOST_BYTES = 1_000_000  # in a batch: etcd takes transactions of at most 1.5 MiB
 AHEAD = 10_000  # milliseconds: stamps that are further ahead of this node come from a wrong clock
 LINGER = 0.02  # seconds from one append to the next, unless a batch is full
+TOGETHER, MOST_KEYS = 0.2, 5  # how often an item is of several keys, and of how many
 IDLE = 0.05  # seconds without an item after which it reports, so that the floor does not wait for it
 SETTINGS = [
     settings.Setting("name", settings.name, "its name, to which its node belongs"),
@@ -49,7 +52,7 @@ class Writer:
         self.offset, self.retires = 0, False
         self.history = History(history)
         self.chance = random.Random(name)
-        self.waiting = []  # writes that no log has yet: those of a batch that was refused come again
+        self.waiting = []  # changes that no log has yet: those of a batch that was refused come again
         self.number = self.find_node()
         self.machine = machine.Machine(self.number, self.etcd, self.connect)
         self.take_over()
@@ -150,26 +153,51 @@ class Writer:
         key = b"key%07d" % int(self.keys * self.chance.random() ** 4)
         return key, None if self.chance.random() < 0.1 else b"x" * self.chance.randrange(80)
 
-    def issue(self, part, key, value):
-        """Returns a next item. Its value names its node and number, so that the model sees whether it is in place."""
-        reading, node = self.reading(), self.machine.acting(part)
-        if value is not None:
-            value = b"%d.%d." % (self.number, node.next) + value
-        item = bytes(node.delete(reading, key) if value is None else node.write(reading, key, value))
-        self.machine.acted(part)
-        self.history.issue(key, node.last, value)
-        return item
+    def next_change(self):
+        """Returns the writes of an item: most often one, else those of up to five keys of one range."""
+        change = dict([self.next_write()])
+        if self.chance.random() < TOGETHER:
+            (first,) = change
+            wanted, of_range = self.chance.randint(2, MOST_KEYS), self.machine.map.at(first)
+            for _ in range(4 * MOST_KEYS):
+                key, value = self.next_write()
+                if of_range.has(key):
+                    change.setdefault(key, value)
+                if len(change) == wanted:
+                    break
+        return list(change.items())
 
-    def routed(self, writes):
-        """Returns the writes for each range, in their order: each goes to the range of its key."""
+    def issue(self, part, change):
+        """Returns a next item. Its values name its node and number, so that the model sees whether it is in place."""
+        reading, node = self.reading(), self.machine.acting(part)
+        name = b"%d.%d." % (self.number, node.next)
+        writes = [(key, None if value is None else name + value) for key, value in change]
+        if len(writes) > 1:
+            item = node.write_batch(reading, writes)
+        else:
+            ((key, value),) = writes
+            item = node.delete(reading, key) if value is None else node.write(reading, key, value)
+        self.machine.acted(part)
+        self.history.issue(node.last, writes)
+        return bytes(item)
+
+    def routed(self, changes):
+        """Returns the changes for each range, in their order: each goes to the range of its keys.
+
+        Since it was made, its range may have been split: then it is a change in each part.
+        """
         by_range = {}
-        for write in writes:
-            by_range.setdefault(self.machine.map.at(write[0]).id, []).append(write)
+        for change in changes:
+            of_change = {}
+            for write in change:
+                of_change.setdefault(self.machine.map.at(write[0]).id, []).append(write)
+            for number, writes in of_change.items():
+                by_range.setdefault(number, []).append(writes)
         return by_range
 
     def issue_batch(self, most):
         """Returns the bytes of items for the first range, which are not appended yet."""
-        return b"".join(self.issue(self.machine.first(), *self.next_write()) for _ in range(most))
+        return b"".join(self.issue(self.machine.first(), self.next_change()) for _ in range(most))
 
     def append(self, number, items, also=(), part=None):
         """Appends items, of which the first has this number. Only afterwards further ones are issued."""
@@ -177,14 +205,14 @@ class Writer:
         logs.debug("appended", next=self.items())
         self.report("next", self.items())
 
-    def append_writes(self, writes):
-        """Appends each write in the range of its key. Those of a range whose log has ended wait for the next round."""
-        for number, of_range in self.routed(writes).items():
+    def append_changes(self, changes):
+        """Appends each change in the range of its keys. Those of a range whose log has ended wait for another round."""
+        for number, of_range in self.routed(changes).items():
             part = self.machine.parts[number]
             while of_range:
                 first, items, size = part.node.next, [], 0
                 while len(items) < len(of_range) and size < MOST_BYTES - 70_000:
-                    items.append(self.issue(part, *of_range[len(items)]))
+                    items.append(self.issue(part, of_range[len(items)]))
                     size += len(items[-1])
                 self.history.sends()
                 try:
@@ -215,7 +243,7 @@ class Writer:
             try:
                 if most == self.batch or most > 0 and now - appended > LINGER:
                     allowed -= most
-                    self.append_writes([self.next_write() for _ in range(most)])
+                    self.append_changes([self.next_change() for _ in range(most)])
                     appended = now
                 elif all(now - part.appended <= IDLE for part in self.machine.parts.values()):
                     time.sleep(0.002)
@@ -233,11 +261,11 @@ class Writer:
             logs.warning("the floor waits until this writer comes again, or is lost", node=self.number)
 
     def append_waiting(self):
-        """Appends the writes of refused batches, in the ranges that have their keys now."""
+        """Appends the changes of refused batches, in the ranges that have their keys now."""
         while self.waiting:
             self.take_over()
-            writes, self.waiting = self.waiting, []
-            self.append_writes(writes)
+            changes, self.waiting = self.waiting, []
+            self.append_changes(changes)
 
     def retire(self):
         """Appends the last item. With it the name is free again: the next writer of this name joins as another node."""

@@ -58,7 +58,7 @@ class RangeCase(MemoryCase):
     def write(self, *keys, writer=None):
         """Writes to these keys, whose values name what is written, and returns the pairs that a writer has appended."""
         writer = writer or self.writer
-        writer.append_writes([(key, key) for key in keys])
+        writer.append_changes([[(key, key)] for key in keys])
         writer.append_waiting()
 
     def report(self):

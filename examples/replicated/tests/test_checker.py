@@ -30,11 +30,18 @@ class Histories(unittest.TestCase):
             self.judge(**files)
 
     def wrote(self, *writes, done=True):
-        sends = {"sends": [[KEY, stamp, value] for stamp, value in writes]}
+        return self.sent(*((stamp, {KEY: value}) for stamp, value in writes), done=done)
+
+    def sent(self, *items, done=True):
+        """Each item has a stamp, and values by their keys."""
+        sends = {"sends": [[stamp, [[key, value] for key, value in writes.items()]] for stamp, writes in items]}
         return [sends] if done is None else [sends, {"done": done}]
 
     def read(self, stamp, value, key=KEY):
-        return [{"read": stamp, "values": [[key, value]], "began": 0}]
+        return self.read_all(stamp, {key: value})
+
+    def read_all(self, stamp, values):
+        return [{"read": stamp, "values": [[key, value] for key, value in values.items()], "began": 0}]
 
     def test_reads_that_are_right(self):
         writes = self.wrote((5, "a"), (7, None), (9, "b"))
@@ -42,7 +49,7 @@ class Histories(unittest.TestCase):
         for stamp, value in (4, None), (5, "a"), (6, "a"), (7, None), (9, "b"):
             reads += self.read(stamp, value)
         (said,) = self.judge(w1=writes, reads=reads)
-        self.assertIn("3 writes, 0 refused; 5 reads of 5 values at 5 cuts", said)
+        self.assertIn("3 writes, 0 refused, 0 items of several; 5 reads of 5 values at 5 cuts", said)
 
     def test_a_write_that_is_missing(self):
         for stamp, value in (5, None), (8, "a"), (9, None):
@@ -59,6 +66,39 @@ class Histories(unittest.TestCase):
             self.judge(w1=writes, reads=self.read(8, value))
         self.refuse("is now", w1=writes, reads=self.read(8, "a") + self.read(8, "b"))
         self.refuse("was acknowledged", w1=writes, reads=self.read(8, None))
+        self.judge(w1=writes, reads=self.read(6, "a") + self.read(8, "b"))
+        for reads in self.read(7, "a") + self.read(8, "b"), self.read(8, "b") + self.read(9, "a"):
+            self.refuse("that a read shows", w1=writes, reads=reads)
+
+    def test_a_part_of_an_item(self):
+        """Whether it was acknowledged, or nobody heard of it, at one stamp or at two."""
+        old, new = {KEY: "a", OTHER: "b"}, {KEY: "c", OTHER: "d"}
+        before = self.sent((5, old))
+        for done in True, None:
+            writes = before + self.sent((7, new), done=done)
+            said = self.judge(w1=writes, reads=self.read_all(7, new))[0]
+            self.assertIn("4 writes, 0 refused, 2 items of several", said)
+            self.judge(w1=writes, reads=self.read_all(6, old) + self.read_all(9, new))
+            for part in {KEY: "c", OTHER: "b"}, {OTHER: "d", KEY: "a"}, {KEY: "c", OTHER: None}:
+                text = "was acknowledged" if done else "is of an item that a read shows"
+                self.refuse(text, w1=writes, reads=self.read_all(8, part))
+                at_two = [self.read(8 + at, value, key) for at, (key, value) in enumerate(part.items())]
+                self.refuse(text, w1=writes, reads=at_two[0] + at_two[1])
+        unheard = before + self.sent((7, new), done=None)
+        self.judge(w1=unheard, reads=self.read_all(8, old))
+        newer = self.sent((7, new), done=None) + [line | {"by": 2} for line in self.sent((8, {OTHER: "e"}))]
+        self.judge(w1=before + newer, reads=self.read_all(8, {KEY: "c", OTHER: "e"}))
+        self.refuse("was acknowledged", w1=before + newer, reads=self.read_all(9, {KEY: "c", OTHER: "d"}))
+        refused = before + self.sent((7, new), done=False)
+        self.judge(w1=refused, reads=self.read_all(8, old))
+        self.refuse("was acknowledged", w1=refused, reads=self.read_all(8, {KEY: "c", OTHER: "b"}))
+
+    def test_a_value_of_two_items(self):
+        """The next process may send the value of an item that was lost. A read of it does not say which one it is."""
+        lost, later = self.sent((7, {KEY: "a", OTHER: "b"}), done=None), self.sent((8, {KEY: "a"}))
+        writes = lost + [line | {"by": 2} for line in later]
+        self.judge(w1=writes, reads=self.read_all(9, {KEY: "a", OTHER: None}))
+        self.refuse("that a read shows", w1=writes, reads=self.read(7, "a") + self.read(9, None, OTHER))
 
     def test_what_was_refused_is_in_no_read(self):
         writes = self.wrote((5, "a")) + self.wrote((7, "b"), done=False) + self.wrote((9, "b"))
@@ -85,13 +125,13 @@ class Histories(unittest.TestCase):
     def test_a_line_that_is_not_whole(self):
         path = self.folder / "w1"
         history = History(path)
-        history.issue(b"k", 5, b"a")
+        history.issue(5, [(b"k", b"a"), (b"l", None)])
         history.sends()
         history.done(True)
         history.file.close()
         with open(path, "a") as file:
-            file.write('{"sends": [["6b", 9')
-        self.assertIn("1 writes", self.judge(reads=self.read(5, b"a".hex()))[0])
+            file.write('{"sends": [[9, [["6b"')
+        self.assertIn("2 writes", self.judge(reads=self.read(5, b"a".hex()))[0])
 
 
 if __name__ == "__main__":

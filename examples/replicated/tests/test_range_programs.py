@@ -87,7 +87,7 @@ class Nodes(RangeCase):
         self.assertEqual((one, one[2]), (other, True))
         self.assertIsNone(self.value(b"node/w1"))
         self.assertEqual(self.new_etcd().list(b"retires/"), [])
-        self.assertRaises(log.Fenced, self.writer.append_writes, [(b"a", b"a")])
+        self.assertRaises(log.Fenced, self.writer.append_changes, [[(b"a", b"a")]])
 
     def test_a_lost_writer_that_retired_everywhere(self):
         """Its writer, or a coordinator, was killed before it gave the name back: no merge waits for it for good."""

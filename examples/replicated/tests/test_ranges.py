@@ -118,6 +118,50 @@ class Splits(RangeCase):
         self.report()
         self.assertEqual(self.compare(self.caught_up()), {b"b": b"b", b"n": b"n"})
 
+    def items(self, number):
+        """Returns the writes of each item of the writer in the log of a range, and its stamp."""
+        entries = [entry.records for entry in self.entries(self.known().ranges[number])]
+        items = [hlcstore.Item.decode(records)[0] for records in entries if records[:1] == b"\1"]
+        found = []
+        for item in items:
+            if item.node == self.writer.number and item.writes:
+                found.append(([(key, value and value.split(b".")[2]) for key, value in item.writes], item.stamp))
+        return found
+
+    def test_an_item_of_several_keys(self):
+        """It is in the log of its range as a whole. Where that is split meanwhile, each part has one of its keys."""
+        whole = [(b"a", b"1"), (b"n", b"1"), (b"z", None)]
+        self.writer.append_changes([whole])
+        self.writer.etcd.before = [lambda: self.split(b"m")]
+        self.writer.append_changes([[(b"n", b"2"), (b"b", b"2"), (b"a", None), (b"o", b"2")]])
+        self.writer.append_waiting()
+        ((first, at),) = self.items(0)
+        ((left, at_left),) = self.items(1)
+        ((right, at_right),) = self.items(2)
+        self.assertEqual((first, left), (whole, [(b"b", b"2"), (b"a", None)]))
+        self.assertEqual(right, [(b"n", b"2"), (b"o", b"2")])
+        self.report()
+        replica, new = self.caught_up(), {b"b": b"2", b"n": b"2", b"o": b"2"}
+        self.assertEqual(self.compare(replica), new)
+        old = {b"a": b"1", b"n": b"1"}
+        for stamp, found in (at - 1, {}), (at, old), (min(at_left, at_right) - 1, old), (max(at_left, at_right), new):
+            self.assertEqual(dict(self.pairs(replica, stamp)), found)
+
+    def test_changes_of_a_writer(self):
+        """A fifth of them are of two to five keys of one range."""
+        self.split(b"key0000030")
+        self.writer.take_over()
+        changes = [self.writer.next_change() for _ in range(5000)]
+        for change in changes:
+            keys = [key for key, _ in change]
+            self.assertEqual((len(set(keys)), len(set(map(self.known().at, keys)))), (len(keys), 1))
+        many = [len(change) for change in changes]
+        self.assertEqual(set(many), {1, 2, 3, 4, 5})
+        self.assertTrue(0.15 < sum(each > 1 for each in many) / len(many) < 0.25)
+        self.writer.append_changes(changes[:200])
+        self.report()
+        self.compare(self.caught_up())
+
     def test_a_writer_that_routes_by_an_old_map(self):
         """Two splits and a merge later it goes on at the right range."""
         self.write(b"b", b"n")
