@@ -1,5 +1,5 @@
 /* What a call of the C library costs from C, in ns: the least of nine runs. */
-#include "hlcstore.h"
+#include "hlcstore_inline.h"
 #include <stdio.h>
 #include <stdlib.h>
 #include <string.h>
@@ -10,7 +10,7 @@
 #define BATCH 1000
 #define ITEM 64
 
-static double least[10];
+static double least[14];
 static hlc_store store = HLC_CLOSED_STORE;
 
 static double now(void)
@@ -91,6 +91,34 @@ static void take_logs(int kind)
     hlc_store_close(&store);
 }
 
+/* Measures writes that a node issues and the store accepts: one by one, or so many in a batch. */
+static void take_issued(int kind, int size)
+{
+    static uint8_t room[HLC_MAX_BATCH * 32];
+    hlc_node node = hlc_node_open(0, 0);
+    uint64_t number, stamp, word;
+    uint8_t key[8];
+    must(hlc_store_open(&store, 1));
+    double t = now();
+    for (int start = 0; start < WRITES; start += size > 0 ? size : 1) {
+        if (size == 0) {
+            key_of(key, start % KEYS);
+            must(hlc_node_write(&node, start, key, 8, (const uint8_t *)"value000", 8, &number, &stamp));
+            must(hlc_store_accept_write(&store, 0, number, stamp, key, 8, (const uint8_t *)"value000", 8, &word));
+            continue;
+        }
+        hlc_batch batch = hlc_batch_in(room, sizeof room);
+        for (int i = 0; i < size; i++) {
+            key_of(key, (start + i) % KEYS);
+            must(hlc_batch_write(&batch, key, 8, (const uint8_t *)"value000", 8));
+        }
+        must(hlc_node_write_batch(&node, start, batch.count, batch.at, batch.len, &number, &stamp));
+        must(hlc_store_accept_batch(&store, 0, number, stamp, batch.count, batch.at, batch.len, &word));
+    }
+    take(kind, t, WRITES);
+    hlc_store_close(&store);
+}
+
 /* Measures many reads in one call, and a scan per key. */
 static void take_many(uint64_t id, int read, int scan)
 {
@@ -113,12 +141,17 @@ int main(void)
 {
     static const char *names[] = { "accept of a write", "the same, by 1000", "rows", "floor", "a refused write",
                                    "read, 100 versions", "node's write", "accept from a log, by 1000",
-                                   "read, by 1000", "scan, a key" };
+                                   "read, by 1000", "scan, a key", "a write, issued and accepted",
+                                   "a batch of 1", "a batch of 10, a key", "a batch of 100, a key" };
     uint64_t word, id, at, number;
     uint8_t key[8], out[64];
     size_t len;
     for (int run = 0; run < 9; run++) {
         hlc_node node = hlc_node_open(0, 0);
+        take_issued(10, 0);
+        take_issued(11, 1);
+        take_issued(12, 10);
+        take_issued(13, 100);
         take_logs(7);
         must(hlc_store_open(&store, 1));
         double t = now();
@@ -154,5 +187,5 @@ int main(void)
         for (int i = 0; i < WRITES; i++) must(hlc_node_write(&node, i, key, 8, key, 8, &number, &word));
         take(6, t, WRITES);
     }
-    for (int kind = 0; kind < 10; kind++) printf("C: %s %.1f\n", names[kind], least[kind]);
+    for (int kind = 0; kind < 14; kind++) printf("C: %s %.1f\n", names[kind], least[kind]);
 }
