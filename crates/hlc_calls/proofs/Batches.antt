@@ -3,7 +3,8 @@ use Rattle.std.proofs.Common.{◌≡◌, ◌<◌, ◌+◌, ◌∙◌, ℕ, lit<,
 use Rattle.std.proofs.Common.{List, [], ◌∷◌, ◌++◌, map, take, length, get_or}
 use Rattle.std.specs.Prelude.{Option, Some, None}
 use Rattle.std.proofs.lemmas.List.{take_more, map-append}
-use Rattle.hlc_rows.specs.declared.limits.BodyFault.TheVariants.{BadKey, ValueTooLong}
+use Rattle.hlc_rows.specs.declared.limits.BodyFault.TheVariants.{BadKey, ValueTooLong, NoWrites, TooManyWrites}
+use Rattle.hlc_rows.specs.declared.limits.BodyFault.TheVariants.{KeyTwice}
 use Rattle.hlc_node.specs.declared.item.Item.{Item}
 use Rattle.hlc_events.specs.declared.fault.CoreFault.{CoreFault}
 use Rattle.hlc_events.specs.declared.fault.CoreFault.TheVariants.{NoNode, Link, Body, Join, AboveFloor, BelowHorizon}
@@ -33,6 +34,9 @@ link_above (StampNotRising head) = lit< tt
 body_above : (fault : BodyFault) → 0 < body_code fault
 body_above BadKey = lit< tt
 body_above ValueTooLong = lit< tt
+body_above NoWrites = lit< tt
+body_above TooManyWrites = lit< tt
+body_above KeyTwice = lit< tt
 
 join_above : (fault : JoinFault) → 0 < answer_code (Join fault)
 join_above TooManyNodes = lit< tt
