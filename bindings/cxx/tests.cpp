@@ -593,6 +593,10 @@ void batches() {
   EXPECT(refusal_of([&] { store.accept_batch(made, batch_of({{"a", "x"}, {"a", {}}})); }) == HLC_KEY_TWICE);
   EXPECT(refusal_of([&] { store.accept_batch({1, 0, {9}}, batch); }) == HLC_NO_NODE);
   EXPECT(refusal_of([&] { store.accept_batch({0, 1, {9}}, batch); }) == HLC_STAMP_NOT_RISING && store.rows() == 1);
+  EXPECT(store.check_batch(made, {}).kind() == error_kind::no_writes);
+  EXPECT(store.check_batch(made, batch_of({{"a", "x"}, {"a", {}}})).kind() == error_kind::key_twice);
+  EXPECT(store.check_batch({0, 2, {}}, {}).kind() == error_kind::not_next && store.check_batch({0, 2, {}}, {}).word == 1);
+  EXPECT(store.check_batch(made, batch) && store.check_batch(made, batch).word == 0);
   store.accept_batch(made, batch);
   EXPECT(store.rows() == 4 && refusal_of([&] { store.accept_batch(made, batch); }) == HLC_NOT_NEXT);
   const hlcstore::snapshot early = store.open_snapshot({made.stamp.word - 1}), late = store.open_snapshot();
@@ -603,6 +607,7 @@ void batches() {
     EXPECT(hlcstore::error(code).what() == hlcstore::error_text(code) && !hlcstore::error_text(code).empty());
   }
   hlcstore::shared_store shared{hlcstore::store(1)};
+  EXPECT(bool(shared.check_batch({0, 0, made.stamp}, batch)));
   shared.accept_batch({0, 0, made.stamp}, batch);
   EXPECT(shared.open_snapshot().get("a") == "x" && shared.rows() == 3);
 }

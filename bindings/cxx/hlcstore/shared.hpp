@@ -229,6 +229,9 @@ class shared_store {
   [[nodiscard]] answer check_erase(const item& item, std::string_view key) const {
     return ask(&store::check_erase, item, key);
   }
+  [[nodiscard]] answer check_batch(const item& item, const batch& writes) const {
+    return ask(&store::check_batch, item, writes);
+  }
   [[nodiscard]] answer check_report(const item& item) const { return ask(&store::check_report, item); }
   node join() { return make(&store::join); }
   node join_at(timestamp start) { return make(&store::join_at, start); }

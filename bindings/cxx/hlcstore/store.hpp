@@ -267,6 +267,17 @@ class store {
     return detail::answered(hlc_store_check_delete, &mine, item.node, item.number, item.stamp.word, detail::bytes(key),
                             key.size());
   }
+  [[nodiscard]] answer check_batch(const item& item, const batch& writes) const {
+    const answer of_item = check_report(item);
+    if (!of_item) return of_item;
+    // A node at its start refuses the same writes.
+    hlc_node issuing = hlc_node_open(0, 0);
+    const std::string_view all = writes.bytes();
+    std::uint64_t number;
+    const answer of_writes = detail::answered(hlc_node_write_batch, &issuing, std::uint64_t{0}, writes.size(),
+                                              detail::bytes(all), all.size(), &number);
+    return of_writes ? of_item : of_writes;
+  }
   [[nodiscard]] answer check_report(const item& item) const {
     hlc_store mine = copy();
     return detail::answered(hlc_store_check_report, &mine, item.node, item.number, item.stamp.word);

@@ -2,8 +2,8 @@
  * Then the file is opened without faults, and compared with what was promised.
  *
  * The story has one thread: it opens a file, appends under all promises, sends, joins, makes checkpoints and vacuums,
- * closes the file and opens it again. Each append writes a key of its own and the key `hot`, so that a snapshot at its
- * stamp tells how far the file is. */
+ * closes the file and opens it again. Each append writes a key of its own and the key `hot`, as two items or as one, so
+ * that a snapshot at its stamp tells how far the file is. */
 #include "test.h"
 #include "shim.h"
 
@@ -34,6 +34,12 @@ static const char *key_of(int step)
     static char key[16];
     snprintf(key, sizeof key, "k%02d", step);
     return key;
+}
+
+/* Every other append is one item, so that both keys have its stamp; else `hot` has the next one, which is returned. */
+static bool is_one_item(int step)
+{
+    return step % 2 == 1;
 }
 
 /* Refusals that a fault may cause. After one that leaves a doubt, the file says that it is sealed until it is not. */
@@ -71,6 +77,9 @@ static void expect_seen(int step)
     bool there = steps[step].known == IS_THERE || steps[step].known == IS_WRITTEN;
     EXPECT_VALUE(file, there ? steps[step].stamp : 0, key_of(step), there ? "value" : "");
     if (there) EXPECT_VALUE(file, steps[step].stamp, "hot", key_of(step));
+    if (!there || !is_one_item(step) || steps[step].stamp == horizon) return;
+    EXPECT_VALUE(file, steps[step].stamp - 1, key_of(step), "");
+    HOLDS(strcmp(value_at(file, steps[step].stamp - 1, "hot"), key_of(step)) != 0);
 }
 
 static void append(uint32_t promise)
@@ -82,7 +91,9 @@ static void append(uint32_t promise)
     hlc_file_batch_clear(batch);
     hlc_file_batch_put(batch, BYTES(key_of(step)), BYTES("value"));
     hlc_file_batch_put(batch, BYTES("hot"), BYTES(key_of(step)));
-    uint32_t answer = hlc_file_append(file, 0, 10 + (uint64_t)step, batch, promise, &stamp);
+    uint32_t answer = is_one_item(step)
+                          ? hlc_file_write_batch(file, 0, 10 + (uint64_t)step, batch, promise, &stamp)
+                          : hlc_file_append(file, 0, 10 + (uint64_t)step, batch, promise, &stamp);
     steps[step].stamp = stamp;
     steps[step].known = answer == HLC_OK ? (promise == HLC_FILE_WRITTEN ? IS_WRITTEN : IS_THERE)
                         : answer == HLC_FILE_UNKNOWN ? IS_UNKNOWN : IS_REFUSED;
@@ -149,9 +160,8 @@ static void find_out(int step)
     hlc_file_read_end(file);
     EXPECT(found, 1);
     hlc_file_close_snapshot(file, id, &word);
-    /* The key `hot` has the next stamp. */
     memcpy(&steps[step].stamp, out, sizeof steps[step].stamp);
-    steps[step].stamp++;
+    if (!is_one_item(step)) steps[step].stamp++;
 }
 
 /* A write that was forgotten damages the file, which is found, or is overwritten later. */

@@ -29,7 +29,9 @@ static void *write_on(void *argument)
         hlc_file_batch_clear(batch);
         hlc_file_batch_put(batch, BYTES(key_of(writer, i)), BYTES("value"));
         uint32_t promise = 1 + (writer + i / 5) % 3;
-        answers[writer][i] = hlc_file_append(file, 0, HLC_FILE_NOW, batch, promise, &stamps[writer][i]);
+        answers[writer][i] =
+            i % 2 == 0 ? hlc_file_append(file, 0, HLC_FILE_NOW, batch, promise, &stamps[writer][i])
+                       : hlc_file_write_batch(file, 0, HLC_FILE_NOW, batch, promise, &stamps[writer][i]);
     }
     hlc_file_batch_drop(batch);
     return NULL;
