@@ -441,7 +441,7 @@ class Threads(unittest.TestCase):
             thread.join()
         self.assertEqual(wrong, [])
 
-    def feed(self, store, number, running):
+    def feed(self, store, number):
         node, pick = Node(number), random.Random(number)
         for reading in range(1, 1500):
             value = None if pick.random() < 0.2 else b"%d of node %d" % (reading, number) * pick.randrange(1, 20)
@@ -450,8 +450,7 @@ class Threads(unittest.TestCase):
                     batch.delete(key) if value is None else batch.write(key, value)
             store.accept(batch.item)
             if reading % 100 == 0:
-                store.vacuum_to(store.floor)
-        running.pop()
+                store.vacuum()
 
     def compare(self, snapshot):
         listed = dict(snapshot.items())
@@ -476,7 +475,14 @@ class Threads(unittest.TestCase):
 
     def test_no_reader_sees_a_part(self):
         store, running = Store(3), [0, 1, 2]
-        feeds = [lambda i=i: self.feed(store, i, running) for i in range(3)]
+
+        def feed(number):
+            try:
+                self.feed(store, number)
+            finally:
+                running.pop()
+
+        feeds = [lambda i=i: feed(i) for i in range(3)]
         self.run_all(feeds + [lambda: self.look(store, running)] * 3)
         self.assertEqual((store.floor, store.snapshots()), (stamp(1499), []))
 

@@ -196,7 +196,7 @@ fn keys_of(group: u64) -> impl Iterator<Item = String> {
 }
 
 /// Writes all keys of a group at a time, with one value, or deletes them all.
-fn write_groups(store: &SharedStore, id: u16, running: &AtomicUsize) {
+fn write_groups(store: &SharedStore, id: u16) {
     let (mut node, mut batch, mut random) = (Node::new(id, Stamp::ZERO), Batch::new(), Random::new(id.into()));
     for reading in 1..=2_000 {
         let (group, deletes) = (random.below(GROUPS), random.below(5) == 0);
@@ -207,10 +207,18 @@ fn write_groups(store: &SharedStore, id: u16, running: &AtomicUsize) {
         }
         store.accept(node.write_batch(reading, &batch).unwrap()).unwrap();
         if reading % 100 == 0 {
-            store.vacuum_to(store.floor().unwrap()).unwrap();
+            store.vacuum().unwrap();
         }
     }
-    running.fetch_sub(1, Ordering::SeqCst);
+}
+
+/// Counts down at the end of a thread, also where it panics.
+struct Ended<'a>(&'a AtomicUsize);
+
+impl Drop for Ended<'_> {
+    fn drop(&mut self) {
+        self.0.fetch_sub(1, Ordering::SeqCst);
+    }
 }
 
 /// Checks that all keys of each group have one value, or none has one.
@@ -249,7 +257,10 @@ fn readers_in_threads_see_no_part_of_a_batch() {
         let readers: Vec<_> = (0..3).map(|_| scope.spawn(|| read_groups(&store, &running))).collect();
         for id in 0..WRITERS {
             let (store, running) = (&store, &running);
-            scope.spawn(move || write_groups(store, id, running));
+            scope.spawn(move || {
+                let _ended = Ended(running);
+                write_groups(store, id);
+            });
         }
         for reader in readers {
             assert!(reader.join().unwrap() > 1);
