@@ -104,6 +104,14 @@ unsafe extern "C" {
         promise: u32,
         word: *mut u64,
     ) -> u32;
+    pub fn hlc_file_write_batch(
+        file: *mut hlc_file,
+        node: u16,
+        reading: u64,
+        batch: *mut hlc_file_batch,
+        promise: u32,
+        word: *mut u64,
+    ) -> u32;
     pub fn hlc_file_write(
         file: *mut hlc_file,
         node: u16,
