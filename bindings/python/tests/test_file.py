@@ -66,6 +66,17 @@ class Calls(InFolder):
             self.assertEqual(split(file.append(iter([(b"e", b"5")]), reading=6)), (6, 2))
             self.assertEqual(list(file.snapshot()), [b"d", b"e"])
 
+    def test_a_batch_of_one_stamp(self):
+        with File(self.path) as file:
+            file.write(b"c", b"old", reading=4)
+            stamp = file.write_batch({b"a": b"1", b"c": None}, reading=5)
+            self.assertEqual(split(stamp), (5, 0))
+            self.assertEqual(dict(file.snapshot(stamp - 1).items()), {b"c": b"old"})
+            self.assertEqual(dict(file.snapshot(stamp).items()), {b"a": b"1"})
+            for refused, pairs in ((hlcstore.NoWrites, []), (hlcstore.KeyTwice, [(b"a", b"2"), (b"a", b"3")])):
+                with self.assertRaises(refused):
+                    file.write_batch(pairs)
+
     def test_a_batch_that_is_left_is_not_appended(self):
         with File(self.path) as file:
             with self.assertRaises(ZeroDivisionError), file.batch() as batch:

@@ -196,24 +196,37 @@ static bool add_pairs(hlc_file_batch *batch, PyObject *pairs)
     return is_added && !PyErr_Occurred();
 }
 
-static PyObject *file_append(PyObject *self, PyObject *args, PyObject *words)
+/* Makes a call that writes pairs as a batch. */
+typedef uint32_t batch_call(hlc_file *, uint16_t, uint64_t, hlc_file_batch *, uint32_t, uint64_t *);
+
+static PyObject *write_pairs(PyObject *self, PyObject *args, PyObject *words, const char *format, batch_call *call)
 {
     static char *names[] = { "pairs", "node", "reading", "promise", NULL };
     PyObject *pairs, *stamp = NULL;
     uint16_t node = 0, promise = HLC_FILE_DEFAULT;
     uint64_t reading = HLC_FILE_NOW, word = 0;
     hlc_file_batch *batch;
-    if (!PyArg_ParseTupleAndKeywords(args, words, "O|$O&O&O&:append", names, &pairs, take_u16, &node, take_reading,
-                                     &reading, take_u16, &promise))
+    if (!PyArg_ParseTupleAndKeywords(args, words, format, names, &pairs, take_u16, &node, take_reading, &reading,
+                                     take_u16, &promise))
         return NULL;
     uint32_t code = hlc_file_batch_new(&batch);
     if (code != HLC_OK) return refuse(code, 0);
     if (add_pairs(batch, pairs)) {
-        WITH_FILE(self, code, hlc_file_append(file, node, reading, batch, promise, &word));
+        WITH_FILE(self, code, call(file, node, reading, batch, promise, &word));
         stamp = stamp_or_refusal(self, code, word);
     }
     hlc_file_batch_drop(batch);
     return stamp;
+}
+
+static PyObject *file_append(PyObject *self, PyObject *args, PyObject *words)
+{
+    return write_pairs(self, args, words, "O|$O&O&O&:append", hlc_file_append);
+}
+
+static PyObject *file_write_batch(PyObject *self, PyObject *args, PyObject *words)
+{
+    return write_pairs(self, args, words, "O|$O&O&O&:write_batch", hlc_file_write_batch);
 }
 
 static PyObject *file_append_records(PyObject *self, PyObject *args, PyObject *words)
@@ -670,6 +683,10 @@ static PyMethodDef file_methods[] = {
            "append($self, /, pairs, *, node=0, reading=None, promise=0)\n--\n\n"
            "Append pairs of a key and its value, or None for a deletion, as one batch: all of them or none.\n\n"
            "Return the stamp of the last one, at which a snapshot has all of them."),
+    METHOD("write_batch", file_write_batch,
+           "write_batch($self, /, pairs, *, node=0, reading=None, promise=0)\n--\n\n"
+           "Write pairs of a key and its value, or None for a deletion, as one item: all of them at one stamp.\n\n"
+           "Return the stamp: a snapshot, at whatever stamp, shows all of them or none."),
     METHOD("append_records", file_append_records,
            "append_records($self, /, log, *, promise=0)\n--\n\n"
            "Append the records of other machines, one after another as bytes, all or none, and return how many.\n\n"

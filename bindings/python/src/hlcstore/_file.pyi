@@ -45,6 +45,14 @@ class File:
         reading: int | None = None,
         promise: int = 0,
     ) -> Stamp: ...
+    def write_batch(
+        self,
+        pairs: Iterable[tuple[ReadableBuffer, ReadableBuffer | None]],
+        *,
+        node: int = 0,
+        reading: int | None = None,
+        promise: int = 0,
+    ) -> Stamp: ...
     def append_records(self, log: ReadableBuffer, *, promise: int = 0) -> int: ...
     def write(
         self, key: ReadableBuffer, value: ReadableBuffer, *, node: int = 0, reading: int | None = None

@@ -389,6 +389,21 @@ class File(_file.File):
         listed = pairs.items() if isinstance(pairs, collections.abc.Mapping) else pairs
         return super().append(listed, node=node, reading=reading, promise=promise)
 
+    def write_batch(
+        self,
+        pairs: "_Pairs",
+        *,
+        node: int = 0,
+        reading: int | None = None,
+        promise: int = Promise.DEFAULT,
+    ) -> Stamp:
+        """Write 1 to 256 different keys, as pairs of a key and its value, or None for a deletion, at one stamp.
+
+        Return the stamp: a snapshot, at whatever stamp, shows all of them or none.
+        """
+        listed = pairs.items() if isinstance(pairs, collections.abc.Mapping) else pairs
+        return super().write_batch(listed, node=node, reading=reading, promise=promise)
+
     def batch(self, *, node: int = 0, reading: int | None = None, promise: int = Promise.DEFAULT) -> Batch:
         """Return an empty batch for a with statement, which appends it at its end."""
         return Batch(self, node, reading, promise)

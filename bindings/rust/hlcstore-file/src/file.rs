@@ -58,6 +58,11 @@ impl File {
         self.node(0).append(batch, Promise::Default)
     }
 
+    /// Writes a batch as one item of node 0, with the promise of the options: see [`Writer::write_batch`].
+    pub fn write_batch(&self, batch: &mut Batch) -> Result<Stamp> {
+        self.node(0).write_batch(batch, Promise::Default)
+    }
+
     /// Appends the records of other machines, one after another as bytes, all or none, and returns how many they are.
     /// Those that came before are passed over.
     ///
@@ -205,6 +210,15 @@ impl Writer<'_> {
     /// Refusals: `BadOption`, and those of the type. The batch keeps what it had, except after `Later`.
     pub fn append(self, batch: &mut Batch, promise: Promise) -> Result<Stamp> {
         self.handle.append(self.from, &mut batch.handle, promise)
+    }
+
+    /// Writes a batch as one item, whose writes, 1 to 256 of different keys, have one stamp, and clears it: a snapshot, at
+    /// whatever stamp, shows all of them or none. Returns the stamp.
+    ///
+    /// Refusals: `BadOption`; `NoWrites`, `TooManyWrites`, `KeyTwice` of the store; and those of the type. The batch
+    /// keeps what it had, except after `Later`.
+    pub fn write_batch(self, batch: &mut Batch, promise: Promise) -> Result<Stamp> {
+        self.handle.write_batch(self.from, &mut batch.handle, promise)
     }
 
     /// Writes a value to a key, and returns the stamp.

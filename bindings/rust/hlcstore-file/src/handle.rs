@@ -141,6 +141,13 @@ impl Handle {
         self.stamp(|file, word| unsafe { sys::hlc_file_append(file, from.node, from.reading, batch, promise, word) })
     }
 
+    pub(crate) fn write_batch(&self, from: Origin, batch: &mut BatchHandle, promise: Promise) -> Result<Stamp> {
+        let (batch, promise) = (batch.0.as_ptr(), promise.to_number());
+        self.stamp(|file, word| unsafe {
+            sys::hlc_file_write_batch(file, from.node, from.reading, batch, promise, word)
+        })
+    }
+
     pub(crate) fn write(&self, from: Origin, key: &[u8], value: &[u8]) -> Result<Stamp> {
         let (key, key_len, value, value_len) = (key.as_ptr(), key.len(), value.as_ptr(), value.len());
         self.stamp(|file, word| unsafe {

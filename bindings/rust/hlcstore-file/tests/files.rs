@@ -81,6 +81,27 @@ fn batches_are_appended_whole() -> Result<()> {
 }
 
 #[test]
+fn a_batch_of_one_stamp() -> Result<()> {
+    let folder = Folder::new("one_stamp");
+    let file = File::open(folder.path())?;
+    let mut batch = Batch::new()?;
+    file.node(0).at(4).write(b"c", b"old")?;
+    batch.write(b"a", b"1")?;
+    batch.delete(b"c")?;
+    let stamp = file.node(0).at(5).write_batch(&mut batch, Promise::Group)?;
+    assert_eq!((stamp, batch.is_empty()), (Stamp::new(5, 0), true));
+    assert_eq!(file.snapshot_at(Stamp::new(4, 65_535))?.iter().collect::<Result<Vec<_>>>()?, [pair("c", "old")]);
+    assert_eq!(file.snapshot_at(stamp)?.iter().collect::<Result<Vec<_>>>()?, [pair("a", "1")]);
+
+    assert_eq!(file.write_batch(&mut batch).unwrap_err().kind(), ErrorKind::Store(hlcstore::ErrorKind::NoWrites));
+    batch.write(b"a", b"2")?;
+    batch.write(b"a", b"3")?;
+    assert_eq!(file.write_batch(&mut batch).unwrap_err().kind(), ErrorKind::Store(hlcstore::ErrorKind::KeyTwice));
+    assert_eq!(batch.len(), 2);
+    Ok(())
+}
+
+#[test]
 fn all_is_there_after_opening_again() -> Result<()> {
     let folder = Folder::new("reopened");
     for promise in [Promise::Default, Promise::Synced, Promise::Group, Promise::Written] {
