@@ -14,18 +14,32 @@ fn report(number: u8) -> Item {
     said(0, number, Body::Report)
 }
 
+/// Puts three items, and returns whether all were put.
+fn put_items<R: Wait>(rt: &R, sender: &mut LinkSender) -> bool
+    ensures { sender.new.link ≡ sender.old.link }
+{
+    for number in 0..3 {
+        if sender.put(rt, report(number)).is_err() {
+            return false;
+        }
+    }
+    true
+}
+
+/// Puts the end twice and then an item, and returns whether the end was put, and the item was not.
+fn put_ends<R: Wait>(rt: &R, sender: &mut LinkSender) -> bool
+    ensures { sender.new.link ≡ sender.old.link }
+{
+    let ends = sender.put_end(rt).is_ok() && sender.put_end(rt).is_ok();
+    ends && sender.put(rt, report(3)).is_err()
+}
+
 /// Puts three items, and then the end twice, and returns whether all were put, and a later item was not.
 fn put_three<R: Wait>(rt: &R, mut sender: LinkSender) -> (LinkSender, bool)
     ensures { result.0.link ≡ sender.link }
 {
-    for number in 0..3 {
-        if sender.put(rt, report(number)).is_err() {
-            return (sender, false);
-        }
-    }
-    let ends = sender.put_end(rt).is_ok() && sender.put_end(rt).is_ok();
-    let late = sender.put(rt, report(3));
-    (sender, ends && late.is_err())
+    let put = put_items(rt, &mut sender) && put_ends(rt, &mut sender);
+    (sender, put)
 }
 
 /// Returns the number of an item that was taken; 100 for the end, 200 where nothing was taken.
