@@ -18,12 +18,9 @@ fn report(number: u8) -> Item {
 fn put_items<R: Wait>(rt: &R, sender: &mut LinkSender) -> bool
     ensures { sender.new.link ≡ sender.old.link }
 {
-    for number in 0..3 {
-        if sender.put(rt, report(number)).is_err() {
-            return false;
-        }
-    }
-    true
+    sender.put(rt, report(0)).is_ok()
+        && sender.put(rt, report(1)).is_ok()
+        && sender.put(rt, report(2)).is_ok()
 }
 
 /// Puts the end twice and then an item, and returns whether the end was put, and the item was not.
