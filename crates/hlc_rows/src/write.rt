@@ -10,6 +10,9 @@ use hlc_bytes::Bytes;
 /// The number of marks of keys.
 const MARKS: usize = 4_096;
 
+/// Below so many writes each key is compared with each other one.
+const FEW: usize = 9;
+
 /// A new version of a key.
 #[derive(Clone, PartialEq, Eq, Debug, Drop)]
 pub struct Write {
@@ -51,9 +54,37 @@ fn mark_of(key: &[u8]) -> usize
     mark
 }
 
-/// Returns whether two of the writes are of one key. It compares a key with those before it only if one of them has the
+/// Returns whether one of the writes is of this key.
+fn have_key(writes: Writes<'_>, key: &[u8]) -> bool
+    ensures { result ≡ writes_key key.now writes.entry }
+{
+    let mut rest = writes;
+    while let Some((first, others)) = rest.split_first() {
+        if first.key == key {
+            return true;
+        }
+        rest = others;
+    }
+    false
+}
+
+/// Returns whether two of a few writes are of one key: it compares each with each other one.
+fn few_have_key_twice(writes: Writes<'_>) -> bool
+    ensures { result ≡ writes_twice writes.entry }
+{
+    let mut rest = writes;
+    while let Some((first, others)) = rest.split_first() {
+        if have_key(others.lend(), first.key) {
+            return true;
+        }
+        rest = others;
+    }
+    false
+}
+
+/// Returns whether two of many writes are of one key: it compares a key with those before it only if one of them has the
 /// same mark, so that it takes time in proportion to the number of writes, but for chance.
-fn has_key_twice(writes: Writes<'_>) -> bool
+fn many_have_key_twice(writes: Writes<'_>) -> bool
     ensures { result ≡ writes_twice writes.entry }
 {
     let mut marks = [false; MARKS];
@@ -68,6 +99,16 @@ fn has_key_twice(writes: Writes<'_>) -> bool
         rest = others;
     }
     false
+}
+
+/// Returns whether two of the writes are of one key.
+fn has_key_twice(writes: Writes<'_>) -> bool
+    ensures { result ≡ writes_twice writes.entry }
+{
+    if writes.len() < FEW {
+        return few_have_key_twice(writes);
+    }
+    many_have_key_twice(writes)
 }
 
 /// Returns the first reason to refuse one of the writes by itself.

@@ -2,11 +2,11 @@
 use Rattle.std.proofs.Common.{refl, inl, inr, sym, ◌∙◌, ◌-◌}
 use Rattle.hlc_rows.specs.Spelled.{write_seen}
 use Rattle.hlc_rows.proofs.TwiceLemmas.{passed-found, passed-more}
-use Rattle.hlc_rows.proofs.write.has_key_twice.Goals.{
+use Rattle.hlc_rows.proofs.write.many_have_key_twice.Goals.{
   else-marks-mark-via-then-marks-mark+else-first_have_key,
   else-marks-mark-via-else-marks-mark,
 }
-use Rattle.hlc_rows.proofs.write.has_key_twice.Goals as goal
+use Rattle.hlc_rows.proofs.write.many_have_key_twice.Goals as goal
 
 pub returns-then-first_have_key : goal.returns-then-first_have_key
 returns-then-first_have_key c =

@@ -1,7 +1,7 @@
 -- The writes before are of different keys, and the mark of each of their keys is set.
 use Rattle.std.specs.Prelude.{◌≡◌, length}
 use Rattle.hlc_rows.proofs.TwiceLemmas.{Passed}
-use Rattle.hlc_rows.proofs.write.has_key_twice.Given as goal
+use Rattle.hlc_rows.proofs.write.many_have_key_twice.Given as goal
 
 abbrev pub invariant-loop-first : goal.invariant-loop-first
 invariant-loop-first l = Passed l.fn.writes l.marks l.rest
