@@ -1,5 +1,5 @@
 //! Links between two threads.
-ghost use Rattle.std.specs.Prelude.{◌≡◌, true};
+ghost use Rattle.std.specs.Prelude.{◌≡◌, ◌<◌, true};
 
 use crate::expected::must_be;
 use hlc_link::{LinkClosed, LinkReceiver, LinkSender, Parcel, link};
@@ -14,13 +14,26 @@ fn report(number: u8) -> Item {
     said(0, number, Body::Report)
 }
 
+/// Puts the report of this number, and returns whether it was put.
+fn put_report<R: Wait>(rt: &R, sender: &mut LinkSender, number: u8) -> bool
+    ensures { sender.new.link ≡ sender.old.link }
+{
+    sender.put(rt, report(number)).is_ok()
+}
+
+/// Puts two items, and returns whether both were put.
+fn put_two<R: Wait>(rt: &R, sender: &mut LinkSender, number: u8) -> bool
+    requires { number < 255 }
+    ensures { sender.new.link ≡ sender.old.link }
+{
+    put_report(rt, sender, number) && put_report(rt, sender, number + 1)
+}
+
 /// Puts three items, and returns whether all were put.
 fn put_items<R: Wait>(rt: &R, sender: &mut LinkSender) -> bool
     ensures { sender.new.link ≡ sender.old.link }
 {
-    sender.put(rt, report(0)).is_ok()
-        && sender.put(rt, report(1)).is_ok()
-        && sender.put(rt, report(2)).is_ok()
+    put_two(rt, sender, 0) && put_report(rt, sender, 2)
 }
 
 /// Puts the end twice and then an item, and returns whether the end was put, and the item was not.
