@@ -10,7 +10,8 @@ use crate::codes::refuse;
 use hlc_core::{Core, ItemRef};
 use hlc_wire::{DecodeError, item_ref_at, item_size, put_item};
 
-/// Writes an item as bytes. Returns 0, the length of the bytes and, where they fit, the bytes; or the number of the refusal of its body.
+/// Writes an item as bytes. Returns 0, the length of the bytes and, where they fit, the bytes; or the number of the
+/// refusal of its body.
 pub fn put(item: &ItemRef<'_>, out: &mut [u8], len: &mut usize) -> u32
     ensures { ReturnsItem item.now result len.new out.old out.new }
 {

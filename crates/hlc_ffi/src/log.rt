@@ -50,8 +50,8 @@ pub extern "C" fn hlc_item_encode_delete(
     log::put(&item, out, len)
 }
 
-/// Writes a node's batch as bytes, from those of its writes, as in `hlc_node_write_batch`. Returns 0, how many there are
-/// and, where they fit, the bytes; or why no item may have these writes; first 29, or 106. No memory.
+/// Writes a node's batch as bytes, from those of its writes, as in `hlc_node_write_batch`. Returns 0, how many there
+/// are and, where they fit, the bytes; or why no item may have these writes; first 29, or 106. No memory.
 #[unsafe(no_mangle)]
 pub extern "C" fn hlc_item_encode_batch(
     node: u16,

@@ -76,8 +76,8 @@ pub extern "C" fn hlc_node_delete(
 }
 
 /// Issues one item of so many writes, 1 to 256 of different keys, from their bytes: for each a byte of length and the
-/// key; and 0 for a deletion, or 1, two bytes of length (big-endian) and the value. Returns 0, its number and its stamp,
-/// or a refusal and its word; before those of the node 29, or 106 and the first fault of the bytes. No memory.
+/// key; and 0 for a deletion, or 1, two bytes of length (big-endian) and the value. Returns 0, its number and its
+/// stamp, or a refusal and its word; before those of the node 29, or 106 and the first fault of the bytes. No memory.
 #[unsafe(no_mangle)]
 pub extern "C" fn hlc_node_write_batch(
     node: &mut NodeCore,

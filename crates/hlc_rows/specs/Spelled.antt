@@ -1,5 +1,5 @@
--- Writes that are lent: as a slice, or as their bytes, one after another. A write is a byte of length and its key; and 0
--- for a deletion mark, or 1, two bytes of length (big-endian) and its value. What is missing at the end of the bytes
+-- Writes that are lent: as a slice, or as their bytes, one after another. A write is a byte of length and its key; and
+-- 0 for a deletion mark, or 1, two bytes of length (big-endian) and its value. What is missing at the end of the bytes
 -- counts as empty, so that any bytes say some writes.
 use Rattle.std.specs.Prelude.{ℕ, zero, suc, List, [], ◌∷◌, take, drop, Option, Some, None, option_copied}
 use Rattle.std.specs.Int.{w16, from_be_bytes}

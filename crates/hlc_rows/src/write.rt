@@ -82,8 +82,8 @@ fn few_have_key_twice(writes: Writes<'_>) -> bool
     false
 }
 
-/// Returns whether two of many writes are of one key: it compares a key with those before it only if one of them has the
-/// same mark, so that it takes time in proportion to the number of writes, but for chance.
+/// Returns whether two of many writes are of one key: it compares a key with those before it only if one of them has
+/// the same mark, so that it takes time in proportion to the number of writes, but for chance.
 fn many_have_key_twice(writes: Writes<'_>) -> bool
     ensures { result ≡ writes_twice writes.entry }
 {

@@ -1,5 +1,6 @@
 -- A batch that is read is the batch that was written, and what was written is read again.
-use Rattle.std.proofs.Common.{◌≡◌, ℕ, zero, suc, ◌+◌, ◌<◌, ◌≤◌, ◌*◌, ◌-◌, List, [], ◌∷◌, ◌++◌, length, Some, None, Ok, Err, Result}
+use Rattle.std.proofs.Common.{◌≡◌, ℕ, zero, suc, ◌+◌, ◌<◌, ◌≤◌, ◌*◌, ◌-◌, List, [], ◌∷◌, ◌++◌, length}
+use Rattle.std.proofs.Common.{Some, None, Ok, Err, Result}
 use Rattle.std.proofs.Common.{refl, sym, ap, subst, ◌∙◌, append_assoc, arith, length-append}
 use Rattle.std.proofs.Common.{rules, Bool, true, false, cond, eqb, ltb, take, drop}
 use Rattle.std.proofs.lemmas.Bool.{eqb-false, ltb-false}
@@ -39,10 +40,14 @@ write_takes bytes x fits e =
     subst (λ (y : Write × List ℕ). Takes bytes (write_bytes y.0) y.1 × WriteFits y.0)
     (ok_is (a_write a.0.0 b.0.0, b.0.1) x b.2) (both, (t.1, u.1))
 
-write_again : (write : Write) (rest : List ℕ) → WriteFits write → write_at (write_bytes write ++ rest) ≡ Ok (write, rest)
+write_again : (write : Write) (rest : List ℕ) → WriteFits write
+    → write_at (write_bytes write ++ rest) ≡ Ok (write, rest)
 write_again write rest h =
     ap write_at (append_assoc (key_bytes write.key) (value_bytes write.value) rest)
-    ∙ rw (key_reader.again write.key (value_bytes write.value ++ rest) h.0, value_reader.again write.value rest h.1) refl
+    ∙ rw (
+      key_reader.again write.key (value_bytes write.value ++ rest) h.0,
+      value_reader.again write.value rest h.1,
+    ) refl
 
 pub write_reader : IsReader write_at write_bytes WriteFits
 write_reader = record { takes = write_takes; again = write_again }
@@ -140,7 +145,8 @@ value_is (zero ∷ rest) x read = ok_is (None, rest) x read
 value_is (suc zero ∷ []) x read = absurd cc
 value_is (suc zero ∷ high ∷ []) x read = absurd cc
 value_is (suc zero ∷ high ∷ low ∷ rest) x read =
-    let a = bind_ok (number_at w16 (high ∷ low ∷ rest)) (λ n. bytes_at n.0 n.1 >>= λ value. Ok (some_value value)) x read in
+    let a = bind_ok (number_at w16 (high ∷ low ∷ rest))
+    (λ n. bytes_at n.0 n.1 >>= λ value. Ok (some_value value)) x read in
     let c = guard_ok (ltb (length (high ∷ low ∷ rest)) 2) Short (from_be_bytes w16 (high ∷ low ∷ []), rest) a.0 a.1 in
     let b = bind_ok (bytes_at a.0.0 a.0.1) (λ value. Ok (some_value value)) x a.2 in
     let g = guard_ok (ltb (length a.0.1) a.0.0) Short (take a.0.0 a.0.1, drop a.0.0 a.0.1) b.0 b.1 in
@@ -193,7 +199,8 @@ first_none : (first second : Option BodyFault) → first_of first second ≡ Non
 first_none None second h = (refl, h)
 first_none (Some fault) second h = absurd cc
 
-pub write_fits : (key : List ℕ) (value : Option (List ℕ)) → write_refusal key value ≡ None → KeyFits key × ValueFits value
+pub write_fits : (key : List ℕ) (value : Option (List ℕ)) → write_refusal key value ≡ None
+    → KeyFits key × ValueFits value
 write_fits key None h = search (rules, common_steps)
 write_fits key (Some bytes) h = search (rules, common_steps)
 
