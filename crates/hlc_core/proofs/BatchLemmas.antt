@@ -1,20 +1,18 @@
 -- The rows of a batch: all have its node and its stamp. If the batch is not refused, they are a row set, since its
 -- writes are of different keys, and each of them is in the limits.
 use Rattle.std.proofs.Common.{◌≡◌, ℕ, List, [], ◌∷◌, ◌++◌, true, false, None, Some, refl, ap, sym, ◌∙◌, inl, inr}
-use Rattle.std.specs.Prelude.{Contains, Option, ◌==◌, nat_lt, length}
+use Rattle.std.specs.Prelude.{Contains}
 use Rattle.std.proofs.lemmas.Bool.{cases_Bool, cond-true, cond-false, both_ways, or_left, or_right, or_parts}
 use Rattle.std.proofs.lemmas.List.Elements.{Contains-append_cases, Contains-append_left, All-nil, All-cons}
 use Rattle.std.proofs.lemmas.Slice.Eq.{bytes_eq-Decides}
 use Rattle.hlc_values.proofs.MemberLemmas.{Contains-none, Contains-first, Contains-rest, Contains-cons_cases}
 use Rattle.hlc_rows.specs.declared.row.Row.{Row}
 use Rattle.hlc_rows.specs.declared.write.Write.{Write}
-use Rattle.hlc_rows.specs.declared.limits.BodyFault.{BodyFault}
-use Rattle.hlc_rows.specs.declared.limits.BodyFault.TheVariants.{NoWrites, TooManyWrites, KeyTwice}
-use Rattle.hlc_rows.specs.declared.limits.TheConstants.{MOST_WRITES}
 use Rattle.hlc_rows.specs.Limits.{write_refusal}
 use Rattle.hlc_rows.specs.Rows.{IsSameVersion, IsRowSet}
-use Rattle.hlc_rows.specs.Writes.{writes_key, writes_twice, first_of, writes_refusal, batch_refusal, row_written}
+use Rattle.hlc_rows.specs.Writes.{writes_key, writes_twice, writes_refusal, row_written}
 use Rattle.hlc_rows.specs.Writes.{rows_written}
+use Rattle.hlc_rows.proofs.WritesLemmas.{first-none}
 use Rattle.hlc_witness.specs.Cost.{IsInLimits, AreInLimits}
 
 -- each row of a batch has its node and its stamp
@@ -48,37 +46,14 @@ rows_written-set node stamp (write ∷ writes) once =
       rows_written-set node stamp writes both.1,
     )
 
-first_of-none : (first second : Option BodyFault) → first_of first second ≡ None → (first ≡ None) × (second ≡ None)
-first_of-none None second none = (refl, none)
-first_of-none (Some fault) second none = absurd (let g : Some fault ≡ None = none in cc)
-
 -- the rows of writes that are not refused are in the limits
 pub rows_written-limits : (node stamp : ℕ) (writes : List Write) → writes_refusal writes ≡ None
     → AreInLimits (rows_written node stamp writes)
 rows_written-limits node stamp [] none = All-nil _
 rows_written-limits node stamp (write ∷ writes) none =
-    let both = first_of-none (write_refusal write.key write.value) (writes_refusal writes) none in
+    let both = first-none (write_refusal write.key write.value) (writes_refusal writes) none in
     All-cons IsInLimits (row_written node stamp write) (rows_written node stamp writes) both.0
     (rows_written-limits node stamp writes both.1)
-
--- the writes of a batch that is not refused are of different keys, and none of them is refused
-pub batch-good : (writes : List Write) → batch_refusal writes ≡ None
-    → (writes_twice writes ≡ false) × (writes_refusal writes ≡ None)
-batch-good writes none =
-    elim (cases_Bool (length writes == 0)) [
-      | inl empty ↦ absurd (let g : Some NoWrites ≡ None = sym (cond-true _ _ _ empty) ∙ none in cc)
-      | inr some ↦
-          let h = sym (cond-false _ _ _ some) ∙ none in
-          elim (cases_Bool (nat_lt MOST_WRITES (length writes))) [
-            | inl many ↦ absurd (let g : Some TooManyWrites ≡ None = sym (cond-true _ _ _ many) ∙ h in cc)
-            | inr few ↦
-                let h2 = sym (cond-false _ _ _ few) ∙ h in
-                elim (cases_Bool (writes_twice writes)) [
-                  | inl twice ↦ absurd (let g : Some KeyTwice ≡ None = sym (cond-true _ _ _ twice) ∙ h2 in cc)
-                  | inr once ↦ (once, sym (cond-false _ _ _ once) ∙ h2)
-                ]
-          ]
-    ]
 
 -- two row sets without a common version are one row set
 pub row_set-append : (rows more : List Row) → IsRowSet rows → IsRowSet more

@@ -19,10 +19,11 @@ use Rattle.hlc_events.specs.declared.fault.CoreFault.TheVariants.{Body as bad_bo
 use Rattle.hlc_rows.specs.declared.limits.BodyFault.{BodyFault}
 use Rattle.hlc_node.specs.Items.{body_refusal, retires}
 use Rattle.hlc_rows.specs.Rows.{IsSameVersion, IsRowSet}
+use Rattle.hlc_rows.proofs.WritesLemmas.{good as writes-good}
 use Rattle.hlc_heads.specs.Low.{low}
 use Rattle.hlc_heads.proofs.LowLemmas.{low-is, low-rises, low-joins, low-stays}
 use Rattle.hlc_witness.specs.Cost.{IsInLimits, AreInLimits}
-use Rattle.hlc_core.proofs.BatchLemmas.{rows_written-are, rows_written-set, rows_written-limits, batch-good}
+use Rattle.hlc_core.proofs.BatchLemmas.{rows_written-are, rows_written-set, rows_written-limits}
 use Rattle.hlc_core.proofs.BatchLemmas.{row_set-append}
 use Rattle.hlc_core.specs.Past.{Step, Took, Opened, Closed, Vacuumed, Trimmed, Joined, numbered, count, head, retired}
 use Rattle.hlc_core.specs.Past.{top, floor, horizon, vacuumed, open_snapshots, room_refusal, open_refusal, body_rows}
@@ -295,7 +296,7 @@ body_rows-set : (node stamp : ℕ) (body : Body) → body_refusal body ≡ None 
 body_rows-set node stamp Report good = tt
 body_rows-set node stamp Retire good = tt
 body_rows-set node stamp (Write key value) good = ((λ other m same. Contains-none other m), tt)
-body_rows-set node stamp (Batch writes) good = rows_written-set node stamp writes (batch-good writes good).0
+body_rows-set node stamp (Batch writes) good = rows_written-set node stamp writes (writes-good writes good).once
 
 -- the rows of an item are added to others that are not versions of them
 pub row_set-body : (node stamp : ℕ) (body : Body) (rows : List Row) → body_refusal body ≡ None
@@ -322,7 +323,7 @@ body_rows-limits node stamp Report good = All-nil _
 body_rows-limits node stamp Retire good = All-nil _
 body_rows-limits node stamp (Write key value) good =
     All-cons IsInLimits (record { key = key; stamp = stamp; node = node; value = value }) [] good (All-nil _)
-body_rows-limits node stamp (Batch writes) good = rows_written-limits node stamp writes (batch-good writes good).1
+body_rows-limits node stamp (Batch writes) good = rows_written-limits node stamp writes (writes-good writes good).none
 
 -- the rows of an item are added to others that are in the limits
 pub limits-body : (node stamp : ℕ) (body : Body) (rows : List Row) → body_refusal body ≡ None → AreInLimits rows

@@ -1,13 +1,16 @@
 -- Writes of different keys, found by the marks of their keys.
 use Rattle.std.proofs.Common.{◌≡◌, ◌≢◌, ◌∙◌, ◌⊎◌, ℕ, zero, suc, ◌+◌, ◌-◌, ◌<◌, List, [], ◌∷◌, ◌++◌, length}
 use Rattle.std.proofs.Common.{take, set, get_or}
-use Rattle.std.proofs.Common.{Bool, true, false, ◌||◌, bytes_eq, refl, sym, ap, subst, inl, inr, arith, length-append}
+use Rattle.std.proofs.Common.{Bool, true, false, Option, None, Some, ◌||◌, bytes_eq, refl, sym, ap, subst, inl, inr, arith, length-append}
 use Rattle.std.proofs.lemmas.Bool.{cases_Bool, or_parts, false≢true}
 use Rattle.std.proofs.lemmas.List.{append_assoc, append-nil, take_at, get_or-set_same, get_or-set_other, length-set}
 use Rattle.std.proofs.lemmas.Bool.{cases_eq}
 use Rattle.std.proofs.lemmas.Slice.Eq.{bytes_eq-Decides}
 use Rattle.hlc_rows.specs.declared.write.Write.{Write}
-use Rattle.hlc_rows.specs.Writes.{writes_key, writes_twice, mark_of}
+use Rattle.hlc_rows.specs.declared.limits.BodyFault.{BodyFault}
+use Rattle.hlc_rows.specs.Limits.{write_refusal}
+use Rattle.hlc_rows.specs.declared.limits.BodyFault.TheVariants.{KeyTwice}
+use Rattle.hlc_rows.specs.Writes.{all_refusal, first_of, writes_key, writes_refusal, writes_twice, mark_of}
 
 pub take-more : {A : Type 0} (n : ℕ) (x : A) (xs : List A) → n ≢ 0 → take n (x ∷ xs) ≡ x ∷ take (n - 1) xs
 take-more zero x xs some = absurd (some refl)
@@ -183,3 +186,13 @@ pub passed-all : (writes : List Write) (marks : List Bool) (rest : List Write) �
 passed-all writes marks rest p is =
     let all' : writes ≡ p.before = p.parts ∙ ap (λ (xs : List Write). p.before ++ xs) is ∙ append-nil p.before in
     subst (λ xs. writes_twice xs ≡ false) (sym all') p.once
+
+-- the reason of one more write, after the reason so far
+pub one-more : (found : Option BodyFault) (writes rest : List Write) (write : Write) (others : List Write)
+    → writes_refusal writes ≡ first_of found (writes_refusal rest) → rest ≡ write ∷ others
+    → writes_refusal writes ≡ first_of (first_of found (write_refusal write.key write.value)) (writes_refusal others)
+one-more None writes rest write others so-far is = so-far ∙ ap writes_refusal is
+one-more (Some fault) writes rest write others so-far is = so-far
+
+pub refused-twice : (writes : List Write) → writes_twice writes ≡ true → all_refusal writes ≡ Some KeyTwice
+refused-twice writes twice = rw twice refl

@@ -1,7 +1,7 @@
 -- Several writes that have one stamp, and the rows that they make.
-use Rattle.std.specs.Prelude.{ℕ, ◌+◌, ◌*◌, ◌%◌, List, [], ◌∷◌, length, map, Bool, false, ◌==◌, ◌||◌, nat_lt}
+use Rattle.std.specs.Prelude.{ℕ, ◌+◌, ◌-◌, ◌*◌, ◌%◌, List, [], ◌∷◌, length, map, Bool, false, ◌==◌, ◌||◌, nat_lt}
 use Rattle.std.specs.Prelude.{Option, Some, None}
-use Rattle.std.specs.Prelude.{if◌then◌else◌}
+use Rattle.std.specs.Prelude.{if◌then◌else◌, slice_index}
 use Rattle.std.specs.Str.{bytes_eq}
 use Rattle.hlc_rows.specs.declared.limits.BodyFault.{BodyFault}
 use Rattle.hlc_rows.specs.declared.limits.BodyFault.TheVariants.{NoWrites, TooManyWrites, KeyTwice}
@@ -30,13 +30,16 @@ abbrev pub writes_refusal : List Write → Option BodyFault
 writes_refusal [] = None
 writes_refusal (write ∷ writes) = first_of (write_refusal write.key write.value) (writes_refusal writes)
 
+-- the first reason to refuse some writes: two are of one key; one is refused by itself
+abbrev pub all_refusal : List Write → Option BodyFault
+all_refusal writes = if writes_twice writes then Some KeyTwice else writes_refusal writes
+
 -- the first reason to refuse the writes of a batch: there are none; there are more than 256; two are of one key; one is
 -- refused by itself
 abbrev pub batch_refusal : List Write → Option BodyFault
 batch_refusal writes =
     if length writes == 0 then Some NoWrites
-    else if nat_lt MOST_WRITES (length writes) then Some TooManyWrites
-    else if writes_twice writes then Some KeyTwice else writes_refusal writes
+    else if nat_lt MOST_WRITES (length writes) then Some TooManyWrites else all_refusal writes
 
 -- the row of a write by this node at this stamp
 abbrev pub row_written : ℕ → ℕ → Write → Row
@@ -51,5 +54,19 @@ abbrev pub mark_from : ℕ → List ℕ → ℕ
 mark_from mark [] = mark
 mark_from mark (byte ∷ bytes) = mark_from ((mark * 33 + byte) % 4096) bytes
 
-abbrev pub mark_of : List ℕ → ℕ
-mark_of key = mark_from 0 key
+-- that of a key of fewer than eight bytes
+abbrev pub short_mark : List ℕ → ℕ
+short_mark key = mark_from 0 key
+
+-- eight bytes of a key as a number, the first one highest
+unfoldable pub eight_at : List ℕ → ℕ → ℕ
+eight_at key at =
+    ((((((slice_index key at * 256 + slice_index key (at + 1)) * 256 + slice_index key (at + 2)) * 256
+    + slice_index key (at + 3)) * 256 + slice_index key (at + 4)) * 256 + slice_index key (at + 5)) * 256
+    + slice_index key (at + 6)) * 256 + slice_index key (at + 7)
+
+-- that of any key: of a longer one by its first and its last eight bytes
+unfoldable pub mark_of : List ℕ → ℕ
+mark_of key =
+    if nat_lt (length key) 8 then short_mark key
+    else (eight_at key 0 % 4093 + eight_at key (length key - 8) % 4093) % 4096

@@ -1,7 +1,8 @@
 //! A write of a batch: several keys at one stamp.
-ghost use Rattle.std.specs.Prelude.{◌≡◌, ◌<◌, length, take};
+ghost use Rattle.std.specs.Prelude.{◌≡◌, ◌+◌, ◌<◌, ◌≤◌, length, option_copied, take};
 ghost use Rattle.std.specs.Prelude.{List};
-ghost use Rattle.hlc_rows.specs.Writes.{batch_refusal, mark_of, writes_key, writes_refusal, writes_twice};
+ghost use Rattle.hlc_rows.specs.Limits.{write_refusal};
+ghost use Rattle.hlc_rows.specs.Writes.{all_refusal, batch_refusal, eight_at, first_of, mark_of, short_mark, writes_key};
 
 use crate::limits::{BodyFault, MOST_WRITES, write_fault};
 use crate::writes::Writes;
@@ -9,6 +10,9 @@ use hlc_bytes::Bytes;
 
 /// The number of marks of keys.
 const MARKS: usize = 4_096;
+
+/// A prime below it, by which numbers of eight bytes are divided, so that each byte counts in their marks.
+const SPREAD: u64 = 4_093;
 
 /// Below so many writes each key is compared with each other one.
 const FEW: usize = 9;
@@ -40,9 +44,28 @@ fn first_have_key(writes: Writes<'_>, count: usize, key: &[u8]) -> bool
     false
 }
 
-/// Returns a mark of a key: equal keys have equal marks.
-fn mark_of(key: &[u8]) -> usize
-    ensures is { result ≡ mark_of key.now }
+/// Returns eight bytes of a key, from a position on, as one number.
+#[inline]
+#[tactic(auto, unfolding(crate::specs::Writes::eight_at))]
+fn eight_at(key: &[u8], at: usize) -> u64
+    requires { at + 8 ≤ length key.now }
+    ensures { result ≡ eight_at key.now at }
+{
+    u64::from_be_bytes([
+        key[at],
+        key[at + 1],
+        key[at + 2],
+        key[at + 3],
+        key[at + 4],
+        key[at + 5],
+        key[at + 6],
+        key[at + 7],
+    ])
+}
+
+/// Returns a mark of a key of fewer than eight bytes.
+fn short_mark(key: &[u8]) -> usize
+    ensures is { result ≡ short_mark key.now }
     ensures below { result < 4096 }
 {
     let mut mark = 0usize;
@@ -52,6 +75,21 @@ fn mark_of(key: &[u8]) -> usize
         rest = others;
     }
     mark
+}
+
+/// Returns a mark of a key, made of its first and its last eight bytes: equal keys have equal marks.
+#[inline]
+#[tactic(auto, unfolding(crate::specs::Writes::mark_of))]
+fn mark_of(key: &[u8]) -> usize
+    ensures is { result ≡ mark_of key.now }
+    ensures below { result < 4096 }
+{
+    if key.len() < 8 {
+        return short_mark(key);
+    }
+    let front = eight_at(key, 0) % SPREAD;
+    let back = eight_at(key, key.len() - 8) % SPREAD;
+    (front + back) as usize % MARKS
 }
 
 /// Returns whether one of the writes is of this key.
@@ -68,62 +106,53 @@ fn have_key(writes: Writes<'_>, key: &[u8]) -> bool
     false
 }
 
-/// Returns whether two of a few writes are of one key: it compares each with each other one.
-fn few_have_key_twice(writes: Writes<'_>) -> bool
-    ensures { result ≡ writes_twice writes.entry }
+/// Returns a reason that was found before or, if there is none, the reason to refuse a write.
+#[inline]
+fn first_of(found: Option<BodyFault>, key: &[u8], value: Option<&[u8]>) -> Option<BodyFault>
+    ensures { result ≡ first_of found (write_refusal key.now (option_copied value.entry)) }
 {
+    match found {
+        None => write_fault(key, value),
+        Some(fault) => Some(fault),
+    }
+}
+
+/// Returns the first reason to refuse a few writes: two are of one key, or one is refused by itself. It compares each
+/// key with each other one.
+fn few_fault(writes: Writes<'_>) -> Option<BodyFault>
+    ensures { result ≡ all_refusal writes.entry }
+{
+    let mut fault = None;
     let mut rest = writes;
     while let Some((first, others)) = rest.split_first() {
         if have_key(others.lend(), first.key) {
-            return true;
+            return Some(BodyFault::KeyTwice);
         }
+        fault = first_of(fault, first.key, first.value);
         rest = others;
     }
-    false
+    fault
 }
 
-/// Returns whether two of many writes are of one key: it compares a key with those before it only if one of them has
-/// the same mark, so that it takes time in proportion to the number of writes, but for chance.
-fn many_have_key_twice(writes: Writes<'_>) -> bool
-    ensures { result ≡ writes_twice writes.entry }
+/// Returns the same for many writes. It compares a key with those before it only if one of them has the same mark, so
+/// that it takes time in proportion to the number of writes, but for chance.
+fn many_fault(writes: Writes<'_>) -> Option<BodyFault>
+    ensures { result ≡ all_refusal writes.entry }
 {
     let mut marks = [false; MARKS];
+    let mut fault = None;
     let mut rest = writes.lend();
     while let Some((first, others)) = rest.split_first() {
         let mark = mark_of(first.key);
         let before = writes.len() - 1 - others.len();
         if marks[mark] && first_have_key(writes.lend(), before, first.key) {
-            return true;
+            return Some(BodyFault::KeyTwice);
         }
         marks[mark] = true;
+        fault = first_of(fault, first.key, first.value);
         rest = others;
     }
-    false
-}
-
-/// Returns whether two of the writes are of one key.
-fn has_key_twice(writes: Writes<'_>) -> bool
-    ensures { result ≡ writes_twice writes.entry }
-{
-    if writes.len() < FEW {
-        return few_have_key_twice(writes);
-    }
-    many_have_key_twice(writes)
-}
-
-/// Returns the first reason to refuse one of the writes by itself.
-fn first_fault(writes: Writes<'_>) -> Option<BodyFault>
-    ensures { result ≡ writes_refusal writes.entry }
-{
-    let mut rest = writes;
-    while let Some((first, others)) = rest.split_first() {
-        let fault = write_fault(first.key, first.value);
-        if fault.is_some() {
-            return fault;
-        }
-        rest = others;
-    }
-    None
+    fault
 }
 
 /// Returns the first reason to refuse a batch of these writes: there are none; there are more than 256; two are of one
@@ -137,8 +166,8 @@ pub fn batch_fault(writes: Writes<'_>) -> Option<BodyFault>
     if writes.len() > MOST_WRITES {
         return Some(BodyFault::TooManyWrites);
     }
-    if has_key_twice(writes.lend()) {
-        return Some(BodyFault::KeyTwice);
+    if writes.len() < FEW {
+        return few_fault(writes);
     }
-    first_fault(writes)
+    many_fault(writes)
 }

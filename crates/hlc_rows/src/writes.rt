@@ -40,6 +40,7 @@ impl<'a> Model for Writes<'a> {
 
 impl<'a> Writes<'a> {
     /// Returns these writes.
+    #[inline]
     pub fn of(writes: &'a [Write]) -> Writes<'a>
         ensures { result ≡ writes.now }
     {
@@ -50,6 +51,7 @@ impl<'a> Writes<'a> {
 
     /// Returns so many writes from their bytes: for each a byte of length and the key; and 0 for a deletion mark, or 1,
     /// two bytes of length and the value. What is missing at the end counts as empty: nothing is checked here.
+    #[inline]
     pub fn spelled(count: usize, bytes: &'a [u8]) -> Writes<'a>
         ensures { result ≡ writes_in count bytes.now }
     {
@@ -59,6 +61,7 @@ impl<'a> Writes<'a> {
     }
 
     /// Returns the same writes, lent once more.
+    #[inline]
     pub fn lend(&self) -> Writes<'a>
         ensures { result ≡ self.now }
     {
@@ -69,6 +72,7 @@ impl<'a> Writes<'a> {
     }
 
     /// Returns their number.
+    #[inline]
     pub fn len(&self) -> usize
         ensures { result ≡ length self.now }
     {
@@ -79,6 +83,7 @@ impl<'a> Writes<'a> {
     }
 
     /// Returns the first write and the others, or none if there are none.
+    #[inline]
     pub fn split_first(self) -> Option<(Written<'a>, Writes<'a>)>
         ensures { MatchOption result (self.entry ≡ []) (λ parts. self.entry ≡ write_seen parts.0 ∷ parts.1) }
     {
@@ -105,6 +110,7 @@ impl<'a> Writes<'a> {
 }
 
 /// Returns the first bytes, so many or all, and the others.
+#[inline]
 fn cut(bytes: &[u8], count: usize) -> (&[u8], &[u8])
     ensures first { result.0.now ≡ take count bytes.now }
     ensures others { result.1.now ≡ drop count bytes.now }
@@ -117,6 +123,7 @@ fn cut(bytes: &[u8], count: usize) -> (&[u8], &[u8])
 
 /// Returns the key at the front of some bytes, and the bytes after it.
 #[tactic(auto, unfolding(crate::specs::Spelled::key_in))]
+#[inline]
 fn key_in(bytes: &[u8]) -> (&[u8], &[u8])
     ensures { (result.0.now, result.1.now) ≡ key_in bytes.now }
 {
@@ -128,6 +135,7 @@ fn key_in(bytes: &[u8]) -> (&[u8], &[u8])
 
 /// Returns the value or deletion mark at the front of some bytes, and the bytes after it.
 #[tactic(auto, unfolding(crate::specs::Spelled::value_in))]
+#[inline]
 fn value_in(bytes: &[u8]) -> (Option<&[u8]>, &[u8])
     ensures { (option_copied result.0, result.1.now) ≡ value_in bytes.now }
 {
@@ -140,6 +148,7 @@ fn value_in(bytes: &[u8]) -> (Option<&[u8]>, &[u8])
 
 /// Returns the value at the front of some bytes, after the byte 1, and the bytes after it.
 #[tactic(auto, unfolding(crate::specs::Spelled::long_in))]
+#[inline]
 fn long_in(bytes: &[u8]) -> (Option<&[u8]>, &[u8])
     ensures { (option_copied result.0, result.1.now) ≡ long_in bytes.now }
 {

@@ -2,23 +2,13 @@
 use Rattle.std.proofs.Common.{◌≡◌, ℕ, Bool, true, false, ◌<◌, ◌≤◌, cond, eqb, ltb, bytes_eq, List, [], ◌∷◌, length}
 use Rattle.std.proofs.Common.{Option, Some, None, refl, sym, ap, ◌∙◌, inl, inr, arith}
 use Rattle.std.proofs.lemmas.Bool.{cases_Bool, or_parts, ltb-false, le-ltb, ne_eqb}
-use Rattle.hlc_rows.specs.declared.limits.BodyFault.{BodyFault}
-use Rattle.hlc_rows.specs.declared.limits.BodyFault.TheVariants.{NoWrites, TooManyWrites, KeyTwice}
 use Rattle.hlc_rows.specs.declared.limits.TheConstants.{MOST_WRITES}
 use Rattle.hlc_rows.specs.declared.write.Write.{Write}
 use Rattle.hlc_rows.specs.Limits.{write_refusal}
-use Rattle.hlc_rows.specs.Writes.{writes_key, writes_twice, first_of, writes_refusal, batch_refusal}
+use Rattle.hlc_rows.specs.Writes.{writes_key, writes_twice, writes_refusal, batch_refusal}
+use Rattle.hlc_rows.proofs.WritesLemmas.{first-none, good}
 use Rattle.hlc_node.specs.Items.{body_refusal}
 use Rattle.hlc_split.specs.Split.{batch_of, writes_of}
-
-if_none : (b : Bool) (fault : BodyFault) (rest : Option BodyFault) → cond b (Some fault) rest ≡ None
-    → (b ≡ false) × (rest ≡ None)
-if_none true fault rest h = absurd cc
-if_none false fault rest h = (refl, h)
-
-first_none : (first second : Option BodyFault) → first_of first second ≡ None → (first ≡ None) × (second ≡ None)
-first_none None second h = (refl, h)
-first_none (Some fault) second h = absurd cc
 
 fewer : (is_of : List ℕ → Bool) (writes : List Write) → length (writes_of is_of writes) ≤ length writes
 fewer is_of [] = omega arith
@@ -60,7 +50,7 @@ none-refused : (is_of : List ℕ → Bool) (writes : List Write) → writes_refu
     → writes_refusal (writes_of is_of writes) ≡ None
 none-refused is_of [] h = refl
 none-refused is_of (write ∷ writes) h =
-    let parts = first_none (write_refusal write.key write.value) (writes_refusal writes) h in
+    let parts = first-none (write_refusal write.key write.value) (writes_refusal writes) h in
     let rest = none-refused is_of writes parts.1 in
     elim (is_of write.key)
     as (λ b. writes_refusal (cond b (write ∷ writes_of is_of writes) (writes_of is_of writes)) ≡ None) [
@@ -78,9 +68,7 @@ of-none (write ∷ writes) few apart good =
 pub batch-allowed : (is_of : List ℕ → Bool) (writes : List Write) → batch_refusal writes ≡ None
     → body_refusal (batch_of (writes_of is_of writes)) ≡ None
 batch-allowed is_of writes h =
-    let some = if_none (eqb (length writes) 0) NoWrites _ h in
-    let few = if_none (ltb MOST_WRITES (length writes)) TooManyWrites _ some.1 in
-    let apart = if_none (writes_twice writes) KeyTwice _ few.1 in
-    let least = ltb-false MOST_WRITES (length writes) few.0 in
+    let are = good writes h in
+    let least = are.few in
     of-none (writes_of is_of writes) (le-ltb _ _ (omega (arith, fewer is_of writes, least)))
-    (once is_of writes apart.0) (none-refused is_of writes apart.1)
+    (once is_of writes are.once) (none-refused is_of writes are.none)

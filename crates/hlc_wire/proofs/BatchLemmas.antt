@@ -6,15 +6,13 @@ use Rattle.std.proofs.Common.{rules, Bool, true, false, cond, eqb, ltb, take, dr
 use Rattle.std.proofs.lemmas.Bool.{eqb-false, ltb-false}
 use Rattle.std.proofs.lemmas.Grind.{common_steps}
 use Rattle.std.specs.Int.{w16, to_be_bytes, from_be_bytes}
-use Rattle.hlc_rows.specs.declared.limits.BodyFault.{BodyFault}
-use Rattle.hlc_rows.specs.declared.limits.BodyFault.TheVariants.{NoWrites, TooManyWrites, KeyTwice}
-use Rattle.hlc_rows.specs.declared.limits.TheConstants.{MOST_WRITES}
 use Rattle.hlc_rows.specs.Limits.{write_refusal}
-use Rattle.hlc_rows.specs.Writes.{first_of, writes_twice, writes_refusal, batch_refusal}
+use Rattle.hlc_rows.specs.Writes.{writes_refusal, batch_refusal}
 use Rattle.std.specs.Prelude.{Option}
 use Rattle.hlc_rows.specs.declared.write.Write.{Write}
 use Rattle.hlc_rows.specs.Spelled.{a_write, value_of, key_in, value_in, long_in, writes_in}
 use Rattle.hlc_rows.proofs.SpelledLemmas.{front}
+use Rattle.hlc_rows.proofs.WritesLemmas.{first-none, good}
 use Rattle.hlc_wire.specs.declared.fault.WireFault.TheVariants.{Short}
 use Rattle.hlc_wire.specs.declared.fault.DecodeError.{DecodeError}
 use Rattle.hlc_wire.specs.declared.fault.DecodeError.TheVariants as errors
@@ -190,15 +188,6 @@ writes_more view count bytes key after value rest result some at_key at_value is
 
 -- ---- bodies that are not refused have an encoding
 
-if_none : (b : Bool) (fault : BodyFault) (rest : Option BodyFault) → cond b (Some fault) rest ≡ None
-    → (b ≡ false) × (rest ≡ None)
-if_none true fault rest h = absurd cc
-if_none false fault rest h = (refl, h)
-
-first_none : (first second : Option BodyFault) → first_of first second ≡ None → (first ≡ None) × (second ≡ None)
-first_none None second h = (refl, h)
-first_none (Some fault) second h = absurd cc
-
 pub write_fits : (key : List ℕ) (value : Option (List ℕ)) → write_refusal key value ≡ None
     → KeyFits key × ValueFits value
 write_fits key None h = search (rules, common_steps)
@@ -207,16 +196,12 @@ write_fits key (Some bytes) h = search (rules, common_steps)
 writes_fit : (writes : List Write) → writes_refusal writes ≡ None → WritesFit writes
 writes_fit [] h = tt
 writes_fit (write ∷ writes) h =
-    let both = first_none (write_refusal write.key write.value) (writes_refusal writes) h in
+    let both = first-none (write_refusal write.key write.value) (writes_refusal writes) h in
     (write_fits write.key write.value both.0, writes_fit writes both.1)
 
 pub batch_fits : (writes : List Write) → batch_refusal writes ≡ None → BatchFits writes
 batch_fits writes h =
-    let some = if_none (eqb (length writes) 0) NoWrites _ h in
-    let few = if_none (ltb MOST_WRITES (length writes)) TooManyWrites _ some.1 in
-    let once = if_none (writes_twice writes) KeyTwice _ few.1 in
-    let below = eqb-false (length writes) 0 some.0 in (
-      omega (arith, below),
-      omega (arith, ltb-false 256 (length writes) few.0),
-      writes_fit writes once.1,
-    )
+    let are = good writes h in
+    let some = are.some in
+    let few = are.few in
+    (omega (arith, some), omega (arith, few), writes_fit writes are.none)

@@ -5,7 +5,7 @@ use Rattle.hlc_rows.specs.declared.row.Row.{Row}
 use Rattle.hlc_node.specs.declared.item.Body.{Body}
 use Rattle.hlc_node.specs.Items.{body_refusal}
 use Rattle.hlc_core.specs.Past.{body_rows}
-use Rattle.hlc_core.proofs.BatchLemmas.{batch-good}
+use Rattle.hlc_rows.proofs.WritesLemmas.{good}
 use Rattle.hlc_core.proofs.rows.store_copy.Goals as goal
 
 pub insert_copy-requires : goal.insert_copy-requires
@@ -30,5 +30,5 @@ insert_writes-requires-clause-new c =
 
 pub insert_writes-requires-clause-once : goal.insert_writes-requires-clause-once
 insert_writes-requires-clause-once c =
-    (batch-good c.in-Many.writes
-    (subst (λ (body : Body). body_refusal body ≡ None) c.in-Many.ensures c.requires.good)).0
+    (good c.in-Many.writes
+    (subst (λ (body : Body). body_refusal body ≡ None) c.in-Many.ensures c.requires.good)).once
