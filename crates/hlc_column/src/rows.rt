@@ -1,6 +1,6 @@
 //! The rows of one key in as little memory as they need.
 ghost use Rattle.std.specs.Prelude.{◌≡◌, ◌≤◌, ◌++◌, ◌∷◌, [], ℕ, List, length, true, IfOk, IfErr, OnOk, OnErr};
-ghost use Rattle.std.specs.Prelude.{option_copied};
+ghost use Rattle.std.specs.Prelude.{nat_lt, option_copied};
 ghost use Rattle.std.specs.List.{items_where_true};
 ghost use Rattle.hlc_rows.specs.Rows.{answer};
 ghost use Rattle.hlc_column.specs.Forms.{cells_in_form, has_room};
@@ -12,6 +12,7 @@ use crate::lists::Lists;
 use crate::single::Single;
 use hlc_clock::Stamp;
 use hlc_flags::Flags;
+use hlc_index::Filled;
 use hlc_rows::{Bytes, ValueOrMark};
 use hlc_values::NoMemory;
 use std::alloc::{AllocFailed, Global};
@@ -130,6 +131,7 @@ impl Rows {
     ) -> Result<(), NoMemory>
         ensures ok { OnOk result (self.new
             ≡ self.old ++ record { stamp = stamp; node = node; value = value } ∷ []) }
+        ensures grows { length self.old ≤ length self.new }
         ensures err { OnErr result (self.new ≡ self.old) }
     {
         if !has_room(&self.form) {
@@ -148,6 +150,14 @@ impl Rows {
     {
         let form = replace(&mut self.form, Form::Empty);
         self.form = kept(form, keep);
+    }
+}
+
+impl Filled for Rows {
+    ghost is_filled = { λ cells. nat_lt 0 (length cells) };
+
+    fn is_filled(&self) -> bool {
+        self.len() > 0
     }
 }
 

@@ -2,7 +2,8 @@
 -- that one.
 use Rattle.std.proofs.Common.{◌≡◌, ◌≢◌, ◌<◌, ◌∙◌, ℕ, zero, suc, Bool, true, false, cond, List, [], ◌∷◌, ◌++◌}
 use Rattle.std.proofs.Common.{refl, sym, ap, subst, inl, inr, arith, length, length-append, append_assoc, replicate}
-use Rattle.std.proofs.Common.{true≢false, Contains}
+use Rattle.std.proofs.Common.{true≢false, Contains, take, ◌-◌, ◌+◌}
+use Rattle.std.proofs.lemmas.List.{append-nil, map-append, take_at}
 use Rattle.std.specs.Prelude.{◌||◌}
 use Rattle.std.specs.Str.{bytes_eq}
 use Rattle.std.specs.List.{AllByRecursion}
@@ -11,13 +12,14 @@ use Rattle.std.proofs.lemmas.Bool.{cases_Bool}
 use Rattle.std.proofs.lemmas.Slice.Eq.{bytes_eq-Decides}
 use Rattle.std.proofs.lemmas.List.Elements.{filter-append, All-cons, All-nil, All-from_recursion}
 use Rattle.std.proofs.lemmas.List.Elements.{Contains-append_cases, Contains-append_left, Contains-append_right}
-use Rattle.std.proofs.lemmas.List.Sorted.{IsPermutation-append_left, IsPermutation-trans}
+use Rattle.std.proofs.lemmas.List.Sorted.{IsPermutation-append_left, IsPermutation-refl, IsPermutation-trans}
 use Rattle.hlc_values.proofs.MemberLemmas.{Contains-none, Contains-first, Contains-rest, Contains-cons_cases}
 use Rattle.hlc_rows.specs.declared.row.Row.{Row}
 use Rattle.hlc_rows.specs.declared.write.Write.{Write}
-use Rattle.hlc_rows.specs.Writes.{row_written, rows_written, writes_key}
+use Rattle.hlc_rows.specs.Writes.{row_written, rows_written, writes_key, writes_twice}
 use Rattle.hlc_column.specs.Rows.{rows_with}
-use Rattle.hlc_columns.specs.Table.{rows_kept, HasNoVersion, InsertedLast}
+use Rattle.hlc_columns.specs.Table.{rows_kept, HasNoVersion, InsertedLast, AllInserted}
+use Rattle.hlc_columns.proofs.Inserted.{inserted-IsPermutation}
 use Rattle.hlc_columns.proofs.KeptOf.{NoneOf, kept_none, kept_before, filtered_none}
 
 none_behind : (key : List ℕ) (back : List Row) → ((other : Row) → Contains back other → other.key ≢ key)
@@ -146,3 +148,90 @@ one_and_others old between new row others one more =
     subst (λ rows. IsPermutation rows new) (append_assoc old (row ∷ []) others)
     (IsPermutation-trans ((old ++ row ∷ []) ++ others) (between ++ others) new
     (IsPermutation-append_left others (old ++ row ∷ []) between one) more)
+
+-- Rows that go in one after another.
+
+one-more : (old : List Row) (rows : List Row) (row : Row) (now new : List Row) → AllInserted old rows now
+    → InsertedLast now row new → AllInserted old (rows ++ row ∷ []) new
+one-more old [] row now new same last = (new, subst (λ rows. InsertedLast rows row new) (sym same) last, refl)
+one-more old (first ∷ rows) row now new (one, at', rest) last = (one, at', one-more one rows row now new rest last)
+
+all-IsPermutation : (old : List Row) (rows : List Row) (new : List Row) → AllInserted old rows new
+    → IsPermutation (old ++ rows) new
+all-IsPermutation old [] new same =
+    subst (IsPermutation (old ++ [])) (append-nil old ∙ same) (IsPermutation-refl (old ++ []))
+all-IsPermutation old (row ∷ rows) new (one, at', rest) =
+    one_and_others old one new row rows (inserted-IsPermutation old row one at') (all-IsPermutation one rows new rest)
+
+-- if the rows after the first one went out, it is the last of its key
+pub first-left : (old : List Row) (row : Row) (rows now after : List Row) → AllInserted old (row ∷ rows) now
+    → ((one : List Row) → AllInserted one rows now → after ≡ one) → InsertedLast old row after
+first-left old row rows now after (one, last, rest) back = subst (InsertedLast old row) (sym (back one rest)) last
+
+-- the rows of the writes before are in, and those of the writes that are left are new, and of different keys
+pub record Begun (old : List Row) (node stamp : ℕ) (writes : List Write) (now : List Row) (rest : List Write)
+    : Type 0 where
+  pub before : List Write
+  pub parts : writes ≡ before ++ rest
+  pub chain : AllInserted old (rows_written node stamp before) now
+  pub new : (row : Row) → Contains (rows_written node stamp rest) row → HasNoVersion now row
+  pub once : writes_twice rest ≡ false
+
+pub begin : (old : List Row) (node stamp : ℕ) (writes : List Write)
+    → ((row : Row) → Contains (rows_written node stamp writes) row → HasNoVersion old row)
+    → writes_twice writes ≡ false → Begun old node stamp writes old writes
+begin old node stamp writes new once =
+    record { before = []; parts = refl; chain = refl; new = new; once = once }
+
+-- the row of the next write is new
+pub next-new : (old : List Row) (node stamp : ℕ) (writes : List Write) (now : List Row) (rest : List Write)
+    (write : Write) (others : List Write) → Begun old node stamp writes now rest → rest ≡ write ∷ others
+    → HasNoVersion now (row_written node stamp write)
+next-new old node stamp writes now rest write others b is =
+    b.new (row_written node stamp write)
+    (subst (λ writes. Contains (rows_written node stamp writes) (row_written node stamp write)) (sym is)
+    (Contains-first (row_written node stamp write) (rows_written node stamp others)))
+
+-- one more write
+pub go-on : (old : List Row) (node stamp : ℕ) (writes : List Write) (now : List Row) (rest : List Write)
+    (write : Write) (others : List Write) (new : List Row) → Begun old node stamp writes now rest
+    → rest ≡ write ∷ others → InsertedLast now (row_written node stamp write) new
+    → Begun old node stamp writes new others
+go-on old node stamp writes now rest write others new b is last =
+    let row = row_written node stamp write in
+    let once = subst (λ writes. writes_twice writes ≡ false) is b.once in
+    let other = first_fails (writes_key write.key others) (writes_twice others) once in record {
+      before = b.before ++ write ∷ [];
+      parts = b.parts ∙ ap (λ (rest : List Write). b.before ++ rest) is
+          ∙ sym (append_assoc b.before (write ∷ []) others);
+      chain = subst (λ rows. AllInserted old rows new) (sym (map-append (row_written node stamp) b.before (write ∷ [])))
+          (one-more old (rows_written node stamp b.before) row now new b.chain last);
+      new = λ later m. still_new now new row later last
+          (b.new later
+          (subst (λ writes. Contains (rows_written node stamp writes) later) (sym is)
+          (Contains-rest row later (rows_written node stamp others) m)))
+          (others_apart node stamp write.key others other later m);
+      once = second_fails (writes_key write.key others) (writes_twice others) once;
+    }
+
+-- all rows are in
+pub ended : (old : List Row) (node stamp : ℕ) (writes : List Write) (now : List Row) (rest : List Write)
+    → Begun old node stamp writes now rest → rest ≡ [] → IsPermutation (old ++ rows_written node stamp writes) now
+ended old node stamp writes now rest b is =
+    let all' : writes ≡ b.before = b.parts ∙ ap (λ (rest : List Write). b.before ++ rest) is ∙ append-nil b.before in
+    subst (λ writes. IsPermutation (old ++ rows_written node stamp writes) now) (sym all')
+    (all-IsPermutation old (rows_written node stamp b.before) now b.chain)
+
+-- those that are in are the rows of the first writes
+pub so-far : (old : List Row) (node stamp : ℕ) (writes : List Write) (now : List Row) (rest : List Write)
+    (write : Write) (others : List Write) (count : ℕ) → Begun old node stamp writes now rest → rest ≡ write ∷ others
+    → count ≡ length writes - 1 - length others
+    → AllInserted old (rows_written node stamp (take count writes)) now
+so-far old node stamp writes now rest write others count b is many =
+    let all' : writes ≡ b.before ++ (write ∷ others) = b.parts ∙ ap (λ (rest : List Write). b.before ++ rest) is in
+    let long = ap length all' in
+    let sum = length-append b.before (write ∷ others) in
+    let firsts : take count writes ≡ b.before =
+    ap (λ (writes : List Write). take count writes) all'
+    ∙ take_at b.before (write ∷ others) count (omega (arith, long, sum, many)) in
+    subst (λ writes. AllInserted old (rows_written node stamp writes) now) (sym firsts) b.chain

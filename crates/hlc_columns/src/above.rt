@@ -8,8 +8,8 @@ ghost use Rattle.hlc_columns.specs.Table.{keyed};
 ghost use Rattle.hlc_columns.specs.Answers.{entries_left, AreAbove};
 
 use crate::answers::Walk;
-use crate::key_rows::KeyRows;
 use crate::keyed::Keyed;
+use hlc_column::Rows;
 use hlc_index::Index;
 use hlc_values::NoMemory;
 use std::alloc::Global;
@@ -17,7 +17,7 @@ use std::alloc::Global;
 /// Returns the first columns whose keys are above a key, at most so many, each with its key.
 pub(crate) fn columns_above<'a>(
     alloc: Global,
-    columns: &'a Index<KeyRows>,
+    columns: &'a Index<Rows>,
     key: &[u8],
     most: usize,
 ) -> Result<Vec<Keyed<'a>>, NoMemory>
@@ -30,7 +30,7 @@ pub(crate) fn columns_above<'a>(
 }
 
 /// Returns a walk over the columns whose keys are above a key.
-fn walk_above<'a>(columns: &'a Index<KeyRows>, key: &[u8]) -> Walk<'a>
+fn walk_above<'a>(columns: &'a Index<Rows>, key: &[u8]) -> Walk<'a>
     ensures above { AreAbove (entries_in columns.now) key.now (entries_left result) }
     ensures ascend { IsStrictlySortedBy key_cmp (keys_in (entries_in columns.now)) }
 {

@@ -9,8 +9,8 @@ ghost use Rattle.hlc_columns.specs.Table.{indexed_rows};
 ghost use Rattle.hlc_columns.specs.Answers.{AreAnswers, AreAnswersBack, IsBetween, answers_in, is_below, is_between};
 ghost use Rattle.hlc_columns.specs.Answers.{entries_left, entries_left_back, leading, starts_at};
 
-use crate::key_rows::KeyRows;
 use hlc_clock::Stamp;
+use hlc_column::Rows;
 use hlc_index::Index;
 use hlc_rows::Bytes;
 use std::marker::Model;
@@ -22,8 +22,8 @@ const AHEAD: usize = 64;
 /// the leaf after it.
 #[derive(Debug, Drop)]
 pub(crate) struct Walk<'a> {
-    columns: &'a Index<KeyRows>,
-    rest: &'a [(Bytes, KeyRows)],
+    columns: &'a Index<Rows>,
+    rest: &'a [(Bytes, Rows)],
     next: usize,
     to: Option<&'a [u8]>,
     // How many columns were fetched and are still to come.
@@ -33,7 +33,7 @@ pub(crate) struct Walk<'a> {
 impl<'a> Walk<'a> {
     /// Returns a walk from a slot of a leaf on.
     pub(crate) fn from_slot(
-        columns: &'a Index<KeyRows>,
+        columns: &'a Index<Rows>,
         at: usize,
         slot: usize,
         to: Option<&'a [u8]>,
@@ -57,11 +57,7 @@ impl<'a> Walk<'a> {
     }
 
     /// Returns a walk over the columns whose keys are not below one key, and below another, if there is one.
-    pub(crate) fn between(
-        columns: &'a Index<KeyRows>,
-        from: &[u8],
-        to: Option<&'a [u8]>,
-    ) -> Walk<'a>
+    pub(crate) fn between(columns: &'a Index<Rows>, from: &[u8], to: Option<&'a [u8]>) -> Walk<'a>
         ensures exact { entries_left result
             ≡ filter (λ e. is_between from.now (option_copied to.entry) e.0) (entries_in columns.now) }
         ensures ascend { IsStrictlySortedBy key_cmp (keys_in (entries_in columns.now)) }
@@ -82,7 +78,7 @@ impl<'a> Walk<'a> {
     }
 
     /// Returns the next column with its key, or none at the end. It reads no column there.
-    pub(crate) fn next(&mut self) -> Option<&'a (Bytes, KeyRows)>
+    pub(crate) fn next(&mut self) -> Option<&'a (Bytes, Rows)>
         ensures { MatchOption result ((entries_left self.old ≡ []) × (entries_left self.new ≡ []))
             (λ entry. entries_left self.old ≡ entry.now ∷ entries_left self.new) }
     {
@@ -114,7 +110,7 @@ impl<'a> Walk<'a> {
 
 /// Fetches the first columns of these from memory, and returns how many. None of these reads waits for the one before
 /// it, so a caller that then goes through those columns does not wait for memory at each.
-fn fetch_ahead(leaf: &[(Bytes, KeyRows)]) -> usize {
+fn fetch_ahead(leaf: &[(Bytes, Rows)]) -> usize {
     let count = leaf.len().min(AHEAD);
     let mut sum = 0u64;
     for i in 0..count {
@@ -178,7 +174,7 @@ impl<'a> Iterator for Answers<'a> {
 
 /// Returns the answers of the keys that are not below one key, and below another, if there is one.
 pub(crate) fn answers_between<'a>(
-    columns: &'a Index<KeyRows>,
+    columns: &'a Index<Rows>,
     bound: Stamp,
     from: &[u8],
     to: Option<&'a [u8]>,
@@ -196,8 +192,8 @@ pub(crate) fn answers_between<'a>(
 /// number of leaves before it.
 #[derive(Debug, Drop)]
 struct WalkBack<'a> {
-    columns: &'a Index<KeyRows>,
-    rest: &'a [(Bytes, KeyRows)],
+    columns: &'a Index<Rows>,
+    rest: &'a [(Bytes, Rows)],
     before: usize,
     from: &'a [u8],
     // How many columns were fetched and are still to come.
@@ -206,7 +202,7 @@ struct WalkBack<'a> {
 
 impl<'a> WalkBack<'a> {
     /// Returns a walk over the columns whose keys are not below one key, and below another, if there is one.
-    fn between(columns: &'a Index<KeyRows>, from: &'a [u8], to: Option<&[u8]>) -> WalkBack<'a>
+    fn between(columns: &'a Index<Rows>, from: &'a [u8], to: Option<&[u8]>) -> WalkBack<'a>
         ensures exact { reverse (entries_left_back result)
             ≡ filter (λ e. is_between from.now (option_copied to.entry) e.0) (entries_in columns.now) }
         ensures ascend { IsStrictlySortedBy key_cmp (keys_in (entries_in columns.now)) }
@@ -241,7 +237,7 @@ impl<'a> WalkBack<'a> {
     }
 
     /// Returns the last column with its key, or none at the first key.
-    fn next(&mut self) -> Option<&'a (Bytes, KeyRows)>
+    fn next(&mut self) -> Option<&'a (Bytes, Rows)>
         ensures { MatchOption result ((entries_left_back self.old ≡ []) × (entries_left_back self.new ≡ []))
             (λ entry. entries_left_back self.old ≡ entry.now ∷ entries_left_back self.new) }
     {
@@ -302,7 +298,7 @@ impl<'a> Iterator for AnswersBack<'a> {
 
 /// Returns the answers of the keys that are not below one key, and below another, if there is one, the last first.
 pub(crate) fn answers_back<'a>(
-    columns: &'a Index<KeyRows>,
+    columns: &'a Index<Rows>,
     bound: Stamp,
     from: &'a [u8],
     to: Option<&[u8]>,

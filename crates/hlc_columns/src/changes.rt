@@ -8,9 +8,8 @@ ghost use Rattle.hlc_columns.specs.Answers.{entries_left, IsBetween};
 ghost use Rattle.hlc_columns.specs.Differences.{AreDifferences, differences_in, difference_read, is_same};
 
 use crate::answers::Walk;
-use crate::key_rows::KeyRows;
 use hlc_clock::Stamp;
-use hlc_column::Lanes;
+use hlc_column::{Lanes, Rows};
 use hlc_index::Index;
 use std::marker::Model;
 
@@ -98,7 +97,7 @@ impl<'a> Iterator for Changes<'a> {
 
 /// Returns the differences of the keys that are not below one key, and below another, if there is one.
 pub(crate) fn changes_between<'a>(
-    columns: &'a Index<KeyRows>,
+    columns: &'a Index<Rows>,
     from: Stamp,
     to: Stamp,
     first: &[u8],

@@ -5,15 +5,15 @@ ghost use Rattle.hlc_index.specs.Entries.{entries_in, with_value_in};
 ghost use Rattle.hlc_columns.specs.Table.{indexed_rows, table_rows, kept_in, cells_at, key_at, if_filled, AreFilled};
 ghost use Rattle.hlc_columns.specs.Sizes.{sizes_of, filled_sizes, Fit};
 
-use crate::key_rows::KeyRows;
 use crate::sizes::sizes_at;
+use hlc_column::Rows;
 use hlc_flags::Flags;
 use hlc_index::Index;
 use hlc_sizes::Sizes;
 
 /// Keeps only the flagged rows, in their order, and reads no column that keeps them all. A key without rows is removed.
 /// It needs no memory.
-pub(crate) fn keep_rows(columns: &mut Index<KeyRows>, sizes: &mut Sizes, flags: Flags<'_>)
+pub(crate) fn keep_rows(columns: &mut Index<Rows>, sizes: &mut Sizes, flags: Flags<'_>)
     requires many { length flags ≡ length (indexed_rows columns.old) }
     requires sizes { sizes.old ≡ filled_sizes columns.old }
     requires fit { Fit sizes.old }
@@ -32,7 +32,7 @@ pub(crate) fn keep_rows(columns: &mut Index<KeyRows>, sizes: &mut Sizes, flags: 
 
 /// Keeps only the rows of a leaf that the first flags select, and returns the flags of the later rows.
 fn keep_in_leaf<'a>(
-    columns: &mut Index<KeyRows>,
+    columns: &mut Index<Rows>,
     sizes: &mut Sizes,
     at: usize,
     flags: Flags<'a>,
@@ -56,7 +56,7 @@ fn keep_in_leaf<'a>(
 
 /// Keeps only the rows of a column that the first flags select, and returns the flags of the later rows.
 fn keep_at<'a>(
-    columns: &mut Index<KeyRows>,
+    columns: &mut Index<Rows>,
     sizes: &mut Sizes,
     at: usize,
     slot: usize,
@@ -82,13 +82,7 @@ fn keep_at<'a>(
 }
 
 /// Keeps only the flagged rows of a column.
-fn drop_at(
-    columns: &mut Index<KeyRows>,
-    sizes: &mut Sizes,
-    at: usize,
-    slot: usize,
-    flags: &Flags<'_>,
-)
+fn drop_at(columns: &mut Index<Rows>, sizes: &mut Sizes, at: usize, slot: usize, flags: &Flags<'_>)
     requires leaf { at < length columns.old }
     requires inside { slot < length (slice_index_or columns.old at []) }
     requires many { length flags.now ≡ length (cells_at columns.old at slot) }
@@ -106,7 +100,7 @@ fn drop_at(
 }
 
 /// Keeps only the flagged rows of a column, which may be left without rows.
-pub(crate) fn keep_cells(columns: &mut Index<KeyRows>, at: usize, slot: usize, flags: &Flags<'_>)
+pub(crate) fn keep_cells(columns: &mut Index<Rows>, at: usize, slot: usize, flags: &Flags<'_>)
     requires leaf { at < length columns.old }
     requires inside { slot < length (slice_index_or columns.old at []) }
     requires many { length flags.now ≡ length (cells_at columns.old at slot) }
@@ -117,7 +111,7 @@ pub(crate) fn keep_cells(columns: &mut Index<KeyRows>, at: usize, slot: usize, f
 }
 
 /// Returns the sizes of the column at a position, or of none if it is left without rows.
-fn filled_sizes_at(columns: &Index<KeyRows>, at: usize, slot: usize) -> Sizes
+fn filled_sizes_at(columns: &Index<Rows>, at: usize, slot: usize) -> Sizes
     requires leaf { at < length columns.now }
     requires inside { slot < length (slice_index_or columns.now at []) }
     ensures { result ≡ sizes_of (if_filled (key_at columns.now at slot, cells_at columns.now at slot)) }

@@ -4,8 +4,8 @@ ghost use Rattle.std.specs.List.Sorted.{IsStrictlySortedBy};
 ghost use Rattle.hlc_index.specs.Entries.{entries_in, keys_in, key_cmp};
 ghost use Rattle.hlc_columns.specs.Table.{keyed};
 
-use crate::key_rows::KeyRows;
 use crate::keyed::Keyed;
+use hlc_column::Rows;
 use hlc_index::Index;
 use hlc_rows::Bytes;
 use hlc_values::NoMemory;
@@ -16,7 +16,7 @@ use std::marker::Model;
 /// key.
 #[derive(Debug, Drop)]
 pub struct Columns<'a> {
-    entries: &'a [(Bytes, KeyRows)],
+    entries: &'a [(Bytes, Rows)],
 }
 
 impl<'a> Model for Columns<'a> {
@@ -31,7 +31,7 @@ impl<'a> Model for Columns<'a> {
 
 impl<'a> Columns<'a> {
     /// Returns the columns of a leaf.
-    pub(crate) fn new(entries: &'a [(Bytes, KeyRows)]) -> Columns<'a>
+    pub(crate) fn new(entries: &'a [(Bytes, Rows)]) -> Columns<'a>
         ensures { result ≡ keyed entries.now }
     {
         Columns { entries }
@@ -54,7 +54,7 @@ impl<'a> Columns<'a> {
 }
 
 /// Returns the entry at a position, with its key.
-fn entry_at<'a>(entries: &'a [(Bytes, KeyRows)], place: usize) -> Keyed<'a>
+fn entry_at<'a>(entries: &'a [(Bytes, Rows)], place: usize) -> Keyed<'a>
     requires { place < length entries.now }
     ensures { slice_get (keyed entries.now) place ≡ Some result }
 {
@@ -65,7 +65,7 @@ fn entry_at<'a>(entries: &'a [(Bytes, KeyRows)], place: usize) -> Keyed<'a>
 /// Returns the columns, leaf by leaf.
 pub(crate) fn list_leaves(
     alloc: Global,
-    columns: &Index<KeyRows>,
+    columns: &Index<Rows>,
 ) -> Result<Vec<Columns<'_>>, NoMemory>
     ensures list { IfOk result (λ list. list.items ≡ map keyed columns.now) }
     ensures ascend { IsStrictlySortedBy key_cmp (keys_in (entries_in columns.now)) }

@@ -6,8 +6,8 @@ ghost use Rattle.hlc_columns.specs.Sizes.{sizes_of, Fit};
 ghost use Rattle.hlc_columns.specs.Table.{cells_at, key_at, if_filled};
 
 use crate::dropping::keep_cells;
-use crate::key_rows::KeyRows;
 use crate::sizes::sizes_at;
+use hlc_column::Rows;
 use hlc_flags::Flags;
 use hlc_index::Index;
 use hlc_sizes::Sizes;
@@ -15,7 +15,7 @@ use hlc_sizes::Sizes;
 /// Keeps only the flagged rows of the column at a position, in their order. The column is removed if it is left without
 /// rows. It needs no memory.
 pub(crate) fn keep_column(
-    columns: &mut Index<KeyRows>,
+    columns: &mut Index<Rows>,
     sizes: &mut Sizes,
     at: usize,
     slot: usize,

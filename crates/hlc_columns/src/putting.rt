@@ -8,8 +8,8 @@ ghost use Rattle.hlc_columns.specs.Table.{indexed_rows, AreFilled, InsertedLast}
 ghost use Rattle.hlc_column.specs.Cells.{value_bytes};
 ghost use Rattle.hlc_columns.specs.Sizes.{sizes_of, with_row, with_key, Fit};
 
-use crate::key_rows::KeyRows;
 use hlc_clock::Stamp;
+use hlc_column::Rows;
 use hlc_index::Index;
 use hlc_rows::{Bytes, value_slice};
 use hlc_sizes::{Sizes, length_of};
@@ -28,7 +28,7 @@ pub(crate) struct NewRow<'a> {
 /// Appends a row to its key's column, or to a new column at the place where the key belongs, as `Index::locate` returns
 /// them; only then is the key copied. It is refused if memory runs out, or at 2^128 - 1 rows: then no row changes.
 pub(crate) fn put_row(
-    columns: &mut Index<KeyRows>,
+    columns: &mut Index<Rows>,
     sizes: &mut Sizes,
     alloc: Global,
     place: Result<(usize, usize), (usize, usize)>,
@@ -68,7 +68,7 @@ pub(crate) fn put_row(
 
 /// Appends a row to the column at a position.
 fn push_at(
-    columns: &mut Index<KeyRows>,
+    columns: &mut Index<Rows>,
     alloc: Global,
     at: usize,
     slot: usize,
@@ -94,7 +94,7 @@ fn push_at(
 
 /// Adds a column of one row, whose key is new, at the place where the key belongs.
 fn add_column(
-    columns: &mut Index<KeyRows>,
+    columns: &mut Index<Rows>,
     alloc: Global,
     at: usize,
     slot: usize,
@@ -113,7 +113,7 @@ fn add_column(
     ensures same { OnErr result (entries_in columns.new ≡ entries_in columns.old) }
 {
     let key = Bytes::from_slice(alloc, row.key)?;
-    let column = KeyRows::of_row(row.stamp, row.node, row.value);
+    let column = Rows::of_row(row.stamp, row.node, row.value);
     columns.insert_at(at, slot, key, column)?;
     Ok(())
 }

@@ -3,8 +3,7 @@ ghost use Rattle.std.specs.Prelude.{◌≡◌, ◌<◌, ◌∷◌, [], length, s
 ghost use Rattle.hlc_columns.specs.Sizes.{sizes_of};
 ghost use Rattle.hlc_columns.specs.Table.{key_at, cells_at};
 
-use crate::key_rows::KeyRows;
-use hlc_column::Lanes;
+use hlc_column::{Lanes, Rows};
 use hlc_index::Index;
 use hlc_sizes::Sizes;
 
@@ -21,7 +20,7 @@ fn sizes_of_column(key: &[u8], column: Lanes<'_>) -> Sizes
 }
 
 /// Returns the sizes of the column at a position.
-pub(crate) fn sizes_at(columns: &Index<KeyRows>, at: usize, slot: usize) -> Sizes
+pub(crate) fn sizes_at(columns: &Index<Rows>, at: usize, slot: usize) -> Sizes
     requires leaf { at < length columns.now }
     requires inside { slot < length (slice_index_or columns.now at []) }
     ensures { result ≡ sizes_of ((key_at columns.now at slot, cells_at columns.now at slot) ∷ []) }

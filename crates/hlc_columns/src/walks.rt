@@ -5,14 +5,14 @@ ghost use Rattle.hlc_index.specs.Entries.{entries_in, keys_in, key_cmp};
 ghost use Rattle.hlc_columns.specs.Table.{indexed_rows};
 
 use crate::answers::Walk;
-use crate::key_rows::KeyRows;
 use hlc_clock::Stamp;
+use hlc_column::Rows;
 use hlc_index::Index;
 use hlc_values::NoMemory;
 use std::alloc::Global;
 
 /// Returns the keys.
-pub(crate) fn list_keys(alloc: Global, columns: &Index<KeyRows>) -> Result<Vec<&[u8]>, NoMemory>
+pub(crate) fn list_keys(alloc: Global, columns: &Index<Rows>) -> Result<Vec<&[u8]>, NoMemory>
     ensures list { IfOk result
         (λ keys. map (λ key. key.now) keys.items ≡ keys_in (entries_in columns.now)) }
     ensures ascend { IsStrictlySortedBy key_cmp (keys_in (entries_in columns.now)) }
@@ -25,7 +25,7 @@ pub(crate) fn list_keys(alloc: Global, columns: &Index<KeyRows>) -> Result<Vec<&
 }
 
 /// Returns how many rows are at or below the bound.
-pub(crate) fn count_rows_at(columns: &Index<KeyRows>, bound: Stamp) -> u128
+pub(crate) fn count_rows_at(columns: &Index<Rows>, bound: Stamp) -> u128
     requires { length (indexed_rows columns.now) < 2 ^ 128 }
     ensures { result ≡ length (filter (λ row. nat_le row.stamp bound) (indexed_rows columns.now)) }
 {
