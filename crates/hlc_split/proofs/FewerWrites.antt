@@ -1,7 +1,7 @@
 -- The writes of some keys of a batch are a batch, or none.
-use Rattle.std.proofs.Common.{◌≡◌, ℕ, Bool, true, false, ◌<◌, ◌≤◌, cond, eqb, ltb, bytes_eq, List, [], ◌∷◌, length}
-use Rattle.std.proofs.Common.{Option, Some, None, refl, sym, ap, ◌∙◌, inl, inr, arith}
-use Rattle.std.proofs.lemmas.Bool.{cases_Bool, or_parts, ltb-false, le-ltb, ne_eqb}
+use Rattle.std.proofs.Common.{◌≡◌, ℕ, Bool, true, false, ◌≤◌, cond, eqb, ltb, bytes_eq, List, [], ◌∷◌, length}
+use Rattle.std.proofs.Common.{Option, Some, None, refl, arith}
+use Rattle.std.proofs.lemmas.Bool.{or_parts, le-ltb, ne_eqb}
 use Rattle.hlc_rows.specs.declared.limits.TheConstants.{MOST_WRITES}
 use Rattle.hlc_rows.specs.declared.write.Write.{Write}
 use Rattle.hlc_rows.specs.Limits.{write_refusal}

@@ -1,8 +1,10 @@
 //! Two checkpoints joined into one.
-ghost use Rattle.std.specs.Prelude.{◌≡◌, ◌++◌, ◌↔◌, ⊤, not, true, All, IfOk, IfErr, IsTrue, List, ℕ, Bool, MatchOption};
-ghost use Rattle.hlc_core.specs.Past.{Step, IsLegal};
-ghost use Rattle.hlc_core.specs.StoreView.{nodes, with_rows_left};
+ghost use Rattle.std.specs.Prelude.{◌≡◌, ◌++◌, ◌∷◌, ◌↔◌, ⊤, not, true, All, IfOk, IfErr, IsTrue, List};
+ghost use Rattle.std.specs.Prelude.{ℕ, Bool, MatchOption};
+ghost use Rattle.hlc_core.specs.Past.{Step, Trimmed, IsLegal};
+ghost use Rattle.hlc_core.specs.StoreView.{nodes, with_rows_left, Represents};
 ghost use Rattle.hlc_split.specs.Split.{RepresentsPart, is_under, is_from};
+ghost use Rattle.hlc_split.specs.OwnPast.{IsOwnPast};
 ghost use Rattle.hlc_split.specs.Merge.{AreDivided, HaveSameLinks, HaveSameSnapshots, IsReason, merge_code};
 ghost use Rattle.hlc_split.specs.declared.joining.MergeFault.TheVariants.{NoMemory as no_memory};
 
@@ -76,7 +78,8 @@ impl From<NoMemory> for MergeFault {
 
 /// Joins two checkpoints, of which the left one has the lower keys: the state of both, with the rows of the left one
 /// before those of the right one. If both represent their parts of one past, the result represents all of it, and its
-/// vacuums are parts of one.
+/// vacuums are parts of one. If they were parts and went on, each vacuumed when it chose but to one stamp in the end,
+/// it represents what both took, vacuumed to that stamp.
 ///
 /// Refused for the first reason of `MergeFault`. Both are moved, and lost if it is refused. It looks at each link, each
 /// open snapshot and each row once, and copies no row.
@@ -86,6 +89,11 @@ pub fn merge(left: Checkpoint, right: Checkpoint) -> Result<Checkpoint, MergeFau
     ensures represents { (past : List Step) (is_of : List ℕ → Bool) → IsLegal (nodes left) past
         → RepresentsPart is_of left past → RepresentsPart (λ key. not (is_of key)) right past
         → IfOk result (λ made. RepresentsPart (λ _. true) made past) }
+    ensures vacuumed { (past own_left own_right : List Step) (is_of : List ℕ → Bool)
+        → IsLegal (nodes left) past → IsOwnPast is_of past own_left
+        → IsOwnPast (λ key. not (is_of key)) past own_right
+        → Represents left own_left → Represents right own_right
+        → IfOk result (λ made. RepresentsPart (λ _. true) made (Trimmed left.horizon 0 ∷ past)) }
     ensures divided { IfOk result (λ _. IsReason left right no_memory) }
     ensures err { IfErr result (IsReason left right) }
 {

@@ -4,14 +4,15 @@
 mod halves;
 mod joining;
 
-ghost use Rattle.std.specs.Prelude.{◌≡◌, ◌<◌, ◌≤◌, ◌++◌, ℕ, Bool, true, not, List};
+ghost use Rattle.std.specs.Prelude.{◌≡◌, ◌<◌, ◌≤◌, ◌++◌, ◌∷◌, ℕ, Bool, true, not, List};
 ghost use Rattle.hlc_rows.specs.Rows.{answer};
-ghost use Rattle.hlc_core.specs.Past.{Step, IsLegal, writes, floor, horizon, open_snapshots};
+ghost use Rattle.hlc_core.specs.Past.{Step, Trimmed, IsLegal, writes, floor, horizon, open_snapshots};
 ghost use Rattle.hlc_core.specs.StoreView.{StoreView, nodes, with_rows_left, Represents};
 ghost use Rattle.hlc_checkpoint.specs.Checkpoint.{IsCheckpoint};
 ghost use Rattle.hlc_witness.specs.Certificate.{RowsAscend};
 ghost use Rattle.hlc_heads.specs.declared.heads.TheConstants.{MOST_NODES};
 ghost use Rattle.hlc_split.specs.Split.{RepresentsPart, part_of, past_in};
+ghost use Rattle.hlc_split.specs.OwnPast.{IsOwnPast};
 
 pub use halves::split;
 pub use joining::{MergeFault, merge};
@@ -47,4 +48,24 @@ pub fn parts_merge()
     ensures { (left right : StoreView) (past : List Step) (is_of : List ℕ → Bool) → IsLegal (nodes left) past
         → RepresentsPart is_of left past → RepresentsPart (λ key. not (is_of key)) right past
         → RepresentsPart (λ _. true) (with_rows_left left (left.rows ++ right.rows) left.horizon) past }
+{}
+
+/// Two parts of one past, of the keys of a kind and of the others, that went on and were vacuumed when they chose, but
+/// to one stamp in the end, are together a store of all keys: one with the rows of both. It represents what both took,
+/// vacuumed to that stamp. There and above it answers as all that they took does, and so does each part at its keys.
+pub fn vacuumed_parts_merge()
+    ensures merged { (left right : StoreView) (past own_left own_right : List Step) (is_of : List ℕ → Bool)
+        → IsLegal (nodes left) past → IsOwnPast is_of past own_left
+        → IsOwnPast (λ key. not (is_of key)) past own_right
+        → Represents left own_left → Represents right own_right → left.horizon ≡ right.horizon
+        → RepresentsPart (λ _. true) (with_rows_left left (left.rows ++ right.rows) left.horizon)
+        (Trimmed left.horizon 0 ∷ past) }
+    ensures answers { (left right : StoreView) (past own_left own_right : List Step) (is_of : List ℕ → Bool)
+        (key : List ℕ) (stamp : ℕ) → IsLegal (nodes left) past → IsOwnPast is_of past own_left
+        → IsOwnPast (λ key. not (is_of key)) past own_right
+        → Represents left own_left → Represents right own_right → left.horizon ≡ right.horizon
+        → left.horizon ≤ stamp → answer (left.rows ++ right.rows) key stamp ≡ answer (writes past) key stamp }
+    ensures part { (part : StoreView) (past own : List Step) (is_of : List ℕ → Bool) (key : List ℕ) (stamp : ℕ)
+        → IsOwnPast is_of past own → Represents part own → is_of key ≡ true → part.horizon ≤ stamp
+        → answer part.rows key stamp ≡ answer (writes past) key stamp }
 {}
