@@ -39,7 +39,7 @@ close-is layout old new run s id (Err NoStore) h closes same =
     (subst (λ kept. Represents layout kept run) (sym same) h)
 close-is layout old new run s id (Err WrongStore) h closes same = absurd closes
 close-is layout old new run s id (Err (Store fault)) h closes same =
-    subst (λ o. Represents layout new (closed_at o s id run)) (sym closes.0)
+    subst (λ o. Represents layout new (closed_at o s id run)) (sym closes.1)
     (subst (λ kept. Represents layout kept run) (sym same) h)
 
 pub was-open : (layout : Layout) (old new : RangesView) (run : List Turn) (s id stamp : ℕ)
@@ -56,7 +56,7 @@ was-shut layout old new run s id NoStore h closes open' =
     let e : None ≡ Some open'.0 = sym none ∙ open'.1 in absurd (cc)
 was-shut layout old new run s id WrongStore h closes open' = absurd closes
 was-shut layout old new run s id (Store fault) h closes open' =
-    let e : None ≡ Some open'.0 = sym closes.0 ∙ open'.1 in absurd (cc)
+    let e : None ≡ Some open'.0 = sym closes.1 ∙ open'.1 in absurd (cc)
 
 past-at : (o : Option ℕ) (s t id : ℕ) (run : List Turn) → (t ≡ s → ⊥) → past_of s (closed_at o t id run) ≡ past_of s run
 past-at None s t id run other = refl

@@ -3,6 +3,7 @@ use Rattle.std.proofs.Common.{◌≡◌, ℕ, ◌+◌, ◌<◌, ◌≤◌, List,
 use Rattle.std.proofs.Common.{ap, sym, ◌∙◌, subst, inl, inr, arith, length-append}
 use Rattle.std.specs.Prelude.{slice_get, ⊤}
 use Rattle.std.proofs.lemmas.Bool.{cases_eq}
+use Rattle.std.proofs.lemmas.Option.{slice_get_within}
 use Rattle.hlc_events.specs.declared.fault.CoreFault.{CoreFault}
 use Rattle.hlc_core.specs.Past.{Step, Joined, join_refusal, numbered, floor}
 use Rattle.hlc_core.specs.StoreView.{StoreView, nodes}
@@ -29,8 +30,10 @@ joined layout old run s store new made h there same joins = (
 pub not-joined : (layout : Layout) (old now : RangesView) (run : List Turn) (s : ℕ) (store new : StoreView)
     (fault : CoreFault) → Represents layout old run → slice_get old.stores s ≡ Some store
     → Joins store new (past_of s run) (Err fault) → JoinsIn layout old now s run (Err (Store fault))
-not-joined layout old now run s store new fault h there joins =
-    subst (λ n. IsRefusal (join_refusal n (past_of s run)) ⊤ fault) (h.nodes s store there) joins
+not-joined layout old now run s store new fault h there joins = (
+  slice_get_within old.stores s store there,
+  subst (λ n. IsRefusal (join_refusal n (past_of s run)) ⊤ fault) (h.nodes s store there) joins,
+)
 
 refusal-same : (layout : Layout) (run : List Turn) (step : ℕ → Step) (n : ℕ)
     → join_refusals layout (each_stepped step n run) n ≡ join_refusals layout run n
@@ -97,7 +100,7 @@ one-not_joined layout old new run made n (Store fault) inside h joins same = (
     inside = inside;
     before = subst (λ kept. HaveStepped layout kept run (join_refusals layout run) (join_step layout run) n) (sym same)
         h.stepped;
-    why = subst (λ o. IsStoreRefusal o (Store fault)) (refusal-same layout run (join_step layout run) n) joins;
+    why = subst (λ o. IsStoreRefusal o (Store fault)) (refusal-same layout run (join_step layout run) n) joins.1;
   },
   h.joins,
 )

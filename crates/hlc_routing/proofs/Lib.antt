@@ -5,6 +5,7 @@ pub mod Accepting
 pub mod Reading
 pub mod Each
 pub mod Opening
+pub mod OpenAll
 pub mod Vacuuming
 pub mod Joining
 pub mod Copying

@@ -70,7 +70,7 @@ one-refused layout old new stamp run ids n (Store fault) inside h opens same = r
   at = n;
   inside = inside;
   opened = subst (λ kept. HasOpenedTo layout kept stamp run ids n) (sym same) h;
-  why = subst (λ o. IsStoreRefusal o (Store fault)) (refusal-same layout run stamp n) opens;
+  why = subst (λ o. IsStoreRefusal o (Store fault)) (refusal-same layout run stamp n) opens.1;
 }
 
 -- a snapshot that was just opened is open, at its stamp
@@ -153,7 +153,7 @@ one-closed layout old new run ids n (Err (Store fault)) inside within are h clos
     let same : past_of n (each_stepped (λ s. Closed (get_or ids s 0)) n run) ≡ past_of n run =
     past-after (λ s. Closed (get_or ids s 0)) n n run (omega arith) in
     let is = are n within in
-    let e : None ≡ Some is.0 = sym closes.0 ∙ ap (stamp_of (get_or ids n 0)) same ∙ is.1 in absurd (cc)
+    let e : None ≡ Some is.0 = sym closes.1 ∙ ap (stamp_of (get_or ids n 0)) same ∙ is.1 in absurd (cc)
 
 -- what the closing of the snapshots with some ids says of a snapshot that is open in all stores
 pub all-open : (layout : Layout) (new : RangesView) (run : List Turn) (snapshot : SnapshotView) (ids : List ℕ)

@@ -43,8 +43,10 @@ vacuumed layout old run s at store new report h there same vacuums =
 pub not-vacuumed : (layout : Layout) (old now : RangesView) (run : List Turn) (s at : ℕ) (store new : StoreView)
     (fault : CoreFault) → Represents layout old run → slice_get old.stores s ≡ Some store
     → VacuumsTo store new at (past_of s run) (Err fault) → VacuumsIn layout old now s at run (Err (Store fault))
-not-vacuumed layout old now run s at store new fault h there vacuums =
-    subst (λ n. IsRefusal (vacuum_refusal n (past_of s run) at) ⊤ fault) (h.nodes s store there) vacuums
+not-vacuumed layout old now run s at store new fault h there vacuums = (
+  slice_get_within old.stores s store there,
+  subst (λ n. IsRefusal (vacuum_refusal n (past_of s run) at) ⊤ fault) (h.nodes s store there) vacuums,
+)
 
 refusal-same : (layout : Layout) (run : List Turn) (at n : ℕ)
     → vacuum_refusals layout (each_stepped (vacuuming at) n run) at n ≡ vacuum_refusals layout run at n
@@ -133,5 +135,5 @@ one-not_vacuumed layout old new at run reports n (Store fault) inside h vacuums 
   inside = inside;
   before = subst (λ kept. HaveStepped layout kept run (vacuum_refusals layout run at) (vacuuming at) n) (sym same)
       h.stepped;
-  why = subst (λ o. IsStoreRefusal o (Store fault)) (refusal-same layout run at n) vacuums;
+  why = subst (λ o. IsStoreRefusal o (Store fault)) (refusal-same layout run at n) vacuums.1;
 }

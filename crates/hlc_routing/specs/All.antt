@@ -54,6 +54,15 @@ pub record IsOpenAll (layout : Layout) (snapshot : SnapshotView) (run : List Tur
   pub many : length snapshot.ids ≡ layout.stores
   pub each : (s : ℕ) → s < layout.stores → stamp_of (get_or snapshot.ids s 0) (past_of s run) ≡ Some snapshot.stamp
 
+-- the snapshot has this id in the store, and is open there at its stamp
+abbrev pub IsIdAt : SnapshotView → List Turn → ℕ → ℕ → Type 0
+IsIdAt snapshot run s id =
+    (slice_get snapshot.ids s ≡ Some id) × (stamp_of id (past_of s run) ≡ Some snapshot.stamp)
+
+-- the snapshot is open in the store, at its stamp
+abbrev pub IsOpenAt : SnapshotView → List Turn → ℕ → Type 0
+IsOpenAt snapshot run s = (id : ℕ) × IsIdAt snapshot run s id
+
 -- why a store opens no snapshot at a stamp
 abbrev pub open_refusals : Layout → List Turn → ℕ → ℕ → Option CoreFault
 open_refusals layout run stamp s = open_refusal (layout.nodes s) (past_of s run) stamp
@@ -118,7 +127,8 @@ VacuumsIn layout old new s at run (Ok report) =
     × Represents layout new (Stepped s (Vacuumed at) ∷ run)
 VacuumsIn layout old new s at run (Err NoStore) = length old.stores ≤ s
 VacuumsIn layout old new s at run (Err WrongStore) = ⊥
-VacuumsIn layout old new s at run (Err (Store fault)) = IsRefusal (vacuum_refusals layout run at s) ⊤ fault
+VacuumsIn layout old new s at run (Err (Store fault)) =
+    (s < length old.stores) × IsRefusal (vacuum_refusals layout run at s) ⊤ fault
 
 -- the reports of the first stores, in order
 pub record AreReports (new : RangesView) (at : ℕ) (run : List Turn) (reports : List Report) (n : ℕ) : Type 0 where
@@ -152,7 +162,8 @@ JoinsIn layout old new s run (Ok made) =
     × Represents layout new (Stepped s (Joined made.0 made.1) ∷ run)
 JoinsIn layout old new s run (Err NoStore) = length old.stores ≤ s
 JoinsIn layout old new s run (Err WrongStore) = ⊥
-JoinsIn layout old new s run (Err (Store fault)) = IsRefusal (join_refusals layout run s) ⊤ fault
+JoinsIn layout old new s run (Err (Store fault)) =
+    (s < length old.stores) × IsRefusal (join_refusals layout run s) ⊤ fault
 
 -- the nodes that joined the first stores, in order
 pub record AreJoins (layout : Layout) (run : List Turn) (made : List (ℕ × ℕ)) (n : ℕ) : Type 0 where

@@ -1,5 +1,5 @@
 -- The listing of some rows at a stamp, of the keys of a range.
-use Rattle.std.specs.Prelude.{◌≡◌, ◌↔◌, ℕ, ◌<◌, List, Option, Some, map, Contains}
+use Rattle.std.specs.Prelude.{◌≡◌, ◌↔◌, ◌⊎◌, ℕ, ◌<◌, List, Option, Some, map, Contains}
 use Rattle.std.specs.List.Sorted.{IsStrictlySortedBy}
 use Rattle.std.specs.Cmp.Lexicographic.{slice_cmp}
 use Rattle.std.specs.Ordering.{nat_cmp, eq_by_cmp}
@@ -10,6 +10,10 @@ use Rattle.hlc_columns.specs.Answers.{IsBetween}
 use Rattle.hlc_core.specs.Past.{writes}
 use Rattle.hlc_core.specs.declared.listing.Pair.{Pair}
 use Rattle.hlc_ranges.specs.Run.{Layout, Turn, past_of}
+use Rattle.hlc_events.specs.declared.fault.CoreFault.TheVariants.{NoSnapshot, NoMemory}
+use Rattle.hlc_routing.specs.All.{SnapshotView, IsOpenAll}
+use Rattle.hlc_routing.specs.declared.fault.RangesFault.{RangesFault}
+use Rattle.hlc_routing.specs.declared.fault.RangesFault.TheVariants.{Store}
 
 -- the keys of a range that have a value at a stamp, each once, in byte order, with that value
 pub record IsListingBetween (rows : List Row) (stamp : ℕ) (from : List ℕ) (to : Option (List ℕ))
@@ -18,6 +22,12 @@ pub record IsListingBetween (rows : List Row) (stamp : ℕ) (from : List ℕ) (t
   pub exact : (key value : List ℕ)
       → Contains listing (record { key = key; value = value })
       ↔ (IsBetween from to key × (answer rows key stamp ≡ Some value))
+
+-- why the keys of a snapshot are not listed: it is not open in each store at its stamp; or it is, and memory ran out
+abbrev pub IsRefusedListing : Layout → SnapshotView → List Turn → RangesFault → Type 0
+IsRefusedListing layout snapshot run fault =
+    ((IsOpenAll layout snapshot run → ⊥) × (fault ≡ Store NoSnapshot))
+    ⊎ (IsOpenAll layout snapshot run × (fault ≡ Store NoMemory))
 
 -- a pair as a key and its value
 abbrev pub of_pair : Pair → List ℕ × List ℕ

@@ -1,9 +1,9 @@
 -- Stores with one key space, and the run that they represent.
-use Rattle.std.specs.Prelude.{◌≡◌, ℕ, ◌<◌, ◌≤◌, ◌+◌, List, ◌∷◌, length, Some, None, slice_get, ⊤, Result, Ok, Err}
+use Rattle.std.specs.Prelude.{◌≡◌, ◌≢◌, ℕ, ◌<◌, ◌≤◌, ◌+◌, List, ◌∷◌, length, Some, None, slice_get, ⊤, Result, Ok, Err}
 use Rattle.hlc_node.specs.declared.item.Body.{Body}
 use Rattle.hlc_node.specs.declared.item.Body.TheVariants.{Write, Batch, Report, Retire}
 use Rattle.hlc_node.specs.declared.item.Item.{Item}
-use Rattle.hlc_core.specs.Past.{Step, Opened, Closed, item_refusal, open_refusal, opened, stamp_of}
+use Rattle.hlc_core.specs.Past.{Step, Took, Opened, Closed, item_refusal, open_refusal, opened, stamp_of}
 use Rattle.hlc_core.specs.StoreView.{StoreView, nodes, Represents as CoreRepresents}
 use Rattle.hlc_core.specs.Checkpoint.{floor_in}
 use Rattle.hlc_core.specs.Calls.{IsRefusal, IsWrite}
@@ -50,9 +50,16 @@ abbrev pub IsRefusedFor : RangesView → ℕ → Item → RangesFault → Type 0
 IsRefusedFor kept s item NoStore = length kept.stores ≤ s
 IsRefusedFor kept s item WrongStore = (s < length kept.stores) × (IsOfStore kept.division s item.body → ⊥)
 IsRefusedFor kept s item (Store fault) =
-    IsOfStore kept.division s item.body
+    (s < length kept.stores) × IsOfStore kept.division s item.body
     × ((store : StoreView) (past : List Step) → slice_get kept.stores s ≡ Some store → CoreRepresents store past
     → IsRefusal (item_refusal (nodes store) past item) (IsWrite item.body) fault)
+
+-- the store took the item, whoever issued it, and the others stay
+pub record HasTaken (old new : RangesView) (s : ℕ) (item : Item) : Type 0 where
+  pub took : (store made : StoreView) (past : List Step) → slice_get old.stores s ≡ Some store
+      → slice_get new.stores s ≡ Some made → CoreRepresents store past
+      → (item_refusal (nodes store) past item ≡ None) × CoreRepresents made (Took item ∷ past)
+  pub others : (other : ℕ) → other ≢ s → slice_get new.stores other ≡ slice_get old.stores other
 
 -- a snapshot of one store was opened, with an id one above the number of those opened there before, or refused
 abbrev pub OpensIn : Layout → RangesView → RangesView → ℕ → ℕ → List Turn → Result ℕ RangesFault → Type 0
@@ -62,7 +69,7 @@ OpensIn layout old new s stamp run (Ok id) =
 OpensIn layout old new s stamp run (Err NoStore) = length old.stores ≤ s
 OpensIn layout old new s stamp run (Err WrongStore) = ⊥
 OpensIn layout old new s stamp run (Err (Store fault)) =
-    IsRefusal (open_refusal (layout.nodes s) (past_of s run) stamp) ⊤ fault
+    (s < length old.stores) × IsRefusal (open_refusal (layout.nodes s) (past_of s run) stamp) ⊤ fault
 
 -- the snapshot of one store was closed, and this was its stamp; or there was none with this id
 abbrev pub ClosesIn : Layout → RangesView → RangesView → ℕ → ℕ → List Turn → Result ℕ RangesFault → Type 0
@@ -70,4 +77,5 @@ ClosesIn layout old new s id run (Ok stamp) =
     (stamp_of id (past_of s run) ≡ Some stamp) × Represents layout new (Stepped s (Closed id) ∷ run)
 ClosesIn layout old new s id run (Err NoStore) = length old.stores ≤ s
 ClosesIn layout old new s id run (Err WrongStore) = ⊥
-ClosesIn layout old new s id run (Err (Store fault)) = (stamp_of id (past_of s run) ≡ None) × (fault ≡ NoSnapshot)
+ClosesIn layout old new s id run (Err (Store fault)) =
+    (s < length old.stores) × (stamp_of id (past_of s run) ≡ None) × (fault ≡ NoSnapshot)

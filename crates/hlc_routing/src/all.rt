@@ -2,7 +2,7 @@
 ghost use Rattle.std.specs.Prelude.{◌≡◌, ◌≤◌, ◌<◌, ◌↔◌, ℕ, List, [], Some, length, vec_len, vec_capacity, get_or};
 ghost use Rattle.std.specs.Prelude.{IsTrue, IfOk, IfErr, OnOk, OnErr, IsOkAnd, MatchResult, option_copied};
 ghost use Rattle.hlc_rows.specs.Rows.{answer};
-ghost use Rattle.hlc_core.specs.Past.{Vacuumed, stamp_of};
+ghost use Rattle.hlc_core.specs.Past.{Vacuumed, stamp_of, writes};
 ghost use Rattle.hlc_ranges.specs.Run.{Layout, Turn, issued_writes, past_of};
 ghost use Rattle.hlc_ranges.specs.Cut.{IsConsistent};
 ghost use Rattle.hlc_routing.specs.Ranges.{RangesView, Represents, IsLeastFloor};
@@ -10,7 +10,8 @@ ghost use Rattle.hlc_routing.specs.All.{each_stepped, IsOpenAll, OpensAll, Close
 ghost use Rattle.hlc_routing.specs.All.{AreVacuumed, AreVacuumedSome, HaveJoined, HaveJoinedSome, next_id};
 ghost use Rattle.hlc_routing.specs.All.{open_refusals, vacuum_refusals, join_refusals, join_step, AreJoins, AreReports};
 ghost use Rattle.hlc_routing.specs.All.{HasOpenedTo, HasOpenedSome, AreCheckpoints, each_closed, closed_at};
-ghost use Rattle.hlc_routing.specs.All.{AreOpenTo, AreOpenIn, IsOpenIn};
+ghost use Rattle.hlc_routing.specs.All.{AreOpenTo, AreOpenIn, IsOpenIn, IsOpenAt};
+ghost use Rattle.hlc_routing.specs.Division.{store_of};
 
 use crate::fault::RangesFault;
 use crate::ranges::Ranges;
@@ -88,21 +89,27 @@ impl Ranges {
     /// Returns the value of a key, or none, in a snapshot of all stores: the newest write of all that were issued at or
     /// below its stamp. The key may be any bytes.
     ///
-    /// Refused if the snapshot is not open in the key's store.
+    /// Refused if the snapshot is not open in the key's store, at its stamp.
     pub fn read_at(
         &self,
         snapshot: &RangesSnapshot,
         key: &[u8],
     ) -> Result<Option<&[u8]>, NoSnapshot>
-        ensures { (layout : Layout) (run : List Turn) → Represents layout self.now run
+        ensures newest { (layout : Layout) (run : List Turn) → Represents layout self.now run
             → IsOpenAll layout snapshot.now run → IsOkAnd result
             (λ value. option_copied value ≡ answer (issued_writes run) key.now snapshot.now.stamp) }
+        ensures ok { (layout : Layout) (run : List Turn) → Represents layout self.now run → IfOk result (λ value.
+            IsOpenAt snapshot.now run (store_of self.now.division key.now)
+            × (option_copied value ≡ answer
+            (writes (past_of (store_of self.now.division key.now) run)) key.now snapshot.now.stamp)) }
+        ensures err { (layout : Layout) (run : List Turn) → Represents layout self.now run
+            → OnErr result (IsOpenAt snapshot.now run (store_of self.now.division key.now) → ⊥) }
     {
         let store = self.store_of(key);
-        let Some(id) = snapshot.ids().get(store) else {
+        let Some(id) = self.id_in(snapshot, store) else {
             return Err(NoSnapshot);
         };
-        self.read(*id, key)
+        self.read(id, key)
     }
 
     /// Vacuums all stores to a stamp, as `Core::vacuum_to` does, and returns the reports, that of the first store first.

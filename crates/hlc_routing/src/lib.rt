@@ -7,6 +7,7 @@ mod fault;
 mod laws;
 mod listing;
 mod machine;
+mod opened;
 mod ranges;
 mod snapshot;
 

@@ -8,7 +8,7 @@ ghost use Rattle.hlc_events.specs.declared.fault.CoreFault.TheVariants.{NoMemory
 ghost use Rattle.hlc_ranges.specs.Run.{Layout, Turn, issued_writes};
 ghost use Rattle.hlc_routing.specs.Ranges.{Represents};
 ghost use Rattle.hlc_routing.specs.All.{IsOpenAll};
-ghost use Rattle.hlc_routing.specs.Listing.{IsListingBetween, HaveKeysApart, ArePairsOf, of_pair};
+ghost use Rattle.hlc_routing.specs.Listing.{IsListingBetween, IsRefusedListing, HaveKeysApart, ArePairsOf, of_pair};
 ghost use Rattle.hlc_routing.specs.declared.fault.RangesFault.TheVariants.{Store};
 
 use crate::fault::RangesFault;
@@ -27,7 +27,7 @@ impl Ranges {
     ///
     /// It goes through the keys of the range in each store, and sorts what it found.
     ///
-    /// Refused: the snapshot is not open in a store; out of memory.
+    /// Refused, in this order: the snapshot is not open in each store, at its stamp; out of memory.
     pub fn list_at(
         &self,
         alloc: Global,
@@ -36,13 +36,18 @@ impl Ranges {
         to: Option<&[u8]>,
     ) -> Result<Listing, RangesFault>
         ensures ok { (layout : Layout) (run : List Turn) → Represents layout self.now run
-            → IsOpenAll layout snapshot.now run → IfOk result (IsListingBetween (issued_writes run)
+            → IfOk result (IsListingBetween (issued_writes run)
             snapshot.now.stamp from.now (option_copied to.entry)) }
+        ensures open { (layout : Layout) (run : List Turn) → Represents layout self.now run
+            → OnOk result (IsOpenAll layout snapshot.now run) }
         ensures err { (layout : Layout) (run : List Turn) → Represents layout self.now run
-            → IsOpenAll layout snapshot.now run → IfErr result (λ fault. fault ≡ Store no_memory) }
+            → IfErr result (IsRefusedListing layout snapshot.now run) }
     {
         // The law of every cut, for the contract alone.
         cuts_are_consistent();
+        if !self.is_open_all(snapshot) {
+            return Err(RangesFault::Store(CoreFault::NoSnapshot));
+        }
         let mut pairs = Vec::new(alloc);
         self.gather(alloc, snapshot, from, to, &mut pairs)?;
         sort(&mut pairs);

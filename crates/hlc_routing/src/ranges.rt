@@ -1,13 +1,15 @@
 //! Stores with one key space.
-ghost use Rattle.std.specs.Prelude.{◌≡◌, ◌≢◌, ◌↔◌, ◌∷◌, ◌<◌, List, length, min, IsTrue, IfErr, OnOk, OnErr};
-ghost use Rattle.std.specs.Prelude.{ℕ, Some, IfSome, IfNone, IsOkAnd, option_copied, slice_get};
+ghost use Rattle.std.specs.Prelude.{◌≡◌, ◌≢◌, ◌↔◌, ◌∷◌, ◌<◌, List, length, min, IsTrue, IfErr, OnOk, OnErr, IfOk};
+ghost use Rattle.std.specs.Prelude.{ℕ, Some, IfSome, IfNone, IsOkAnd, IsErr, MatchOption, option_copied, slice_get};
 ghost use Rattle.hlc_rows.specs.Rows.{answer};
 ghost use Rattle.hlc_node.specs.declared.item.Body.{Body as ABody};
-ghost use Rattle.hlc_core.specs.Past.{Took, stamp_of};
+ghost use Rattle.hlc_node.specs.Items.{retires};
+ghost use Rattle.hlc_core.specs.Past.{Took, stamp_of, writes};
 ghost use Rattle.hlc_ranges.specs.Run.{Layout, Turn, Stepped, IsIssuedStep, past_of, issued_writes};
 ghost use Rattle.hlc_ranges.specs.Cut.{IsCut, IsConsistent};
 ghost use Rattle.hlc_routing.specs.Division.{stores_of, store_of};
-ghost use Rattle.hlc_routing.specs.Ranges.{Represents, IsLeastFloor, IsOfStore, IsRefusedFor, OpensIn, ClosesIn};
+ghost use Rattle.hlc_routing.specs.Ranges.{Represents, IsLeastFloor, IsOfStore, IsRefusedFor, HasTaken};
+ghost use Rattle.hlc_routing.specs.Ranges.{OpensIn, ClosesIn};
 ghost use Rattle.hlc_routing.specs.All.{VacuumsIn, JoinsIn};
 
 use crate::division::{Division, are_of_store};
@@ -107,6 +109,9 @@ impl Ranges {
             → IsIssuedStep store (Took item) run
             → OnOk result (Represents layout self.new (Stepped store (Took item) ∷ run)) }
         ensures ok { OnOk result ((store < length self.old.stores) × IsOfStore self.old.division store item.body) }
+        ensures accepted { IfOk result (λ accepted. accepted ≡ record
+            { node = item.node; stamp = item.stamp; retires = retires item.body }) }
+        ensures takes { OnOk result (HasTaken self.old self.new store item) }
         ensures err { IfErr result (λ refused. IsRefusedFor self.old store item refused.0) }
         ensures item { IfErr result (λ refused. refused.1 ≡ item) }
         ensures unchanged { OnErr result (self.new ≡ self.old) }
@@ -202,8 +207,14 @@ impl Ranges {
 
     /// Returns the value of a key, or none, in a snapshot that is open in its store: `id` is the snapshot's id there.
     /// At a cut it is the newest write of all stores, accepted or only issued. The key may be any bytes.
+    ///
+    /// Refused if the key's store has no such snapshot open.
     pub fn read(&self, id: u64, key: &[u8]) -> Result<Option<&[u8]>, NoSnapshot>
-        ensures { (layout : Layout) (run : List Turn) (stamp : ℕ) → Represents layout self.now run
+        ensures represents { (layout : Layout) (run : List Turn) → Represents layout self.now run
+            → MatchOption (stamp_of id (past_of (store_of self.now.division key.now) run)) (IsErr result)
+            (λ stamp. IsOkAnd result (λ value. option_copied value
+            ≡ answer (writes (past_of (store_of self.now.division key.now) run)) key.now stamp)) }
+        ensures newest { (layout : Layout) (run : List Turn) (stamp : ℕ) → Represents layout self.now run
             → IsCut layout run stamp
             → stamp_of id (past_of (store_of self.now.division key.now) run) ≡ Some stamp
             → IsOkAnd result (λ value. option_copied value ≡ answer (issued_writes run) key.now stamp) }

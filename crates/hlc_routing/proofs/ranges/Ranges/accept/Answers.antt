@@ -4,10 +4,10 @@ use Rattle.std.specs.Prelude.{OnOk, IfErr}
 use Rattle.std.proofs.lemmas.Option.{slice_get_read}
 use Rattle.hlc_core.specs.Past.{Took}
 use Rattle.hlc_ranges.specs.Run.{Stepped, past_of}
-use Rattle.hlc_routing.specs.Ranges.{RangesView, Represents, IsOfStore, IsRefusedFor}
+use Rattle.hlc_routing.specs.Ranges.{RangesView, Represents, IsOfStore, IsRefusedFor, HasTaken}
 use Rattle.hlc_routing.specs.declared.fault.RangesFault.TheVariants.{Store}
 use Rattle.hlc_routing.proofs.Stepping.{with_store}
-use Rattle.hlc_routing.proofs.Accepting.{accepted, refused}
+use Rattle.hlc_routing.proofs.Accepting.{accepted, refused, taken}
 use Rattle.hlc_routing.proofs.ranges.Ranges.accept.Goals as goal
 use Rattle.hlc_routing.proofs.ranges.Ranges.accept.Goals.{in-Ok, in-Err}
 
@@ -39,4 +39,17 @@ returns-clause-err c =
       | in-Ok w ↦ rw w.result-is tt
       | in-Err w ↦ rw (w.result-is, ← c.self.view_is)
           (subst (λ r. IfErr r (λ fault. IsRefusedFor view c.args.store c.args.item (Store fault.0))) w.in-Err.is all')
+    ]
+
+pub returns-clause-takes : goal.returns-clause-takes
+returns-clause-takes c =
+    let lent = c.in-Some.ensures.item in
+    let at = slice_get_read c.self.inside.stores.items _ c.args.store c.in-Some.core.now refl lent.3.0 lent.1 in
+    let view : RangesView = record { division = c.self.inside.division; stores = c.self.inside.stores.items } in
+    let all' = taken view c.args.store c.in-Some.core.now c.accept.new.self c.args.item c.accept.result at
+    c.accept.ensures.represents in
+    elim c.match-accept.branch [
+      | in-Ok w ↦ rw (w.result-is, ← c.self.view_is) (subst (λ r. OnOk r (HasTaken view
+          (with_store view c.args.store c.accept.new.self) c.args.store c.args.item)) w.in-Ok.is all')
+      | in-Err w ↦ rw w.result-is tt
     ]

@@ -1,6 +1,6 @@
 -- The store's step extends the run, or the store has no such snapshot.
 use Rattle.std.proofs.Common.{refl, subst}
-use Rattle.std.proofs.lemmas.Option.{slice_get_read}
+use Rattle.std.proofs.lemmas.Option.{slice_get_read, slice_get_within}
 use Rattle.hlc_core.specs.Calls.{Closes}
 use Rattle.hlc_ranges.specs.Run.{past_of}
 use Rattle.hlc_routing.specs.Ranges.{RangesView}
@@ -20,6 +20,9 @@ returns-clause-represents c = λ layout run h.
       | in-Ok w ↦ rw w.result-is (closed layout view run c.args.store c.in-Some.core.now c.close.new.self c.args.id _
           h' at c.close.ensures.nodes
           (subst (λ r. Closes c.close.new.self c.args.id (past_of c.args.store run) r) w.in-Ok.is closes))
-      | in-Err w ↦ rw w.result-is
-          (subst (λ r. Closes c.close.new.self c.args.id (past_of c.args.store run) r) w.in-Err.is closes, refl)
+      | in-Err w ↦ rw (w.result-is, ← c.self.view_is) (
+        slice_get_within view.stores c.args.store c.in-Some.core.now at,
+        subst (λ r. Closes c.close.new.self c.args.id (past_of c.args.store run) r) w.in-Err.is closes,
+        refl,
+      )
     ]

@@ -19,7 +19,7 @@ returns-clause-represents c = λ layout run h.
       | in-Ok w ↦ rw w.result-is (joined layout view run c.args.store c.in-Some.core.now c.join.new.self _
           h' at c.join.ensures.nodes
           (subst (λ r. Joins c.in-Some.core.now c.join.new.self (past_of c.args.store run) r) w.in-Ok.is joins))
-      | in-Err w ↦ rw w.result-is (not-joined layout view view run c.args.store c.in-Some.core.now
+      | in-Err w ↦ rw (w.result-is, ← c.self.view_is) (not-joined layout view view run c.args.store c.in-Some.core.now
           c.join.new.self _ h' at
           (subst (λ r. Joins c.in-Some.core.now c.join.new.self (past_of c.args.store run) r) w.in-Err.is joins))
     ]

@@ -20,7 +20,7 @@ returns-clause-represents c = λ layout run h.
           h' at c.open.ensures.nodes
           (subst (λ r. Opens c.in-Some.core.now c.open.new.self c.args.stamp (past_of c.args.store run) r)
           w.in-Ok.is opens))
-      | in-Err w ↦ rw w.result-is (not-opened layout view view run c.args.store c.in-Some.core.now
+      | in-Err w ↦ rw (w.result-is, ← c.self.view_is) (not-opened layout view view run c.args.store c.in-Some.core.now
           c.open.new.self c.args.stamp _ h' at
           (subst (λ r. Opens c.in-Some.core.now c.open.new.self c.args.stamp (past_of c.args.store run) r)
           w.in-Err.is opens))

@@ -1,24 +1,54 @@
--- The snapshot is open in the key's store, at a cut.
-use Rattle.std.proofs.Common.{◌≡◌, ℕ, ◌<◌, length, get_or, Some, ap, sym, ◌∙◌, subst, arith}
-use Rattle.std.proofs.lemmas.Grind.{common_steps}
-use Rattle.std.proofs.lemmas.Option.{gets}
-use Rattle.hlc_core.specs.Past.{stamp_of}
+-- The snapshot is open in the key's store, at its stamp, or it is not; open in all stores it is at a cut.
+use Rattle.std.proofs.Common.{◌≡◌, ℕ, ◌<◌, length, Some, ap, sym, subst, arith}
+use Rattle.std.specs.Prelude.{option_copied, is_some}
+use Rattle.hlc_rows.specs.Rows.{answer}
+use Rattle.hlc_core.specs.Past.{stamp_of, writes}
 use Rattle.hlc_ranges.specs.Run.{past_of}
 use Rattle.hlc_routing.specs.Division.{store_of}
+use Rattle.hlc_routing.specs.All.{IsOpenAt}
 use Rattle.hlc_routing.proofs.Opening.{open-cut}
+use Rattle.hlc_routing.proofs.OpenAll.{open-here, id-shut, read-ok, read-err}
 use Rattle.hlc_routing.proofs.ranges.Ranges.read_at.Goals as goal
 
-pub returns : goal.returns
-returns c = λ layout run h open'.
-    let store : ℕ = store_of c.args.self.now.division c.args.key.now in
-    let value : c.store_of-store.result ≡ store = c.store_of-store.ensures.value in
+pub returns-in_default-clause-newest : goal.returns-in_default-clause-newest
+returns-in_default-clause-newest c = λ layout run h open'.
     let many : length c.args.self.now.stores ≡ layout.stores = h.many in
     let low : c.store_of-store.result < length c.args.self.now.stores = c.store_of-store.ensures.inside in
-    let inside : store < layout.stores = omega (arith, value, many, low) in
-    let read' : get_or c.ids.result.now c.store_of-store.result 0 ≡ c.in-Some.id.now =
-    grind (arith, common_steps, gets) in
-    let is : get_or c.args.snapshot.now.ids store 0 ≡ c.in-Some.id.now =
-    ap (λ xs. get_or xs store 0) (sym c.ids.ensures) ∙ ap (λ k. get_or c.ids.result.now k 0) (sym value) ∙ read' in
-    c.read.ensures layout run c.args.snapshot.now.stamp h
+    absurd (id-shut c.args.snapshot.now run c.store_of-store.result c.id_in.result (c.id_in.ensures layout run h)
+    (ap is_some c.in_default.is)
+    (open-here layout c.args.snapshot.now run c.store_of-store.result open' (omega arith)))
+
+pub returns-in_default-clause-err : goal.returns-in_default-clause-err
+returns-in_default-clause-err c = λ layout run h open'.
+    id-shut c.args.snapshot.now run c.store_of-store.result c.id_in.result (c.id_in.ensures layout run h)
+    (ap is_some c.in_default.is) (subst (IsOpenAt c.args.snapshot.now run) (sym c.store_of-store.ensures.value) open')
+
+pub returns-clause-newest : goal.returns-clause-newest
+returns-clause-newest c = λ layout run h open'.
+    let found = c.in-Some.ensures layout run h in
+    c.read.ensures.newest layout run c.args.snapshot.now.stamp h
     (open-cut layout c.args.self.now c.args.snapshot.now run h open')
-    (subst (λ id. stamp_of id (past_of store run) ≡ Some c.args.snapshot.now.stamp) is (open'.each store inside))
+    (subst (λ s. stamp_of c.in-Some.id (past_of s run) ≡ Some c.args.snapshot.now.stamp) c.store_of-store.ensures.value
+    found.1)
+
+pub returns-clause-ok : goal.returns-clause-ok
+returns-clause-ok c = λ layout run h.
+    let store : ℕ = store_of c.args.self.now.division c.args.key.now in
+    let found = c.in-Some.ensures layout run h in
+    let at : IsOpenAt c.args.snapshot.now run store =
+    subst (IsOpenAt c.args.snapshot.now run) c.store_of-store.ensures.value (c.in-Some.id, found) in
+    read-ok c.read.result (stamp_of c.in-Some.id (past_of store run)) c.args.snapshot.now.stamp
+    (λ stamp value. option_copied value ≡ answer (writes (past_of store run)) c.args.key.now stamp)
+    (IsOpenAt c.args.snapshot.now run store)
+    (subst (λ s. stamp_of c.in-Some.id (past_of s run) ≡ Some c.args.snapshot.now.stamp) c.store_of-store.ensures.value
+    found.1) (c.read.ensures.represents layout run h) at
+
+pub returns-clause-err : goal.returns-clause-err
+returns-clause-err c = λ layout run h.
+    let store : ℕ = store_of c.args.self.now.division c.args.key.now in
+    let found = c.in-Some.ensures layout run h in
+    read-err c.read.result (stamp_of c.in-Some.id (past_of store run)) c.args.snapshot.now.stamp
+    (λ stamp value. option_copied value ≡ answer (writes (past_of store run)) c.args.key.now stamp)
+    (IsOpenAt c.args.snapshot.now run store → ⊥)
+    (subst (λ s. stamp_of c.in-Some.id (past_of s run) ≡ Some c.args.snapshot.now.stamp) c.store_of-store.ensures.value
+    found.1) (c.read.ensures.represents layout run h)

@@ -21,8 +21,8 @@ returns-clause-represents c = λ layout run h.
           c.vacuum_to.new.self _ h' at c.vacuum_to.ensures.nodes
           (subst (λ r. VacuumsTo c.in-Some.core.now c.vacuum_to.new.self c.args.at (past_of c.args.store run) r)
           w.in-Ok.is vacuums))
-      | in-Err w ↦ rw w.result-is (not-vacuumed layout view view run c.args.store c.args.at c.in-Some.core.now
-          c.vacuum_to.new.self _ h' at
+      | in-Err w ↦ rw (w.result-is, ← c.self.view_is) (not-vacuumed layout view view run c.args.store c.args.at
+          c.in-Some.core.now c.vacuum_to.new.self _ h' at
           (subst (λ r. VacuumsTo c.in-Some.core.now c.vacuum_to.new.self c.args.at (past_of c.args.store run) r)
           w.in-Err.is vacuums))
     ]
