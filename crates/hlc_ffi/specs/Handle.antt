@@ -33,6 +33,11 @@ abbrev pub OnReaderPast : Loan → Type 0 → (StoreView → List Step → Type 
 OnReaderPast kept Closed Open =
     OnReader kept Closed (λ core. (past : List Step) → Represents core past → Open core past)
 
+-- the same, with the lifetime for which the store is lent
+abbrev pub OnLoanPast : Loan → Type 0 → (ℕ → List Step → Type 0) → Type 0
+OnLoanPast kept Closed Open =
+    MatchOption kept Closed (λ lent. (past : List Step) → Represents lent.1 past → Open lent.0 past)
+
 -- an item was accepted, or refused
 abbrev pub IsAccepting : Option StoreView → Option StoreView → Item → ℕ → ℕ → Type 0
 IsAccepting old new item code word =

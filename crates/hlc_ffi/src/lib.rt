@@ -18,7 +18,7 @@ pub mod texts;
 pub mod vacuum;
 
 use hlc_handle::Slot;
-pub use hlc_handle::{Output, Reader, Restoring, Saving, Store};
+pub use hlc_handle::{LentBytes, Output, Reader, Restoring, Saving, Store};
 use hlc_handle_calls::opening::open;
 use std::alloc::Global;
 

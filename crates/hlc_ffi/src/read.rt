@@ -7,17 +7,20 @@ ghost use Rattle.hlc_calls.specs.Answers.{ReturnsSizes, narrowed};
 ghost use Rattle.hlc_calls.specs.ReadAll.{ReturnsAll};
 ghost use Rattle.hlc_range_calls.specs.Listing.{ReturnsListing};
 ghost use Rattle.hlc_calls.specs.Digest.{ReturnsDigest};
+ghost use Rattle.hlc_handle_calls.specs.Views.{IsNowhere, ReturnsView};
 ghost use Rattle.hlc_range_calls.specs.Scan.{ReturnsScan, ReturnsScanBack, ReturnsCount};
 ghost use Rattle.hlc_range_calls.specs.Changes.{ReturnsChanges};
 ghost use Rattle.hlc_range_calls.specs.Versions.{ReturnsVersions};
-ghost use Rattle.hlc_ffi.specs.Handle.{OnStorePast, nodes_in_handle, OnReader, OnReaderPast, ListsNothing, IsGivenBack};
+ghost use Rattle.hlc_ffi.specs.Handle.{OnStorePast, nodes_in_handle, OnReader, OnReaderPast, OnLoanPast, ListsNothing};
+ghost use Rattle.hlc_ffi.specs.Handle.{IsGivenBack};
 
 use crate::handle::{of_core, on_core};
 use hlc_calls::digest::digest;
 use hlc_calls::open_store;
 use hlc_calls::read_all::{Place, read_all};
 use hlc_core::{Core, Stamp};
-use hlc_handle::{Reader, Slot, Store};
+use hlc_handle::{LentBytes, Reader, Slot, Store};
+use hlc_handle_calls::views::view;
 use hlc_range_calls::changes::changes;
 use hlc_range_calls::list::list;
 use hlc_range_calls::scan::{count, scan};
@@ -77,6 +80,32 @@ pub extern "C" fn hlc_snapshot_read(
 {
     *len = 0;
     of_core!(store, |core| open_store::read(core, id, key, out, len))
+}
+
+/// Reads a key as `hlc_snapshot_read` does, without a copy. Returns 0, the value's length, and where the value lies for
+/// as long as the store is lent; or 102 for none, or 10, with a null pointer. It takes no memory.
+#[unsafe(no_mangle)]
+pub extern "C" fn hlc_snapshot_view(
+    store: &mut Reader,
+    id: u64,
+    key: &[u8],
+    value: &mut LentBytes,
+    len: &mut usize,
+) -> u32
+    ensures answer { OnLoanPast store.old.room.value ((result ≡ 100) × IsNowhere len.new value.new)
+        (λ loan past. ReturnsView (stamp_of id past) (writes past) key.now loan result len.new value.new) }
+    ensures same { IsGivenBack store.old.room store.new.room }
+{
+    *len = 0;
+    *value = LentBytes::none();
+    match store.take() {
+        None => 100,
+        Some(lent) => {
+            let code = view(&lent, id, key, value, len);
+            store.put(lent);
+            code
+        }
+    }
 }
 
 /// Closes a snapshot. Returns 0 and its stamp, or 10. It takes no memory.

@@ -5,4 +5,5 @@ pub mod Rooms
 pub mod Values
 mod Crossing
 mod Handles
+mod LentWords
 mod Slots

@@ -1,12 +1,14 @@
 -- What one who reads a value beside others owns: a part of the token of a lifetime, and the value shared for that
 -- lifetime. While a part is out, the lifetime does not end, so the value is not changed. The lifetime is named, so that
 -- the part that comes back is the one that was lent.
-use Rattle.std.specs.Prelude.{ℕ, [], ◌∷◌, Option, Some, None}
-use base.Fml.{Lft, Fml, ftrue, fsep, flft}
+use Rattle.std.specs.Prelude.{ℕ, List, [], ◌∷◌, Option, Some, None}
+use base.Fml.{Lft, Fml, ftrue, fsep, flft, fhide}
 use types.RcWeak.{part}
 use denote.RattleType.{RattleType}
-use denote.RawPtr.{Ptr}
+use denote.Builtin.{u8}
+use denote.RawPtr.{Ptr, in_block, block_of, count_of}
 use denote.Sharing.{beside, one, held}
+use denote.Slice.{elements_shared}
 use denote.Struct.Lending.{lent_at}
 
 -- a lifetime, and the value that is shared for it
@@ -24,3 +26,10 @@ lent_shares R at loan = beside (one (λ q. flft (loan.0 ∷ []) q)) (held (loan.
 abbrev pub lent_room_owns : (R : RattleType) → Ptr → Option (Loan R) → Fml
 lent_room_owns R at (Some loan) = lent_owns R at loan
 lent_room_owns R at None = ftrue
+
+-- what a `&` to bytes there has, for the lifetime for which they are lent: that they may be read, and are these; or
+-- nothing. It may be had any number of times.
+abbrev pub lent_bytes : Ptr → Option (ℕ × List ℕ) → Fml
+lent_bytes at (Some lent) =
+    fsep (in_block at ftrue) (fhide (elements_shared u8 lent.1 (block_of at) (count_of at) (lent.0 ∷ [])))
+lent_bytes at None = ftrue

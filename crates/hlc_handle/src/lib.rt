@@ -3,6 +3,7 @@
 //! the bytes that a call made.
 #![tactic(auto)]
 
+mod found;
 mod loose;
 mod output;
 mod reader;
@@ -12,6 +13,7 @@ mod sends;
 mod slot;
 mod store;
 
+pub use found::{LentBytes, find_lent};
 pub use output::Output;
 pub use reader::{LentCore, LentRoom, Reader};
 pub use restoring::Restoring;

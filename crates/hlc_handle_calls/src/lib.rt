@@ -5,3 +5,4 @@ pub mod opening;
 pub mod outputs;
 pub mod restorings;
 pub mod savings;
+pub mod views;

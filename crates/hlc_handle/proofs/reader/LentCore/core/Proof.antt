@@ -1,13 +1,11 @@
 -- `core` shows what every reader sees. Assumes `Logic`.
-use Rattle.std.proofs.Common.{◌≡◌, ℕ, ◌+◌, List, [], ◌∷◌, ◌++◌, refl, sym, subst}
+use Rattle.std.proofs.Common.{◌≡◌, ◌+◌, List, [], ◌∷◌, ◌++◌, refl, sym, subst}
 use mir.Val.{Val, vptr}
-use base.Logic.{SProp, ent, sep, emp, id⊢}
-use base.Fml.{Fml, Lft, Share, ftrue, fhide, flft}
-use seplogic.Ra.Ura.{Ura}
+use base.Logic.{SProp, ent, emp, id⊢}
+use base.Fml.{Lft, Share, ftrue, fhide, flft}
 use prog.Wp.{WpFn}
-use types.Logic.{Logic, sem}
 use types.Kit.{‵, raw, ◌⊛◌, at_ret, ◌$◌, ◌∵◌, !, qed, by, move, keep, split, join, fsplit, fjoin, feq_i}
-use types.Kit.{feq_l, suffices, use0, use1, done}
+use types.Kit.{feq_l, suffices, use0, use1}
 use types.Run.{stop, hop, fld, addr, of_opd, first, blocks, exec, returns, enter}
 use types.ByLocal.{alloc_all, pass_all, free_all, look_at, get, through, sets, sets_last, env}
 use types.Part.{look_in, whole}
@@ -16,13 +14,11 @@ use contract.Running.{tables}
 use denote.Builtin.{RefOf}
 use denote.Exit.{yes}
 use denote.Memory.{hidden_shr}
-use denote.Opens.{shr_dup, unhide, hide}
-use denote.RattleType.{RattleType, RowLaws, owns}
-use denote.RawPtr.{RawPtr, InBlock, block_of, count_of, ptr_row_laws}
+use denote.Opens.{unhide, hide}
+use denote.RattleType.{owns}
+use denote.RawPtr.{InBlock, block_of, count_of}
 use denote.Signature.{types_at, plain}
 use denote.Steps.{nothing, heard}
-use denote.Struct.Struct.{Struct, Struct-row_laws}
-use denote.Struct.Owning.{shape}
 use denote.Struct.Lending.{lent_at, lent_at_shr_laws, in_block_says}
 use denote.Triple.Walked.{Stays, stay_dropped, walk_of, Goes-dropped}
 use Rattle.core.proofs.alloc.Shapes.{after}
@@ -33,26 +29,11 @@ use Rattle.hlc_core.proofs.store.Core.TheLaws as core_laws
 use Rattle.hlc_handle.specs.Lent.{lent_shares}
 use Rattle.hlc_handle.specs.contracts.reader.LentCore as lent
 use Rattle.hlc_handle.proofs.Lending.{sees}
+use Rattle.hlc_handle.proofs.LentWords.{Words, shows}
 use Rattle.hlc_handle.specs.contracts.reader.LentCore.core.{ended, clauses}
 use Rattle.hlc_handle.specs.contracts.reader.LentCore.core.Key.{name as #self}
 use Rattle.hlc_handle.proofs.reader.LentCore.core.Statement.{statement}
 use Rattle.hlc_handle.proofs.reader.LentCore.core.Code as code
-
-abbrev Words : RattleType
-Words = Struct (shape lent.the_type)
-
-words_laws : RowLaws Words
-words_laws = Struct-row_laws (shape lent.the_type) (ptr_row_laws, tt)
-
-module _ {M : Type 1} {𝓤 : Ura M} (𝓛 : Logic 𝓤) (κ : Lft) (b o : ℕ) (d : (lent.the_row).Denot) where
-  abbrev S : Fml
-  S = hidden_shr Words κ (d.at, tt) b o
-
-  shows : ent 𝓤 (sem 𝓛 S) (sep 𝓤 (sem 𝓛 (hidden_shr RawPtr κ d.at b (o + 0))) (sem 𝓛 S))
-  shows =
-      qed 𝓛 (‵ S ∷ []) ∵
-      shr_dup ! Words words_laws (d.at, tt) b o κ $ unhide ! $ fsplit ! $ fsplit ! $ hide ! $
-      keep ! (0 ∷ 3 ∷ []) $ done !
 
 pub core_spec : {M : Type 1} → statement M
 core_spec 𝓤 𝓛 𝓜 𝓡 wired =
