@@ -10,7 +10,10 @@
 #define BATCH 1000
 #define ITEM 64
 
-static double least[14];
+#define KINDS 18
+#define LONG 4096
+
+static double least[KINDS];
 static hlc_store store = HLC_CLOSED_STORE;
 
 static double now(void)
@@ -137,12 +140,46 @@ static void take_many(uint64_t id, int read, int scan)
     take(scan, t, KEYS);
 }
 
+/* Measures reads of a key of one version, copied and in place, with a sum of the first and last bytes of each. */
+static void take_reads(int copied, int in_place, size_t value_len)
+{
+    static uint8_t value[LONG], out[LONG];
+    const uint8_t *at;
+    uint64_t id, word, sum = 0, again = 0;
+    uint8_t key[8];
+    size_t len;
+    must(hlc_store_open(&store, 1));
+    for (int i = 0; i < KEYS; i++) {
+        key_of(key, i);
+        value[0] = (uint8_t)i;
+        must(hlc_store_accept_write(&store, 0, i, (uint64_t)(i + 1) << 16, key, 8, value, value_len, &word));
+    }
+    must(hlc_snapshot_open_at_floor(&store, &id, &word));
+    double t = now();
+    for (int i = 0; i < WRITES; i++) {
+        key_of(key, i * 7 % KEYS);
+        must(hlc_snapshot_read(&store, id, key, 8, out, sizeof out, &len));
+        sum += out[0] + out[len - 1];
+    }
+    take(copied, t, WRITES);
+    t = now();
+    for (int i = 0; i < WRITES; i++) {
+        key_of(key, i * 7 % KEYS);
+        must(hlc_snapshot_view(&store, id, key, 8, &at, &len));
+        again += at[0] + at[len - 1];
+    }
+    take(in_place, t, WRITES);
+    if (sum != again) exit(1);
+    hlc_store_close(&store);
+}
+
 int main(void)
 {
     static const char *names[] = { "accept of a write", "the same, by 1000", "rows", "floor", "a refused write",
                                    "read, 100 versions", "node's write", "accept from a log, by 1000",
                                    "read, by 1000", "scan, a key", "a write, issued and accepted",
-                                   "a batch of 1", "a batch of 10, a key", "a batch of 100, a key" };
+                                   "a batch of 1", "a batch of 10, a key", "a batch of 100, a key",
+                                   "read, 8 bytes", "the same in place", "read, 4096 bytes", "the same in place" };
     uint64_t word, id, at, number;
     uint8_t key[8], out[64];
     size_t len;
@@ -152,6 +189,8 @@ int main(void)
         take_issued(11, 1);
         take_issued(12, 10);
         take_issued(13, 100);
+        take_reads(14, 15, 8);
+        take_reads(16, 17, LONG);
         take_logs(7);
         must(hlc_store_open(&store, 1));
         double t = now();
@@ -187,5 +226,5 @@ int main(void)
         for (int i = 0; i < WRITES; i++) must(hlc_node_write(&node, i, key, 8, key, 8, &number, &word));
         take(6, t, WRITES);
     }
-    for (int kind = 0; kind < 14; kind++) printf("C: %s %.1f\n", names[kind], least[kind]);
+    for (int kind = 0; kind < KINDS; kind++) printf("C: %s %.1f\n", names[kind], least[kind]);
 }

@@ -19,7 +19,8 @@
  *
  * Ownership. A store owns its memory until hlc_store_close, an output until hlc_output_drop, and a restore or a saving
  * until it ends; a program that forgets one leaks its memory. A node is a plain value without memory: it may be copied,
- * and two copies are independent. Keys, values and buffers stay the caller's and are not used after the call.
+ * and two copies are independent. Keys, values and buffers stay the caller's and are not used after the call. The bytes
+ * that hlc_snapshot_view finds stay the store's.
  *
  * What the caller must ensure, and nothing checks:
  *   - a store is HLC_CLOSED_STORE at first, a restore HLC_NO_RESTORING, a saving HLC_NO_SAVING, an output
@@ -62,7 +63,7 @@
  *   hlc_snapshot_open                           8 9 11 14 15                          yes     other stores
  *   hlc_snapshot_open_at_floor                  11 14 15                              yes     other stores
  *   hlc_snapshot_close, hlc_snapshot_close_all  10; none                                      other stores
- *   hlc_snapshot_read                           10 102                                        reads
+ *   hlc_snapshot_read, hlc_snapshot_view        10 102                                        reads
  *   hlc_snapshot_read_all                       10 103 104                                    reads
  *   hlc_snapshot_list                           10                                            reads
  *   hlc_snapshot_scan                           10 104                                        reads
@@ -180,7 +181,7 @@ typedef enum hlc_answer {
     HLC_CLOSED = 100,           /* the store is closed, or another thread makes a call with it, against the rules */
     HLC_IS_OPEN = 101,          /* of hlc_store_open, hlc_store_restore, hlc_restoring_finish: the store is open, and is
                                    unchanged */
-    HLC_NO_VALUE = 102,         /* of hlc_snapshot_read: the key has no value in the snapshot */
+    HLC_NO_VALUE = 102,         /* of hlc_snapshot_read, _view: the key has no value in the snapshot */
     HLC_OUTSIDE = 103,          /* of hlc_store_accept_all, hlc_snapshot_read_all: a key or a value lies outside the
                                    bytes */
     HLC_MORE = 104,             /* of hlc_snapshot_scan, _scan_keys, _scan_back, hlc_snapshot_changes,
@@ -363,6 +364,14 @@ hlc_answer hlc_snapshot_close_all(hlc_store *store) HLC_CHECKED(1);
  * its rows. */
 hlc_answer hlc_snapshot_read(hlc_store *store, uint64_t id, const uint8_t *key, size_t key_len, uint8_t *out,
                              size_t out_len, size_t *len) HLC_CHECKED(1, 7);
+
+/* Reads a key as hlc_snapshot_read does, with the same answers, but without a copy. value: where the value lies in the
+ * store's memory, or NULL with another answer than HLC_OK; len: how many bytes it has. They stay there, and stay the
+ * same, until the next call with the store beside which reads may not run, even if that is refused; the close of the
+ * snapshot is one. So where threads share the store, they are read under the lock of a reader. They are never written.
+ * Refusals: 10, 102. No memory. Looks the key up and searches its rows. */
+hlc_answer hlc_snapshot_view(hlc_store *store, uint64_t id, const uint8_t *key, size_t key_len, const uint8_t **value,
+                             size_t *len) HLC_CHECKED(1, 5, 6);
 
 /* The place of a key: this many bytes from `at` on. */
 typedef struct {

@@ -15,7 +15,7 @@ from raw_calls import PLACE, Handle, Library
 ROUNDS = 300
 OK, NOT_NEXT, ABOVE_FLOOR, BELOW_HORIZON, NO_SNAPSHOT, NO_MEMORY = 0, 6, 8, 9, 10, 15
 MORE, BAD_BYTES, NO_CHECKPOINT, HAS_BYTES, NOT_FEWEST = 104, 106, 107, 108, 109
-CLOSED, AFTER_LAST, NOT_UNDER_WAY, IS_UNDER_WAY = 100, 117, 118, 119
+CLOSED, NO_VALUE, AFTER_LAST, NOT_UNDER_WAY, IS_UNDER_WAY = 100, 102, 117, 118, 119
 NO_INCREMENT, NOT_LATER, CHANGED = 110, 111, 112
 TOP = 2**64 - 1
 
@@ -405,6 +405,10 @@ def look(pick, store, id, pairs, keys):
             data += key
         answers = [answer(dict(pairs).get(key)) for key in asked]
         assert library.call("snapshot_read_all", store, id, places, data, room) == expected(answers, room)
+        for key in asked:
+            code, length, value = library.call("snapshot_view", store, id, key)
+            assert (code, value) == ((OK, dict(pairs)[key]) if key in dict(pairs) else (NO_VALUE, None))
+            assert (code, length, value) == library.call("snapshot_read", store, id, key, 99)[:2] + (value,)
 
 
 def look_at_changes(pick, store, answers):

@@ -191,6 +191,8 @@ def count_reads(calls, store):
                 calls.count(OK, "snapshot_count", store, id, start, end)
             calls.count(OK, "snapshot_read", store, id, KEY % 1, room)
             calls.count(102, "snapshot_read", store, id, ABSENT, room)
+            calls.count(OK, "snapshot_view", store, id, KEY % 1)
+            calls.count(102, "snapshot_view", store, id, ABSENT)
             calls.count(OK if room == PLENTY else MORE, "snapshot_read_all", store, id, places, texts, room)
         calls.count(103, "snapshot_read_all", store, id, PLACE.pack(len(texts), 1), texts, PLENTY)
         calls.count(OK, "snapshot_at_place", store, id - 1)
@@ -198,7 +200,8 @@ def count_reads(calls, store):
     words = {"snapshot_list": whole[2:], "snapshot_count": whole[:2], "snapshot_digest": whole}
     words |= {"snapshot_scan": whole, "snapshot_scan_keys": whole, "snapshot_scan_back": whole}
     words |= {"snapshot_changes": (1, *whole)}
-    words |= {"snapshot_read": (KEY % 1, PLENTY), "snapshot_read_all": (places, texts, PLENTY)}
+    words |= {"snapshot_read": (KEY % 1, PLENTY), "snapshot_view": (KEY % 1,)}
+    words |= {"snapshot_read_all": (places, texts, PLENTY)}
     for name, args in words.items():
         calls.count(10, name, store, 9, *args)
         calls.count(CLOSED, name, Handle(), 1, *args)

@@ -2,7 +2,8 @@
 
 `call(NAME, ..)` makes the call hlc_NAME. Its arguments are what the call reads: a number; a Handle or an RawNode; bytes
 for bytes with their length, also for packed entries and places; and for a buffer its room. It returns the answer, and
-then what the call wrote, in the order of the header: numbers; and of a buffer the length, and the bytes if they fit.
+then what the call wrote, in the order of the header: numbers; of a buffer the length, and the bytes if they fit; and of
+a place of bytes the length, and the bytes there, or None at NULL.
 Every call has words and buffers of its own. For one thread.
 
 `granted.value` is how many requests for memory are granted before one is refused, or below 0: see grant.c, with which
@@ -93,14 +94,28 @@ class Buffer:
         return [out, room, length], written
 
 
+class Lent:
+    """A place of bytes that a call writes, and their length."""
+
+    types = [c.POINTER(c.c_void_p), c.POINTER(c.c_size_t)]
+
+    def passed(self, taken):
+        at, length = c.c_void_p(1), c.c_size_t(1)
+        written = [lambda: length.value, lambda: at.value and c.string_at(at.value, length.value)]
+        return [at, length], written
+
+
 def parameters(text):
     """The parameters of a declaration."""
     found = []
-    parts = re.findall(r"(const )?(\w+) (\*?)(\w+)", text)
+    parts = re.findall(r"(const )?(\w+) (\*{0,2})(\w+)", text)
     while parts:
         const, type, pointer, _ = parts.pop(0)
         if not pointer:
             found.append(Number(type))
+        elif pointer == "**":
+            found.append(Lent())
+            del parts[0]
         elif type in STRUCTURES:
             found.append(Structure(type))
         elif const:

@@ -11,7 +11,9 @@ void use(hlcstore::store& store, hlcstore::shared_store& shared, hlcstore::range
   const hlcstore::snapshot snapshot = store.open_snapshot();
   for (const auto& change : snapshot.changes(snapshot)) static_cast<void>(change);
   shared.read([](const hlcstore::store& asked) { return asked.floor(); });
+  static_cast<void>(snapshot.view("a"));
   shared.open_snapshot().read([](const hlcstore::snapshot& open) { return open.get("a"); });
+  shared.open_snapshot().read([](const hlcstore::snapshot& open) { return open.view("a").has_value(); });
   for (const auto& pair : shared.open_snapshot()) static_cast<void>(pair);
   for (const auto& pair : ranges.open_snapshot()) static_cast<void>(pair);
 }
@@ -25,6 +27,8 @@ void misuse(hlcstore::store& store, hlcstore::shared_store& shared, hlcstore::ra
   shared.open_snapshot().read([](const hlcstore::snapshot& open) { return open.keys().begin(); });  // refused
   shared.open_snapshot().read([](const hlcstore::snapshot& open) { return open.range_back(); });    // refused
   shared.open_snapshot().read([](const hlcstore::snapshot& open) { return open.changes(open); });   // refused
+  shared.open_snapshot().read([](const hlcstore::snapshot& open) { return open.view("a"); });       // refused
+  static_cast<void>(store.open_snapshot().view("a"));                                               // refused
   for (const auto& pair : hlcstore::store(1).open_snapshot()) static_cast<void>(pair);              // refused
   static_cast<void>(store.open_snapshot().begin());                                                 // refused
   for (const auto& pair : shared.open_snapshot().range("a")) static_cast<void>(pair);               // refused

@@ -170,6 +170,33 @@ void reads() {
   EXPECT(snapshot.get_all({}).empty());
 }
 
+// A value where it lies is the copy that `get` makes, of each length, and stays there while nothing changes the store.
+void values_in_place() {
+  store taken(1);
+  node from(0);
+  const std::map<string, string> pairs = {
+      {"a", ""}, {"b", "x"}, {"c", string(30, 'c')}, {"d", string(31, '\0')}, {"e", string(65535, 'e')}};
+  for (const auto& [key, value] : pairs) write(taken, from, 1, key, value);
+  write(taken, from, 2, "f", "gone");
+  taken.accept_erase(from.erase(3, "f"), "f");
+  hlcstore::snapshot snapshot = taken.open_snapshot();
+  std::map<string, string_view> seen;
+  for (const auto& [key, value] : pairs) seen[key] = *snapshot.view(key);
+  const store moved = std::move(taken);
+  for (const auto& [key, value] : pairs) {
+    EXPECT(seen[key] == value && seen[key] == snapshot.get(key));
+    EXPECT(seen[key].data() == snapshot.view(key)->data());
+  }
+  EXPECT(!snapshot.view("f") && !snapshot.view("g") && !snapshot.view(""));
+  snapshot.close();
+  EXPECT(refusal_of([&] { snapshot.view("a"); }) == HLC_NO_SNAPSHOT);
+
+  hlcstore::shared_store shared{store(1)};
+  shared.accept_write(node(0).write(1, "a", "shared"), "a", "shared");
+  const auto length = [](const hlcstore::snapshot& open) { return open.view("a")->size(); };
+  EXPECT(shared.open_snapshot().read(length) == 6);
+}
+
 void ownership() {
   static_assert(!std::is_copy_constructible_v<store> && std::is_nothrow_move_constructible_v<store>);
   static_assert(!std::is_copy_assignable_v<store> && std::is_nothrow_move_assignable_v<store>);
@@ -936,6 +963,7 @@ int main() {
   versions();
   temporaries();
   reads();
+  values_in_place();
   ownership();
   reopened();
   restores_that_fail();

@@ -66,6 +66,7 @@ template <class Call, class... Arguments>
 auto call_locked(Call& call, Arguments&&... arguments) {
   using result = std::decay_t<std::invoke_result_t<Call&, Arguments...>>;
   static_assert(!makes_calls<result>, "a snapshot, a range or an iterator must not leave the lock");
+  static_assert(!std::is_same_v<result, std::optional<std::string_view>>, "a view of a value must not leave the lock");
   return std::invoke(call, std::forward<Arguments>(arguments)...);
 }
 
@@ -93,7 +94,8 @@ class shared_snapshot {
   }
   ~shared_snapshot() { close(); }
 
-  // Passes the snapshot to a function, beside other readers. What it returns must be no range or iterator.
+  // Passes the snapshot to a function, beside other readers. What it returns must be no range or iterator, and no view
+  // of a value.
   template <class Call>
   auto read(Call call) const {
     if (!guarded_) throw error(HLC_NO_SNAPSHOT);

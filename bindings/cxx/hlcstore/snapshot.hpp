@@ -267,6 +267,20 @@ class snapshot {
     return value;
   }
 
+  // The value of a key where it lies in the store, without a copy; or none. The view is good until the next call that
+  // changes the store, even if that is refused, and the close of the snapshot is one. Of a shared store it is good in
+  // the function that gets the snapshot from shared_snapshot::read, and no longer.
+  std::optional<std::string_view> view(std::string_view key) const& {
+    hlc_store mine = view_.copy();
+    const std::uint8_t* at;
+    std::size_t len;
+    const std::uint32_t code = hlc_snapshot_view(&mine, id(), detail::bytes(key), key.size(), &at, &len);
+    if (code == HLC_NO_VALUE) return std::nullopt;
+    detail::check(code);
+    return std::string_view(reinterpret_cast<const char*>(at), len);
+  }
+  std::optional<std::string_view> view(std::string_view key) && = delete;
+
   // Reads these keys in turn.
   std::vector<std::optional<std::string>> get_all(const std::vector<std::string_view>& keys) const {
     std::vector<hlc_place> places;

@@ -209,6 +209,14 @@ unsafe extern "C" {
         out_len: usize,
         len: *mut usize,
     ) -> u32;
+    pub fn hlc_snapshot_view(
+        store: *mut hlc_store,
+        id: u64,
+        key: *const u8,
+        key_len: usize,
+        value: *mut *const u8,
+        len: *mut usize,
+    ) -> u32;
     pub fn hlc_snapshot_read_all(
         store: *mut hlc_store,
         id: u64,
