@@ -35,11 +35,12 @@ import sight
 from clock import reading
 from etcd import Etcd, delete, put, unchanged
 from hlcstore import Node, join_record, threshold_record
+from machine import JOIN, LOST, NODE
 from members import Members
 
-JOIN, LOST = b"ask/join/", b"ask/lost/"
 PERIOD = 0.03  # seconds from one report to the next
 UPKEEP = 2.0  # seconds from one threshold, and one cut, to the next
+LEFT = 10.0  # seconds for which a decision to retire is left to the writer that made it
 GRACE = 1.0  # seconds for answers that are under way when it ends
 NUMBER = log.COORDINATOR
 NEW = {"next": 0, "last": 0, "nodes": 1, "plans": 0, "threshold": 0}
@@ -61,9 +62,10 @@ class Coordinator(serve.Answerer):
         self.members, self.sight = Members(members), sight.Sight(self.links)
         self.offset, self.appended, self.cut = 0, time.monotonic(), 0
         self.done = set()  # ranges whose logs were cut as a whole
+        self.decisions = {}  # of other nodes, to retire: when each was seen first
         self.lock = log.Link(self.etcd, NUMBER, b"coordinator/")  # for what is of no range
         self.lock.claim({})
-        self.machine = machine.Machine(NUMBER, self.etcd, self.connect)
+        self.machine = machine.Machine(NUMBER, self.etcd, self.connect, at_home=[self.lock.is_mine()])
         self.take_over()
         self.report("node", NUMBER)
         self.retires = False
@@ -78,7 +80,7 @@ class Coordinator(serve.Answerer):
         try:
             while not self.machine.take_over(NEW):
                 reshape.finish(self)
-            if self.etcd.get(self.machine.retires_key()):
+            if self.etcd.get(machine.retires_key(NUMBER)):
                 self.machine.retire(self.machine.decide_to_retire(0))
                 raise log.Retired
             reshape.make_links(self)
@@ -138,12 +140,12 @@ class Coordinator(serve.Answerer):
 
     def let_join(self, name):
         """Puts a join into each log, and makes the link of the new node. The name belongs to the node from then on."""
-        found = self.etcd.get(b"node/" + name)
+        found = self.etcd.get(NODE + name)
         if self.machine.is_simple():
             if found:
                 self.etcd.transact([self.link.is_mine()], [delete(JOIN + name)])
             elif self.can_join(name, self.head["nodes"]):
-                also = [put(b"node/" + name, log.to_json(self.head["nodes"])), delete(JOIN + name)]
+                also = [put(NODE + name, log.to_json(self.head["nodes"])), delete(JOIN + name)]
                 self.let_join_in(self.first, name, self.head["nodes"], also)
                 self.counters.add("joins")
             return
@@ -154,7 +156,7 @@ class Coordinator(serve.Answerer):
                 return  # another join is under way, whose name comes first
             request = self.etcd.get(JOIN + name)
             still = unchanged(JOIN + name, request.revision if request else 0)
-            if not self.decide([put(b"node/" + name, log.to_json(number))], [still]):
+            if not self.decide([put(NODE + name, log.to_json(number))], [still]):
                 return  # nobody asks any more
             self.counters.add("joins")
         for part in self.machine.parts.values():
@@ -195,40 +197,61 @@ class Coordinator(serve.Answerer):
         """
         request, simple = LOST + name, self.machine.is_simple()
         mine = [self.link.is_mine() if simple else self.lock.is_mine()]
-        found = self.etcd.get(b"node/" + name)
+        found = self.etcd.get(NODE + name)
         if not found:
             self.etcd.transact(mine, [delete(request)])
             return
         number = json.loads(found.value)
-        also = [delete(request), delete(b"node/" + name)]
+        retire = self.retire_in_one if simple else self.retire_in_all
         try:
-            if simple:
-                self.retire_in_one(number, mine, also)
-            else:
-                self.retire_in_all(number, mine, also)
-            self.counters.add("lost")
-            logs.warning("retires the node of a lost writer", node=number, name=name.decode(errors="replace"))
+            if retire(number, name, mine):
+                self.counters.add("lost")
+                logs.warning("retires the node of a lost writer", node=number, name=name.decode(errors="replace"))
         except log.Retired:  # the writer has retired it just now
             self.etcd.transact(mine, [delete(request)])
         except log.Fenced:  # the writer has come back just now; the request stays, for the next round
             pass
 
-    def retire_in_one(self, number, mine, also):
+    def retire_in_one(self, number, name, mine):
         link = log.Link(self.etcd, number, self.first.range.prefix)
         first = ranges.state_of(self.machine.connect, self.machine.map, self.first.range, number)
         state = link.claim(first, mine)
         node = Node.restore(number, state["last"], state["next"])
         item = bytes(node.retire(reading(node)))
         state |= {"next": node.next, "last": node.last, "retired": True}
+        also = machine.given_back(number, name)
         link.append(log.batch_key(number, node.next - 1, link.prefix), item, state, also, mine)
+        return True
 
-    def retire_in_all(self, number, mine, also):
-        lost = machine.Machine(number, self.etcd, self.connect, self.is_mine_in)
+    def retire_in_all(self, number, name, mine):
+        """Retires a node in each range, or does what is left of that. Returns whether it could: not while it joins."""
+        lost = machine.Machine(number, self.etcd, self.connect, self.is_mine_in, mine)
         with contextlib.suppress(log.Retired):  # in all ranges, and its name was not given back
             if not lost.take_over():
-                return
-            lost.retire(lost.decide_to_retire(reading(lost.first().node), mine))
-        self.decide([*also, delete(lost.retires_key())])
+                return False
+            lost.retire(lost.decide_to_retire(reading(lost.first().node)))
+        self.decide(machine.given_back(number, name))
+        return True
+
+    def finish_retirements(self):
+        """Does what is left of decisions to retire whose writers were killed: until then no ranges can be merged.
+
+        Where a node has retired in all ranges, nothing can be appended for it, and nobody needs the decision. Else its
+        writer, or the next process of its name, has some seconds to do it. Nothing is lost by doing it here: who has
+        decided to retire writes nothing more.
+        """
+        now, names = time.monotonic(), {}
+        for pair in self.etcd.list(NODE):
+            names[json.loads(pair.value)] = pair.key.removeprefix(NODE)
+        numbers = [int(pair.key.removeprefix(machine.RETIRES), 16) for pair in self.etcd.list(machine.RETIRES)]
+        self.decisions = {number: self.decisions.get(number, now) for number in numbers if number != NUMBER}
+        for number, since in self.decisions.items():
+            if now - since > LEFT or machine.Machine(number, self.etcd, self.connect).has_retired():
+                try:
+                    if self.retire_in_all(number, names.get(number), [self.lock.is_mine()]):
+                        logs.warning("did the rest for a node that retires", node=number)
+                except log.Fenced:  # its writer is at it
+                    pass
 
     def is_mine_in(self, found):
         """The conditions that no other coordinator has taken over in a range."""
@@ -268,6 +291,7 @@ class Coordinator(serve.Answerer):
             self.answer()
             if time.monotonic() - kept_up >= UPKEEP:
                 self.keep_up()
+                self.finish_retirements()
                 kept_up = time.monotonic()
             time.sleep(PERIOD)
         if self.retires:
@@ -278,7 +302,7 @@ class Coordinator(serve.Answerer):
         if self.machine.is_simple():
             self.append_item(self.node.retire)
         else:
-            self.machine.retire(self.machine.decide_to_retire(reading(self.node, self.offset), [self.lock.is_mine()]))
+            self.machine.retire(self.machine.decide_to_retire(reading(self.node, self.offset)))
 
     def command(self, words):
         """Carries a line of standard input out, and returns whether it knows it."""

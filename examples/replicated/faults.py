@@ -8,6 +8,7 @@ import time
 
 from cluster import MEMBERS
 from etcd import Etcd, put
+from machine import LOST, NODE, retires_key
 
 HOUR = 3_600_000  # milliseconds
 LEAST_WRITERS, MOST_WRITERS = 2, 5
@@ -27,7 +28,7 @@ class Faults:
         self.faults += [self.kill_replica] * 3 + [self.damage_replica, self.empty_replica, self.kill_all]
         self.faults += [self.fail_power] * 2
         self.faults += [self.kill_writer] * 2 + [self.replace_writer, self.set_clock, self.set_clock]
-        self.faults += [self.add_writer, self.retire_writer, self.lose_writer]
+        self.faults += [self.add_writer, self.retire_writer, self.lose_writer, self.kill_retiring]
 
     def after(self, least, most, call, *words):
         when = time.monotonic() + self.chance.uniform(least, most)
@@ -225,8 +226,28 @@ class Faults:
         if name is None or len(self.programs.writers) <= LEAST_WRITERS:
             return None
         self.programs.kill_writer(name)
-        Etcd(self.programs.cluster.addresses).transact([], [put(b"ask/lost/" + name.encode(), b"")])
+        self.ask_to_retire(name)
         return f"writer {name} is lost"
+
+    def ask_to_retire(self, name):
+        Etcd(self.programs.cluster.addresses).transact([], [put(LOST + name.encode(), b"")])
+
+    def kill_retiring(self):
+        """A writer is killed while it retires. What it has decided is done by the coordinator; else it is lost."""
+        name = self.choose_writer()
+        if name is None or len(self.programs.writers) <= LEAST_WRITERS:
+            return None
+        writer = self.programs.writers[name]
+        writer.say("retire")
+        time.sleep(self.chance.uniform(0, 0.3))
+        self.programs.kill_writer(name)
+        etcd = Etcd(self.programs.cluster.addresses)
+        if etcd.get(retires_key(writer.numbers["node"])):
+            return f"writer {name} is killed while it retires"
+        if etcd.get(NODE + name.encode()):
+            self.ask_to_retire(name)
+            return f"writer {name} is lost before it retires"
+        return f"writer {name} retires, and is killed"
 
     def set_clock(self):
         """A writer's clock jumps by an hour, and is right again after a while."""

@@ -159,6 +159,11 @@ class Link:
         """A condition for other transactions: no other process has taken the link over."""
         return unchanged(self.key, self.revision)
 
+    def is_held(self):
+        """Returns whether no other process has taken the link over."""
+        head = self.etcd.get(self.key)
+        return head is not None and head.revision == self.revision
+
     def is_open(self):
         """A condition for other transactions: the log is not sealed."""
         return unchanged(self.seal, 0)

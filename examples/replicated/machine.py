@@ -2,6 +2,13 @@
 
 Whatever ranges its items are for, its stamps rise. Where the log of a range ends, it goes on in those that the map has
 in its place.
+
+Keys in etcd, in the first cluster:
+
+    node/NAME         the number of the node that has this name
+    owner/link/NODE   which process has the node: a lock, with the form of the head of a link
+    retires/NODE      the head that all links of the node get with its last item, from the decision that it retires on
+                      until it has in all ranges
 """
 
 import contextlib
@@ -11,9 +18,11 @@ import time
 import hlcstore
 import log
 import ranges
-from etcd import put, unchanged
+from etcd import delete, put, unchanged
 from hlcstore import Node
 
+NODE, JOIN, LOST = b"node/", b"ask/join/", b"ask/lost/"  # what etcd has by the name of a writer
+RETIRES, OWNER = b"retires/", b"owner/"
 PAUSE = 0.01  # seconds from one look at the map to the next, where a range is on its way into it
 
 
@@ -36,12 +45,30 @@ class Part:
         self.append(log.batch_key(self.node.id, number, self.range.prefix), items, also, **changed)
 
 
+def retires_key(number):
+    """The key of the decision that a node retires. It is there until the node has in all ranges."""
+    return RETIRES + b"%04x" % number
+
+
+def given_back(number, name):
+    """Returns what changes when a node has retired in all ranges: its name is free, if it has one, and no process
+    decides anything for it any more."""
+    keys = [retires_key(number), *(kind + name for kind in (NODE, JOIN, LOST) if name)]
+    return [*map(delete, keys), put(log.link_key(number, OWNER), log.to_json({"owner": "", "retired": True}))]
+
+
 class Machine:
     """The node of a number. `connect(members)` returns a new connection to a cluster; none is the first one. Further
-    `conditions` of a range are those of all that is done to its link."""
+    `conditions` of a range are those of all that is done to its link, and those `at_home` of what is of no range.
 
-    def __init__(self, number, home, connect, conditions=lambda found: ()):
-        self.number, self.home, self.conditions = number, home, conditions
+    It has a lock in the first cluster, which it claims before it takes links over, and looks at afterwards: a link in
+    another cluster cannot have a condition here. So whoever has the lock then knows the ends of all links, and no other
+    process appends to one.
+    """
+
+    def __init__(self, number, home, connect, conditions=lambda found: (), at_home=()):
+        self.number, self.home, self.conditions, self.at_home = number, home, conditions, at_home
+        self.lock = log.Link(home, number, OWNER)
         self.new_connection, self.connections = connect, {(): home}
         self.map = ranges.Map()
         self.parts = {}  # of each live range in which the node has not retired
@@ -65,7 +92,10 @@ class Machine:
         A link is not there yet while the node joins; and a range whose log has ended is not in the map for long. Raises
         Retired where the node has in all ranges.
         """
+        if not self.lock.revision:
+            self.lock.claim({}, self.at_home)
         self.map.read(self.home)
+        before = set(self.parts)
         self.parts = {number: part for number, part in self.parts.items() if number in self.map.live}
         missing, retired = 0, None
         for found in self.map.all_live():
@@ -76,6 +106,8 @@ class Machine:
                     retired = failure
                 except log.Sealed:
                     missing += 1
+        if set(self.parts) - before and not self.lock.is_held():
+            raise log.Fenced(f"another process has node {self.number}")
         if retired and not missing and not self.parts:
             raise retired
         return not missing
@@ -86,7 +118,9 @@ class Machine:
         if state is None:
             return False
         link = log.Link(etcd, self.number, found.prefix)
-        self.parts[found.id] = Part(found, link, link.claim(state, self.conditions(found)), self.number)
+        with_lock = [] if found.members else [self.lock.is_mine()]
+        state = link.claim(state, [*self.conditions(found), *with_lock])
+        self.parts[found.id] = Part(found, link, state, self.number)
         self.last = max(self.last, self.parts[found.id].node.last)
         return True
 
@@ -100,23 +134,22 @@ class Machine:
 
     # ---- The end of a node in several ranges ----
 
-    def retires_key(self):
-        return b"retires/%04x" % self.number
-
-    def decide_to_retire(self, reading, conditions=()):
+    def decide_to_retire(self, reading):
         """Returns the head that all links of this node get with its last item, from a decision that is made once.
 
         So the links of nodes that retired are alike in all ranges, which can then be merged. One merge may be under way
-        while this is decided, and takes a number of its own. The next one waits until no decision is left.
+        while this is decided, and takes a number of its own. The next one waits until no decision is left. It is made
+        by the process that has the lock, so no link is beyond this head.
         """
-        key = self.retires_key()
+        key = retires_key(self.number)
         while True:
             if found := self.home.get(key):
                 return ranges.Head(*json.loads(found.value))
             heads = [ranges.head_of(part.state) for part in self.parts.values()]
             end = ranges.level(heads, 2, max(hlcstore.stamp(reading), self.last))
             words = log.to_json([end.next, end.last, True])
-            if not self.home.transact([unchanged(key, 0), *conditions], [put(key, words)]).get("succeeded"):
+            conditions = [unchanged(key, 0), self.lock.is_mine(), *self.at_home]
+            if not self.home.transact(conditions, [put(key, words)]).get("succeeded"):
                 if not self.home.get(key):
                     raise log.Fenced(f"node {self.number} cannot retire under these conditions")
 

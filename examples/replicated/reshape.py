@@ -19,6 +19,7 @@ import logs
 import ranges
 import settings
 from etcd import delete, put, unchanged
+from machine import RETIRES
 
 ASK = b"ask/"
 
@@ -88,7 +89,7 @@ def refuse_unlike(coordinator, numbers):
     counts = {part.state["nodes"] for part in parts}
     if len(counts) > 1:
         raise NotNow("a node is joining")
-    if coordinator.etcd.list(b"retires/"):
+    if coordinator.etcd.list(RETIRES):
         raise NotNow("a node is retiring")
     connect, known = coordinator.machine.connect, coordinator.machine.map
     for node in range(counts.pop()):

@@ -56,7 +56,7 @@ class Writer:
         self.number = self.find_node()
         self.machine = machine.Machine(self.number, self.etcd, self.connect)
         self.take_over()
-        if self.etcd.get(self.machine.retires_key()):
+        if self.etcd.get(machine.retires_key(self.number)):
             self.retires = True  # this was decided before, and is not done
         logs.info("has its node", node=self.number, next=self.items())
         self.report("node", self.number)
@@ -101,8 +101,8 @@ class Writer:
     def find_node(self):
         """Returns the node of this name. If there is none, the coordinator is asked to let one join."""
         name = self.name.encode()
-        while not (found := self.etcd.get(b"node/" + name)):
-            self.ask(b"ask/join/" + name)
+        while not (found := self.etcd.get(machine.NODE + name)):
+            self.ask(machine.JOIN + name)
             self.pause()
         return json.loads(found.value)
 
@@ -269,23 +269,28 @@ class Writer:
 
     def retire(self):
         """Appends the last item. With it the name is free again: the next writer of this name joins as another node."""
-        name = self.name.encode()
-        also = [delete(b"node/" + name), delete(b"ask/lost/" + name)]
         if self.machine.is_simple():
             try:
+                also = machine.given_back(self.number, self.name.encode())
                 return self.append(self.node.next, bytes(self.node.retire(self.reading())), also)
             except log.Sealed:
                 self.take_over()
-        self.machine.retire(self.machine.decide_to_retire(self.reading()))
+        end = self.machine.decide_to_retire(self.reading())
+        try:
+            self.machine.retire(end)
+        except log.Fenced as failure:  # whoever has the node now does what was decided
+            logs.info(f"another process does the rest: {failure}", node=self.number)
+            while not self.machine.has_retired():
+                self.pause()
         self.report("next", self.items())
         self.forget()
 
     def forget(self):
         """Gives the name back, of a node that retired in all ranges, unless that was done before."""
-        name, decided = self.name.encode(), self.machine.retires_key()
-        found = self.etcd.get(b"node/" + name)
-        if found and json.loads(found.value) == self.number and self.etcd.get(decided):
-            also = [delete(found.key), delete(b"ask/lost/" + name), delete(b"ask/join/" + name), delete(decided)]
+        name = self.name.encode()
+        found = self.etcd.get(machine.NODE + name)
+        if found and json.loads(found.value) == self.number:
+            also = machine.given_back(self.number, name)
             self.etcd.transact([unchanged(found.key, found.revision)], also)
 
     def command(self, words):
