@@ -124,11 +124,15 @@ class Programs:
         if self.power and file == "replica.py":
             inside = [*inside, *power.words_of(self.power, self.folder / name, self.shadow(name))]
         listen = [] if file == "writer.py" else ["--listen", f"{host}:0"]
-        if self.go and name == self.replica_names[-1]:
+        if self.go and self.is_go(name):
             command, members = [self.go], [",".join(self.cluster.addresses)]
         else:
             command, members = [sys.executable, "-B", HERE / file], self.cluster.addresses
         return Program(self.folder, name, command, *words, *listen, "--members", *members, inside=inside)
+
+    def is_go(self, name):
+        """Returns whether the program of this name is the replica in Go, where there is one."""
+        return name == self.replica_names[-1]
 
     def members(self):
         """Returns the names of the members of all clusters that run."""
