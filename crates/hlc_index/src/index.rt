@@ -1,5 +1,5 @@
 //! The map.
-ghost use Rattle.std.specs.Prelude.{◌≡◌, ◌≢◌, ◌-◌, ◌+◌, ◌<◌, ◌≤◌, ◌++◌, ◌↔◌, [], ℕ, None, Some, length, slice_get};
+ghost use Rattle.std.specs.Prelude.{◌≡◌, ◌≢◌, ◌-◌, ◌+◌, ◌<◌, ◌≤◌, ◌++◌, ◌↔◌, [], ℕ, IsTrue, None, Some, length, slice_get};
 ghost use Rattle.std.specs.Prelude.{slice_index_or, All};
 ghost use Rattle.std.specs.Prelude.{filter, OnOk, OnErr, IfOk, IfErr, option_copied};
 ghost use Rattle.std.specs.Map.{lookup};
@@ -135,6 +135,37 @@ impl<V: Drop> Index<V> {
             Ordering::Equal => Ok((count - 1, len - 1)),
             Ordering::Greater => self.locate(key),
         }
+    }
+
+    /// Returns the same. It compares the key with the one at a place first, and looks it up only if they differ: so
+    /// whoever guesses where a key is saves the search.
+    pub fn locate_near(
+        &self,
+        key: &[u8],
+        place: (usize, usize),
+    ) -> Result<(usize, usize), (usize, usize)>
+        ensures found { IfOk result (λ place. IsEntryAt self.now key.now place.0 place.1) }
+        ensures absent { IfErr result (λ _. lookup (is_key key.now) (entries_in self.now) ≡ None) }
+        ensures gap { IfErr result (λ place. IsGap self.now key.now place.0 place.1) }
+        ensures ascend { IsStrictlySortedBy key_cmp (keys_in (entries_in self.now)) }
+    {
+        if self.is_at(place.0, place.1, key) {
+            return Ok(place);
+        }
+        self.locate(key)
+    }
+
+    /// Returns whether a key is at a slot of a leaf.
+    fn is_at(&self, at: usize, slot: usize, key: &[u8]) -> bool
+        ensures is { IsTrue result → IsEntryAt self.now key.now at slot }
+        ensures ascend { IsStrictlySortedBy key_cmp (keys_in (entries_in self.now)) }
+    {
+        let _ = &self.leaves;
+        if at >= self.leaves.len() {
+            return false;
+        }
+        let leaf = self.leaves.leaf(at);
+        slot < leaf.len() && leaf.key(slot) == key
     }
 
     /// Returns the leaf and the slot of a key, or none. It needs no memory.

@@ -8,15 +8,15 @@ pub loop-first-init : goal.loop-first-init
 loop-first-init c =
     rw c.lend-rest.ensures (begin c.args.self.now c.args.node c.args.stamp c.args.writes c.requires.new c.requires.once)
 
-pub insert_copy-requires : goal.insert_copy-requires
-insert_copy-requires c =
+pub insert_near-requires : goal.insert_near-requires
+insert_near-requires c =
     next-new c.args.self.now c.args.node c.args.stamp c.args.writes c.loop-first.self c.loop-first.rest
     (write_seen c.in-Some.first) c.in-Some.others c.loop-first.invariant c.in-Some.ensures
 
 pub loop-first-preserved : goal.loop-first-preserved
 loop-first-preserved c =
     go-on c.args.self.now c.args.node c.args.stamp c.args.writes c.loop-first.self c.loop-first.rest
-    (write_seen c.in-Some.first) c.in-Some.others c.insert_copy.new.self c.loop-first.invariant c.in-Some.ensures
+    (write_seen c.in-Some.first) c.in-Some.others c.insert_near.new.self c.loop-first.invariant c.in-Some.ensures
     c.in-Ok.ensures.last
 
 pub returns-clause-ok : goal.returns-clause-ok
