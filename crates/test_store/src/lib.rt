@@ -23,6 +23,10 @@ mod items;
 #[cfg(test)]
 mod keys;
 #[cfg(test)]
+mod machines;
+#[cfg(test)]
+mod parts;
+#[cfg(test)]
 mod run;
 #[cfg(test)]
 mod savings;
