@@ -278,6 +278,23 @@ static void measure_snapshots(uint64_t snapshots)
     hlc_store_close(&store);
 }
 
+/* A value that is read in place is not passed over. */
+static void measure_views(size_t value_len)
+{
+    static uint8_t value[65535];
+    hlc_store store = HLC_CLOSED_STORE;
+    const uint8_t *at;
+    uint64_t word;
+    size_t len;
+    must(hlc_store_open(&store, 1));
+    must(hlc_store_accept_write(&store, 0, 0, STAMP(1), (const uint8_t *)"k", 1, value, value_len, &word));
+    uint64_t id = open_at_floor(&store);
+    begin();
+    for (int i = 0; i < TIMES; i++) must(hlc_snapshot_view(&store, id, (const uint8_t *)"k", 1, &at, &len));
+    end("view", value_len, TIMES);
+    hlc_store_close(&store);
+}
+
 /* A restore in small pieces costs what its bytes cost. */
 static void measure_pieces(uint64_t keys)
 {
@@ -329,6 +346,8 @@ int main(void)
     measure_nodes(64000);
     measure_snapshots(1);
     measure_snapshots(1024);
+    measure_views(64);
+    measure_views(65535);
     measure_pieces(1024);
     measure_pieces(16384);
     print_memory("rising", MANY_KEYS, false);
