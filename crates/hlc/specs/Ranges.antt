@@ -6,10 +6,11 @@ pub use Rattle.hlc_ranges.specs.Calls.{IsNodeOf, HasClock, Extends}
 pub use Rattle.hlc_ranges.specs.Cut.{IsCut, IsConsistent}
 pub use Rattle.hlc_routing.specs.Division.{DivisionView, ByKeys, ByHash, stores_of, store_of}
 pub use Rattle.hlc_routing.specs.Faults.{ranges_code, machine_code}
-pub use Rattle.hlc_routing.specs.Ranges.{RangesView, Represents, IsLeastFloor, IsOfStore}
-pub use Rattle.hlc_routing.specs.All.{SnapshotView, IsOpenAll, OpensAll, ClosesAll, AreOpenIn, AreVacuumed, HaveJoined}
+pub use Rattle.hlc_routing.specs.Ranges.{RangesView, Represents, IsLeastFloor, IsOfStore, HasTaken}
+pub use Rattle.hlc_routing.specs.All.{SnapshotView, IsOpenAt, IsOpenAll, OpensAll, ClosesAll, AreOpenIn}
+pub use Rattle.hlc_routing.specs.All.{AreVacuumed, HaveJoined}
 pub use Rattle.hlc_routing.specs.All.{each_stepped, each_closed, join_step, next_join, AreJoins}
-pub use Rattle.hlc_routing.specs.Listing.{IsListingBetween}
+pub use Rattle.hlc_routing.specs.Listing.{IsListingBetween, IsRefusedListing}
 pub use Rattle.hlc_routing.specs.Machine.{MachineView, Issues, HaveOneStore, HaveNoStore, IsRefusedBatch}
 pub use Rattle.hlc_routing.specs.Machine.{IsMachineOf, GoesOn, IsDividedBy}
 pub use Rattle.hlc_routing.specs.Machine.{IsNewMachine}
