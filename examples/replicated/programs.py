@@ -205,7 +205,8 @@ class Programs:
         return power.fail(self.folder / name, self.shadow(name))
 
     def start_writer(self, name):
-        words = ["--name", name, *self.writing, "--history", self.histories / name]
+        history = ["--history", self.histories / name] if self.histories else []
+        words = ["--name", name, *self.writing, *history]
         self.writers[name] = self.program(name, "writer.py", *words)
 
     def kill_writer(self, name):
