@@ -69,4 +69,4 @@ eight_at key at =
 unfoldable pub mark_of : List ℕ → ℕ
 mark_of key =
     if nat_lt (length key) 8 then short_mark key
-    else (eight_at key 0 % 4093 + eight_at key (length key - 8) % 4093) % 4096
+    else (eight_at key 0 % 4093 + eight_at key (length key - 8) % 4093) % 4093

@@ -89,7 +89,7 @@ fn mark_of(key: &[u8]) -> usize
     }
     let front = eight_at(key, 0) % SPREAD;
     let back = eight_at(key, key.len() - 8) % SPREAD;
-    (front + back) as usize % MARKS
+    ((front + back) % SPREAD) as usize
 }
 
 /// Returns whether one of the writes is of this key.
