@@ -1,0 +1,5 @@
+mod Mirrors
+mod Places
+mod Openings
+mod Orders
+mod Events
