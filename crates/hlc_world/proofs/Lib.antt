@@ -13,3 +13,4 @@ pub mod Closure
 pub mod Faithful
 pub mod Runs
 pub mod Joins
+pub mod ScheduleLemmas

@@ -9,11 +9,11 @@ use Rattle.hlc_world.specs.declared.reply.Reply.TheVariants.{Stamped, Sent, Rece
 use Rattle.hlc_world.specs.Schedule.{Event, stamping_of as stamped_by}
 use Rattle.hlc_world.specs.Store.{share, core_past}
 use Rattle.hlc_world.specs.Before.{IsStamped}
-use Rattle.hlc_world.proofs.Lists.{some-injective}
-use Rattle.hlc_world.proofs.Entries.{entry-inside}
+use Rattle.hlc_world.proofs.ScheduleLemmas.{some-injective}
+use Rattle.hlc_world.proofs.ScheduleLemmas.{entry-inside}
 use Rattle.hlc_ranges.specs.Run.{Turn, Observed as Observes, Stepped, stamping_of, turn_at}
 use Rattle.hlc_ranges.specs.Before.{IsStamped as IsStampedIn}
-use Rattle.hlc_ranges.proofs.Turns.{turn-cases}
+use Rattle.hlc_ranges.proofs.TurnLemmas.{turn-cases}
 use Rattle.hlc_world_run.specs.RunOf.{layout_of, observing, step_by, stepping, turn_of, with_turn, run_of, place}
 use Rattle.hlc_world_run.proofs.Places.{entry-keeps, place-earlier, place-last}
 

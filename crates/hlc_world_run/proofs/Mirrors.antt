@@ -30,14 +30,16 @@ use Rattle.hlc_world.specs.Schedule.{Event, with_item, ends, stamp_or, has_retir
 use Rattle.hlc_world.specs.Schedule.{issued as issued_by, last_stamp as clock_of}
 use Rattle.hlc_world.specs.Store.{accepting, accepted, paired, with_entry, store_history, core_past}
 use Rattle.hlc_world.specs.Expected.{on_node, deliver_refusal, IsReceived, IsObserved, MayReply, IsLegal}
-use Rattle.hlc_world.proofs.Lists.{some-injective, get-append_left, get-push}
-use Rattle.hlc_world.proofs.Nodes.{stamp_or-other, with_item-same, with_item-other, ends-same, ends-other}
-use Rattle.hlc_world.proofs.Orderly.{orderly, on_link-none, on_node-none, issue-ok, no-core, stamp-rises, sight-rises}
-use Rattle.hlc_world.proofs.Histories.{legal-past}
+use Rattle.hlc_world.proofs.ScheduleLemmas.{some-injective, get-append_left, get-push}
+use Rattle.hlc_world.proofs.ScheduleLemmas.{stamp_or-other, with_item-same, with_item-other, ends-same, ends-other}
+use Rattle.hlc_world.proofs.ScheduleLemmas.{orderly, on_link-none, on_node-none, issue-ok, no-core, stamp-rises}
+use Rattle.hlc_world.proofs.ScheduleLemmas.{sight-rises}
+use Rattle.hlc_world.proofs.ScheduleLemmas.{legal-past}
 use Rattle.hlc_ranges.specs.Run.{Turn, Issued, Sent as Sends, Received as Receives, Observed as Observes, Stepped}
 use Rattle.hlc_ranges.specs.Run.{past_of, issued, have_ended, start_of, raised_by, last_stamp, turn_at, IsRouted}
 use Rattle.hlc_ranges.specs.Run.{IsIssuedStep, IsLegal as IsLegalRun}
-use Rattle.hlc_ranges.proofs.Turns.{turn-keeps, raised-same, raised-other, past-same, issued-same, issued-other_node}
+use Rattle.hlc_ranges.proofs.TurnLemmas.{turn-keeps, raised-same, raised-other, past-same, issued-same}
+use Rattle.hlc_ranges.proofs.TurnLemmas.{issued-other_node}
 use Rattle.hlc_world_run.specs.RunOf.{layout_of, messages, sent_at, observing, step_by, stepping, with_turn, run_of}
 
 -- the run is legal, and has this past, these items of each link, these clocks, and these messages

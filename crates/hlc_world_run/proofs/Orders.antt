@@ -17,16 +17,16 @@ use Rattle.hlc_world.specs.Store.{core_past}
 use Rattle.hlc_world.specs.Expected.{IsReceived, IsObserved, MayReply, IsLegal}
 use Rattle.hlc_world.specs.Before.{entry_at, write_stamp, IsStamped, HappenedBefore, on_node, on_message}
 use Rattle.hlc_world.specs.Before.{on_observation, through}
-use Rattle.hlc_world.proofs.Lists.{some-injective}
-use Rattle.hlc_world.proofs.Orderly.{sight-rises}
-use Rattle.hlc_world.proofs.Entries.{entry-cases, entry-inside}
-use Rattle.hlc_world.proofs.Openings.{opened-found}
+use Rattle.hlc_world.proofs.ScheduleLemmas.{some-injective}
+use Rattle.hlc_world.proofs.ScheduleLemmas.{sight-rises}
+use Rattle.hlc_world.proofs.ScheduleLemmas.{entry-cases, entry-inside}
+use Rattle.hlc_world.proofs.ScheduleLemmas.{opened-found}
 use Rattle.hlc_ranges.specs.Run.{Turn, Issued, Sent as Sends, Received as Receives, Observed as Observes, stamping_of}
 use Rattle.hlc_ranges.specs.Run.{turn_at}
 use Rattle.hlc_ranges.specs.Before.{HappenedBefore as HappenedBeforeIn, IsStamped as IsStampedIn, on_machine}
 use Rattle.hlc_ranges.specs.Before.{on_message as on_message_in, on_observation as on_observation_in}
 use Rattle.hlc_ranges.specs.Before.{through as through_in}
-use Rattle.hlc_ranges.proofs.Turns.{turn-inside}
+use Rattle.hlc_ranges.proofs.TurnLemmas.{turn-inside}
 use Rattle.hlc_world_run.specs.RunOf.{layout_of, messages, sent_at, observing, turn_of, run_of, place}
 use Rattle.hlc_world_run.proofs.Mirrors.{mirrored}
 use Rattle.hlc_world_run.proofs.Places.{placed, place-earlier, place-last}

@@ -7,10 +7,10 @@ use Rattle.hlc_world.specs.declared.reply.Reply.{Reply}
 use Rattle.hlc_world.specs.Schedule.{Event}
 use Rattle.hlc_world.specs.Expected.{IsLegal}
 use Rattle.hlc_world.specs.Before.{entry_at}
-use Rattle.hlc_world.proofs.Entries.{entry-cases, entry-inside}
+use Rattle.hlc_world.proofs.ScheduleLemmas.{entry-cases, entry-inside}
 use Rattle.hlc_ranges.specs.Run.{Turn, Issued, Sent as Sends, Received as Receives, Observed as Observes, Stepped}
 use Rattle.hlc_ranges.specs.Run.{turn_at}
-use Rattle.hlc_ranges.proofs.Turns.{turn-keeps}
+use Rattle.hlc_ranges.proofs.TurnLemmas.{turn-keeps}
 use Rattle.hlc_world_run.specs.RunOf.{messages, sent_at, turn_of, with_turn, run_of, place}
 
 messages-grow : (o : Option Turn) (run : List Turn) → messages run ≤ messages (with_turn o run)
