@@ -1,6 +1,6 @@
 //! The map.
-ghost use Rattle.std.specs.Prelude.{◌≡◌, ◌≢◌, ◌-◌, ◌+◌, ◌<◌, ◌≤◌, ◌++◌, ◌↔◌, [], ℕ, IsTrue, None, Some, length, slice_get};
-ghost use Rattle.std.specs.Prelude.{slice_index_or, All};
+ghost use Rattle.std.specs.Prelude.{◌≡◌, ◌≢◌, ◌-◌, ◌+◌, ◌<◌, ◌≤◌, ◌++◌, ◌↔◌, [], ℕ, IsTrue, None, Some, length};
+ghost use Rattle.std.specs.Prelude.{slice_get, slice_index_or, All};
 ghost use Rattle.std.specs.Prelude.{filter, OnOk, OnErr, IfOk, IfErr, option_copied};
 ghost use Rattle.std.specs.Map.{lookup};
 ghost use Rattle.std.specs.BTreeMap.{insert_entry};

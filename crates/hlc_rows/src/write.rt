@@ -2,7 +2,8 @@
 ghost use Rattle.std.specs.Prelude.{◌≡◌, ◌+◌, ◌<◌, ◌≤◌, length, option_copied, take};
 ghost use Rattle.std.specs.Prelude.{List};
 ghost use Rattle.hlc_rows.specs.Limits.{write_refusal};
-ghost use Rattle.hlc_rows.specs.Writes.{all_refusal, batch_refusal, eight_at, first_of, mark_of, short_mark, writes_key};
+ghost use Rattle.hlc_rows.specs.Writes.{all_refusal, batch_refusal, eight_at, first_of, mark_of, short_mark};
+ghost use Rattle.hlc_rows.specs.Writes.{writes_key};
 
 use crate::limits::{BodyFault, MOST_WRITES, write_fault};
 use crate::writes::Writes;
