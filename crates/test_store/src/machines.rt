@@ -1,8 +1,7 @@
-//! What machines refuse: each reason of each event, the first one where two hold, and that a refusal changes nothing.
-//! The numbers are those of docs/refusals.md.
+//! What machines refuse of writes: each reason, the first one where two hold, and that a refusal changes nothing. The
+//! numbers are those of docs/refusals.md.
 use crate::changes::second;
 use crate::items::bytes;
-use hlc_clock::ClockFault;
 use hlc_node::{NodeCore, Write};
 use hlc_routing::{Division, Machine};
 use hlc_rows::Stamp;
@@ -112,50 +111,4 @@ fn a_machine_refuses_batches_for_the_first_reason(rt: HostRuntime) {
     refuses_batch(&rt, &mut some, &[b"bonn", b""], LATE, 12);
     refuses_batch(&rt, &mut some, &[b"bonn", b"athens"], LATE, 2);
     is_new(&rt, &some, second(5));
-}
-
-#[test]
-fn a_machine_refuses_other_events_for_the_first_reason(rt: HostRuntime) {
-    let mut some = machine(&rt, second(5));
-    let last = Stamp::from_bits(u64::MAX);
-    let full = Some(ClockFault::CounterFull { at: last });
-    assert!(&rt; some.send(LATE).err() == Some(ClockFault::ReadingTooLarge));
-    assert!(&rt; some.receive(last, LATE).err() == Some(ClockFault::ReadingTooLarge));
-    assert!(&rt; some.receive(last, 6).err() == full);
-    assert!(&rt; some.observe(last, LATE).err() == Some(ClockFault::ReadingTooLarge));
-    assert!(&rt; some.observe(last, 6).err() == full);
-    assert!(&rt; some.report(2, LATE).err().map(|fault| fault.code()) == Some(120));
-    assert!(&rt; some.report(1, LATE).err().map(|fault| fault.code()) == Some(2));
-    assert!(&rt; some.retire(2, LATE).err().map(|fault| fault.code()) == Some(120));
-    assert!(&rt; some.retire(1, LATE).err().map(|fault| fault.code()) == Some(2));
-    assert!(&rt;
-        some.report_all(rt.alloc(), LATE)
-            .err()
-            .map(|fault| fault.code())
-            == Some(2)
-    );
-    is_new(&rt, &some, second(5));
-}
-
-#[test]
-fn a_machine_without_one_of_its_nodes_reports_to_none(rt: HostRuntime) {
-    let mut some = machine(&rt, second(5));
-    let last = some.retire(1, 6).ok().expect(&rt, "the last item");
-    assert!(&rt; (last.node, last.number, last.stamp) == (3, 0, second(6)));
-    assert!(&rt; some.retire(1, LATE).err().map(|fault| fault.code()) == Some(27));
-    assert!(&rt; some.report(1, LATE).err().map(|fault| fault.code()) == Some(27));
-    refuses_write(&rt, &mut some, (b"lyon", 65_536, LATE, 27));
-    refuses_batch(&rt, &mut some, &[b"lyon", b"lyon"], LATE, 27);
-    // The report to the first store would have been the first one.
-    assert!(&rt;
-        some.report_all(rt.alloc(), 7)
-            .err()
-            .map(|fault| fault.code())
-            == Some(27)
-    );
-    assert!(&rt; some.now() == second(6));
-    let first = some.nodes().first().expect(&rt, "a node");
-    assert!(&rt; first.next() == 0 && first.now() == Stamp::ZERO);
-    let report = some.report(0, 7).ok().expect(&rt, "a report");
-    assert!(&rt; (report.node, report.number, report.stamp) == (7, 0, second(7)));
 }
