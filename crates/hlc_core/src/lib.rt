@@ -1,6 +1,6 @@
 //! The sequential store: items are accepted in the order of each link, snapshots open from the horizon (GC threshold)
-//! to the floor (closed timestamp), a read returns the newest accepted value, and a vacuum keeps the fewest rows with
-//! the same answers.
+//! to the floor (closed timestamp), a read returns the newest accepted value, and a vacuum keeps the fewest and
+//! cheapest rows with the same answers.
 #![tactic(auto)]
 
 mod exact;

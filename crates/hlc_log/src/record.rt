@@ -154,9 +154,9 @@ fn threshold_at(bytes: &[u8]) -> Result<(RecordRef<'_>, &[u8]), DecodeError>
     Ok((RecordRef::Threshold(at), rest))
 }
 
-/// Returns the one encoding of a record, of at most `MOST_ITEM_BYTES` bytes.
+/// Returns the one encoding of a record, of at most `MOST_ITEM_BYTES` bytes, or `MOST_BATCH_BYTES` for a batch.
 ///
-/// Refused, in this order: an item with a bad key, or with a value that is too long; out of memory.
+/// Refused, in this order: the first reason to refuse an item's body; out of memory.
 pub fn encode_record(alloc: Global, entry: &Record) -> Result<Vec<u8>, EncodeError>
     ensures ok { IfOk result
         (λ bytes. RecordFits entry.now × (bytes.items ≡ record_bytes entry.now)) }
