@@ -65,15 +65,7 @@ impl World {
 
     /// Performs one event, or refuses it.
     ///
-    /// Refusals come in this order. Write, Delete: no such node; retired; bad key; value too long; numbers spent;
-    /// reading too large; counter full. Report, Retire: no such node; retired; numbers spent; reading too large;
-    /// counter full. Join: too many nodes. Send: no such node; retired; reading too large; counter full. Receive: no
-    /// such node; retired; no such message; reading too large; counter full. Observe: no such node; retired; no such
-    /// snapshot; reading too large; counter full. Deliver: no such node; no such item; retired, where the node's last
-    /// item was accepted; not the next number. OpenAt: above the floor; below the horizon (GC threshold); too many
-    /// snapshots; numbers spent. OpenFloor: the last two. Read, List, Close: no such snapshot. The last one is out of
-    /// memory, where the event makes an item, a node, a message, a snapshot or a listing, stores a row, returns a value
-    /// or is a Vacuum. A Vacuum is refused for nothing else, and Floor and Rows are never refused. Read, List, Floor
+    /// docs/formats.md lists the refusals of each event in their order, with the lines of a script. Read, List, Floor
     /// and Rows change nothing, whatever the reply.
     #[inline(always)]
     pub fn step(&mut self, event: Event) -> Reply
