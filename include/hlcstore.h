@@ -187,7 +187,7 @@ typedef enum hlc_answer {
     HLC_MORE = 104,             /* of hlc_snapshot_scan, _scan_keys, _scan_back, hlc_snapshot_changes,
                                    hlc_snapshot_read_all, hlc_output_read, hlc_saving_read: a part is left, which did
                                    not fit */
-    HLC_NO_SUCH_NODE = 105,     /* of hlc_node_restore: no node has issued so many items up to this stamp */
+    HLC_NO_SUCH_NODE = 105,     /* of hlc_node_restore: no node has issued that many items up to this stamp */
     HLC_BAD_BYTES = 106,        /* of hlc_store_restore, hlc_store_accept_items, hlc_store_apply_records, and of the
                                    older checkpoint of hlc_increment_apply; of hlc_checkpoint_split and
                                    hlc_checkpoint_merge; of the calls for a batch; word: the number of the first fault,
@@ -247,7 +247,7 @@ typedef char hlc_answer_has_32_bits[sizeof(hlc_answer) == sizeof(uint32_t) ? 1 :
 #define HLC_MAX_STAMP UINT64_C(18446744073709551615)  /* a stamp */
 #define HLC_MAX_NUMBER UINT64_C(18446744073709551614) /* the number of an item, and the id of a snapshot */
 
-/* How many bytes there are at most. A buffer of so many always gets one. */
+/* How many bytes there are at most. A buffer of this size always holds one. */
 #define HLC_MAX_PAIR 65806        /* a pair of hlc_snapshot_list, hlc_snapshot_scan and hlc_snapshot_scan_back */
 #define HLC_MAX_LISTED_KEY 263    /* a key of hlc_snapshot_scan_keys */
 #define HLC_MAX_CHANGE 65807      /* a change of hlc_snapshot_changes */
@@ -281,7 +281,7 @@ void hlc_error_text(uint32_t answer, uint8_t *out, size_t out_len, size_t *len) 
 
 /* ---- The store ---- */
 
-/* Opens a closed store of so many nodes, numbered from 0, in which nothing took place. Refusals, in this order: 101,
+/* Opens a closed store with `nodes` nodes, numbered from 0, in which nothing took place. Refusals, in this order: 101,
  * 114, 15. */
 hlc_answer hlc_store_open(hlc_store *store, uint16_t nodes) HLC_CHECKED(1);
 
@@ -303,8 +303,8 @@ hlc_answer hlc_store_accept_report(hlc_store *store, uint16_t node, uint64_t num
 hlc_answer hlc_store_accept_retire(hlc_store *store, uint16_t node, uint64_t number, uint64_t stamp, uint64_t *word)
     HLC_CHECKED(1, 5);
 
-/* Accepts the batch that a node issued under this number with this stamp: all of its writes, or none. writes: so many,
- * as for hlc_node_write_batch. Refusals, in this order: 29, 106, 1, 27, 6, 14, 7, 28, 30, 15. Costs what
+/* Accepts the batch that a node issued under this number with this stamp: all of its writes, or none. writes: `count`
+ * writes, as for hlc_node_write_batch. Refusals, in this order: 29, 106, 1, 27, 6, 14, 7, 28, 30, 15. Costs what
  * hlc_store_accept_write costs for each write. */
 hlc_answer hlc_store_accept_batch(hlc_store *store, uint16_t node, uint64_t number, uint64_t stamp, size_t count,
                                   const uint8_t *writes, size_t writes_len, uint64_t *word) HLC_CHECKED(1, 8);
@@ -466,8 +466,8 @@ hlc_answer hlc_store_versions(hlc_store *store, const uint8_t *key, size_t key_l
 /* Drops all rows at or below the floor except the fewest, and the cheapest, that give the same answers as all accepted
  * writes at each open snapshot and at the floor. kept, dropped: numbers of rows at or below the floor; bytes: the cost
  * of those that were kept, which is for each the length of its key and of its value, and 10. The last two are 2^64 - 1
- * where they would be greater. Refusal: 15. Reads each key once at each point. Until it returns it takes at
- * most some three bytes of memory for each stored row. */
+ * where they would be greater. Refusal: 15. Reads each key once at each point. Until it returns it takes memory for a
+ * plan (docs/performance.md). */
 hlc_answer hlc_store_vacuum(hlc_store *store, uint64_t *floor, uint64_t *kept, uint64_t *bytes, uint64_t *dropped)
     HLC_CHECKED(1, 2, 3, 4, 5);
 
@@ -723,9 +723,9 @@ hlc_answer hlc_node_delete(hlc_node *node, uint64_t reading, const uint8_t *key,
                            uint64_t *word) HLC_CHECKED(1, 5, 6);
 
 /* Issues one item of several writes, 1 to 256 of different keys, at one stamp: a snapshot shows all of them or none.
- * writes: so many, one after another: for each a byte of length and the key; and 0 for a deletion, or 1, two bytes of
- * length, the high one first, and the value. hlc_batch of hlcstore_inline.h makes them. Refusals, in this order: 29,
- * 106, 27, 28, 30, 14, 2, 3. */
+ * writes: `count` writes, one after another: for each a byte of length and the key; and 0 for a deletion, or 1, two
+ * bytes of length, the high one first, and the value. hlc_batch of hlcstore_inline.h makes them. Refusals, in this
+ * order: 29, 106, 27, 28, 30, 14, 2, 3. */
 hlc_answer hlc_node_write_batch(hlc_node *node, uint64_t reading, size_t count, const uint8_t *writes,
                                 size_t writes_len, uint64_t *number, uint64_t *word) HLC_CHECKED(1, 6, 7);
 

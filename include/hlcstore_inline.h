@@ -136,7 +136,7 @@ typedef struct {
     hlc_value value;
 } hlc_key_version;
 
-/* Takes a number of so many bytes, at most eight, the low one first. */
+/* Takes a number of `size` bytes, at most eight, the low one first. */
 HLC_CHECKED(1, 3) static inline bool hlc_inline_low_first(hlc_bytes *rest, size_t size, uint64_t *number)
 {
     *number = 0;
@@ -147,7 +147,7 @@ HLC_CHECKED(1, 3) static inline bool hlc_inline_low_first(hlc_bytes *rest, size_
     return true;
 }
 
-/* Takes a length of eight bytes, and so many bytes after it; where these are not there, perhaps the length alone. */
+/* Takes a length of eight bytes, and that many bytes after it; where these are not there, perhaps the length alone. */
 HLC_CHECKED(1, 2) static inline bool hlc_inline_sized(hlc_bytes *rest, hlc_bytes *bytes)
 {
     uint64_t len;
@@ -238,7 +238,7 @@ typedef enum hlc_item_kind {
 } hlc_item_kind;
 
 /* An item that a node issued. Only a write and a deletion have a key, and only a write has a value. Only a batch has
- * `writes`, so many of which hlc_write_next reads one. */
+ * `writes`: `count` writes, which hlc_write_next reads one by one. */
 typedef struct {
     hlc_item_kind kind;
     uint16_t node;
@@ -256,7 +256,7 @@ typedef struct {
     hlc_value value;
 } hlc_write;
 
-/* Takes a number of so many bytes, at most eight, the high one first, as items have them. */
+/* Takes a number of `size` bytes, at most eight, the high one first, as items have them. */
 HLC_CHECKED(1, 3) static inline bool hlc_inline_high_first(hlc_bytes *rest, size_t size, uint64_t *number)
 {
     *number = 0;
@@ -267,7 +267,7 @@ HLC_CHECKED(1, 3) static inline bool hlc_inline_high_first(hlc_bytes *rest, size
     return true;
 }
 
-/* Takes a length of so many bytes, and so many bytes after it; where these are not there, perhaps the length alone. */
+/* Takes a length of `size` bytes, and that many bytes after it; where these are not there, perhaps the length alone. */
 HLC_CHECKED(1, 3) static inline bool hlc_inline_field(hlc_bytes *rest, size_t size, hlc_bytes *field)
 {
     uint64_t len;
@@ -368,7 +368,7 @@ typedef struct {
     size_t count;
 } hlc_batch;
 
-/* No writes, in a buffer of so many bytes: HLC_MAX_WRITE for each write always suffice. */
+/* No writes, in a buffer of `room` bytes: HLC_MAX_WRITE for each write always suffice. */
 static inline hlc_batch hlc_batch_in(uint8_t *buffer, size_t room)
 {
     hlc_batch batch = { buffer, room, 0, 0 };
@@ -532,7 +532,7 @@ typedef struct {
 
 #define HLC_FIRST_PART { { 0, 0, 0, 0, 0 }, true, 0, { 0 } }
 
-/* Makes the next part by hlc_store_vacuum_part, of at most so many keys.
+/* Makes the next part by hlc_store_vacuum_part, of at most `limit` keys.
  *
  *     hlc_partial_vacuum part = HLC_FIRST_PART;
  *     while (answer == HLC_OK && part.more) answer = hlc_store_run_vacuum_part(&store, stamp, 1024, &part);

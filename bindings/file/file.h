@@ -24,7 +24,7 @@ enum {
     WAL_PAGES = 4000,   /* the write-ahead log is moved into the file where it is longer */
     WAL_PAGE = 4120,    /* bytes of a page there, with its head */
     PAGES_AHEAD = 64,   /* the log is lengthened where it has room for fewer pages */
-    LENGTHENING = 248 << 12 /* by so many bytes */
+    LENGTHENING = 248 << 12 /* by this many bytes */
 };
 
 #define PHYSICAL(milliseconds) ((uint64_t)(milliseconds) << 16)

@@ -98,7 +98,7 @@ typedef struct {
     uint32_t promise;           /* default HLC_FILE_SYNCED */
     uint32_t group_microseconds; /* how long HLC_FILE_GROUP waits for more batches; default 0: it takes those that came
                                     while the disk was busy. At most 1,000,000 */
-    uint64_t checkpoint_bytes;  /* makes a checkpoint in the background after so many bytes of log, and not before the
+    uint64_t checkpoint_bytes;  /* makes a checkpoint in the background after this many bytes of log, and not before the
                                    log has half as many bytes as the last one; default 64 MiB, UINT64_MAX: never */
 } hlc_file_options;
 
@@ -230,7 +230,7 @@ uint32_t hlc_file_copy(hlc_file *file, uint64_t word, hlc_output *output, size_t
 uint32_t hlc_file_vacuum_to(hlc_file *file, uint64_t stamp, uint64_t *word, uint64_t *kept, uint64_t *bytes,
                             uint64_t *dropped);
 
-/* The same, to the stamp that the system's clock had so many milliseconds ago, or to the floor where that is lower.
+/* Vacuums to the stamp that the system's clock had `milliseconds` ago, or to the floor where that is lower.
  * Where the horizon is higher, vacuums to the horizon. Refusals: 214 where the clock reads less, and as above. */
 uint32_t hlc_file_vacuum_older(hlc_file *file, uint64_t milliseconds, uint64_t *word, uint64_t *kept, uint64_t *bytes,
                                uint64_t *dropped);

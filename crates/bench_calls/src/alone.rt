@@ -67,7 +67,7 @@ pub(crate) fn time_calls(rt: &HostRuntime, start: Instant, core: &mut Core) -> i
     )
 }
 
-/// Assigns numbers to so many nodes, of which the first ones retire.
+/// Assigns numbers to this many nodes, of which the first ones retire.
 fn join_all(core: &mut Core, nodes: u16, has_retired: u16) {
     for _ in 64..nodes {
         drop(core.join());

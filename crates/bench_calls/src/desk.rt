@@ -248,8 +248,8 @@ fn run_on_board<L: Ledger + Send + Sync, R: Threads + Wait + Sync + Clock>(
     run(rt, alloc, &desk)
 }
 
-/// Returns the nanoseconds that so many readers take, and how many items a writer passed to the store meanwhile; zeros
-/// where memory runs out.
+/// Returns the nanoseconds that this many readers take, and how many items a writer passed to the store meanwhile;
+/// zeros where memory runs out.
 pub(crate) fn time_in_store<L: Ledger + Send + Sync, R: Threads + Wait + Sync + Clock>(
     rt: &R,
     alloc: Global,

@@ -93,7 +93,7 @@ fn number_in(word: &str, none: u16) -> u16 {
     }
 }
 
-/// Times what so many threads do concurrently.
+/// Times what this many threads do concurrently.
 fn time_threads<R: Threads + Wait + Sync + Clock>(
     host: &HostRuntime,
     rt: &R,
@@ -191,8 +191,8 @@ fn time_with_core<R: Threads + Wait + Sync + Clock>(
 
 /// `core` times writes and reads of one store in one thread. `nodes`, how many numbers were assigned and how many of
 /// those nodes retired, times deliveries to such a store. `board`, `shared` or `lock` and a number of readers times
-/// their looks at a floor there. A number of threads times the reads of so many, with a trail where the second word is
-/// `on`. With no word nothing is timed. Where memory runs out, nanoseconds are 0.
+/// their looks at a floor there. A number of threads times the reads of that many, with a trail where the second word
+/// is `on`. With no word nothing is timed. Where memory runs out, nanoseconds are 0.
 fn main(rt: HostRuntime) -> io::Result<()> {
     let start = Instant::now(&rt)?;
     let (first, second, third) = (word(&rt, 1), word(&rt, 2), word(&rt, 3));

@@ -68,7 +68,7 @@ impl<L: Ledger> Seat<L> {
         self.call(rt, shared, CoreEvent::OpenFloor, false);
     }
 
-    /// Makes so many reads in the first snapshot, each of the next key.
+    /// Makes this many reads in the first snapshot, each of the next key.
     pub(crate) fn read_all<R: Wait>(
         &mut self,
         rt: &R,

@@ -24,7 +24,7 @@ pub(crate) fn by_hash() -> Result<Division, Stopped> {
     }
 }
 
-/// Returns new stores for a division, each with so many nodes.
+/// Returns new stores for a division, each with this many nodes.
 pub(crate) fn new_stores(alloc: Global, division: Division, nodes: u16) -> Result<Ranges, Stopped> {
     let mut stores = Vec::new(alloc);
     for _ in 0..division.stores() {

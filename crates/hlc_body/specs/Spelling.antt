@@ -111,7 +111,7 @@ pub record SavedFits (word : ℕ) (kept : StoreView) : Type 0 where
   pub frame : FrameFits word (checkpoint_bytes kept)
   pub checkpoint : CheckpointFits kept
 
--- rows that have encodings, of so many bytes in all
+-- rows that have encodings, of this many bytes in all
 pub record AreOfSize (rows : List Row) (size : ℕ) : Type 0 where
   pub bytes : size ≡ length (flat_map row_bytes rows)
   pub fits : All RowFits rows

@@ -47,7 +47,7 @@ impl Preamble {
         self.count
     }
 
-    /// Returns the checkpoint with these rows.
+    /// Returns the checkpoint of this preamble and these rows. It moves both, and checks nothing.
     pub fn with_rows(self, rows: Vec<Row>) -> Checkpoint
         ensures { result ≡ kept_of self rows.items }
     {
@@ -63,7 +63,8 @@ impl Preamble {
     }
 }
 
-/// Reads the part before the rows.
+/// Reads the part before the rows, and returns it with the bytes after it; or the first fault from the left, or out of
+/// memory.
 #[tactic(auto, unfolding(crate::specs::Reading::preamble_at))]
 pub fn preamble_at(alloc: Global, bytes: &[u8]) -> Result<(Preamble, &[u8]), DecodeError>
     ensures { Gives (λ x. (x.0, x.1.now)) result (preamble_at bytes.now) }

@@ -9,7 +9,7 @@ use hlc_checkpoint::{Intake, RowRef, Snapshot};
 use hlc_wire::{put_flag, put_key, put_value};
 use std::alloc::{AllocError, Global};
 
-/// Writes the number of links, and each link.
+/// Appends the number of links, and each link in turn. If memory runs out, some bytes may have been appended.
 pub fn put_links(out: &mut Vec<u8>, links: &[Intake]) -> Result<(), AllocError>
     requires { length links.now < 65536 }
     ensures { OnOk result (out.new.items ≡ out.old.items ++ list_bytes w16 link_bytes links.now) }

@@ -26,7 +26,7 @@ same-count : (count bytes n k : ℕ) → (Fewest n k ≡ Fewest count bytes) ⊎
 same-count count bytes n k (inl same) = (cc, cc)
 same-count count bytes n k (inr lost) = absurd cc
 
--- a text whose check ends so shows so many rows
+-- a text whose check ends so shows this many rows
 ends-shown : (text : List ℕ) (count bytes : ℕ)
     → ((end : CheckEnd) → MayEnd text end → (end ≡ Fewest count bytes) ⊎ (end ≡ NoMemory))
     → IsShown text count (narrowed bytes)

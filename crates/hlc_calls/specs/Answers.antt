@@ -113,7 +113,7 @@ abbrev pub ReturnsEnd : Option (List ℕ) → ℕ → Bool → List ℕ → List
 ReturnsEnd None len more old new = (len ≡ 0) × (more ≡ false) × (new ≡ old)
 ReturnsEnd (Some key) len more old new = (len ≡ length key) × (more ≡ true) × IsCopied key old new
 
--- a part of a vacuum to the stamp took place, of the first keys above one, at most so many, and the numbers of its
+-- a part of a vacuum to the stamp took place, of the first keys above one, at most this many, and the numbers of its
 -- report are returned, and where it ended
 abbrev pub ReturnsPart
     : StoreView → StoreView → ℕ → List ℕ → ℕ → List Step

@@ -9,7 +9,7 @@ use Rattle.hlc_calls.specs.declared.batch.Entry.{Entry}
 use Rattle.hlc_calls.specs.Answers.{ReturnsAccepted}
 use Rattle.hlc_node.specs.Items.{an_item}
 
--- so many bytes from this place on
+-- this many bytes from this place on
 abbrev pub piece : ℕ → ℕ → List ℕ → List ℕ
 piece at many bytes = take many (drop at bytes)
 
@@ -47,7 +47,7 @@ took (item ∷ items) past = took items (Took item ∷ past)
 abbrev pub entered : List Entry → List ℕ → ℕ → List Step → List Step
 entered entries bytes many past = took (map (item_of bytes) (take many entries)) past
 
--- So many entries were accepted in their order. These are all; or the next one was not accepted, and the reason is
+-- This many entries were accepted in their order. These are all; or the next one was not accepted, and the reason is
 -- returned.
 pub record AreEntered (new : StoreView) (entries : List Entry) (bytes : List ℕ) (past : List Step)
     (code many returned : ℕ) : Type 0 where

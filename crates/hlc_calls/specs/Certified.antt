@@ -12,7 +12,7 @@ use Rattle.hlc_certificate.specs.CertificateText.{certificate_text}
 use Rattle.hlc_calls.specs.Answers.{narrowed}
 use Rattle.hlc_calls.specs.Check.{ReturnsCheck}
 
--- a check of the text shows that so many rows are the fewest, and their cost; or memory runs out for it
+-- a check of the text shows that this many rows are the fewest, and their cost; or memory runs out for it
 abbrev pub IsShown : List ℕ → ℕ → ℕ → Type 0
 IsShown text kept bytes = (code rows cost word : ℕ) → ReturnsCheck text code rows cost word
     → ((code ≡ 0) × (rows ≡ kept) × (cost ≡ bytes)) ⊎ (code ≡ 15)

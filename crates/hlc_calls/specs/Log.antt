@@ -47,7 +47,7 @@ abbrev pub IsLogEnd : ℕ → List ℕ → List Step → ℕ → ℕ → Type 0
 IsLogEnd nodes [] past code word = (code ≡ 0) × (word ≡ 0)
 IsLogEnd nodes (byte ∷ bytes) past code word = IsStopped nodes (byte ∷ bytes) past code word
 
--- The first items of the bytes were taken, as far as possible: so many items, of so many bytes.
+-- The first items of the bytes were taken, as far as possible: this many items, of this many bytes.
 pub record AreTaken (nodes : ℕ) (new : StoreView) (bytes : List ℕ) (past : List Step) (code used many word : ℕ)
     : Type 0 where
   pub items : List Item

@@ -25,7 +25,7 @@ IsLeftOut rows stamp bytes place len room code =
     ⊎ ((code ≡ 104) × (lies place.at place.len bytes ≡ true)
     × (room < len + length (answer_at rows stamp bytes place)))
 
--- The first keys were answered in their order, so many of them. These are all; or the next one was left out.
+-- The first keys were answered in their order, this many of them. These are all; or the next one was left out.
 pub record ReturnsAnswers (rows : List Row) (stamp : ℕ) (places : List Place) (bytes : List ℕ)
     (code len many : ℕ) (old new : List ℕ) : Type 0 where
   pub most : many ≤ length places

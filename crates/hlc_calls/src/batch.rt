@@ -21,7 +21,7 @@ pub struct Entry {
     pub value_len: usize,
 }
 
-/// Returns so many bytes from this place on, if the bytes contain them.
+/// Returns this many bytes from this place on, if the bytes contain them.
 pub(crate) fn piece_of(bytes: &[u8], at: usize, many: usize) -> Option<&[u8]>
     ensures { MatchOption result (lies at many bytes.now ≡ false)
         (λ found. (lies at many bytes.now ≡ true) × (found.now ≡ piece at many bytes.now)) }

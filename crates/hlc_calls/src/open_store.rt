@@ -54,7 +54,8 @@ pub fn join_at(core: &mut Core, start: Stamp, node: &mut u16, returned: &mut u64
     }
 }
 
-/// Opens a snapshot. Returns 0 and its id, or a refusal and its word.
+/// Opens a snapshot at a stamp from the horizon (GC threshold) to the floor (closed timestamp). Returns 0 and its id;
+/// or 8, 9, 11, 14 or 15 and its word, and then changes nothing.
 #[tactic(auto, using(crate::proofs::Refusals::refused_returns, crate::proofs::Refusals::made_returns))]
 pub fn open(core: &mut Core, stamp: Stamp, returned: &mut u64) -> u32
     ensures answer { (past : List Step) → Represents core.old past
@@ -65,7 +66,8 @@ pub fn open(core: &mut Core, stamp: Stamp, returned: &mut u64) -> u32
     answer(core.open(stamp), returned)
 }
 
-/// Opens a snapshot at the floor (closed timestamp). Returns 0, its id and its stamp, or a refusal.
+/// Opens a snapshot at the floor (closed timestamp). Returns 0, its id and its stamp; or 11, 14 or 15, and then changes
+/// nothing.
 #[tactic(auto, using(crate::proofs::Refusals::refused_returns, crate::proofs::Refusals::made_returns))]
 pub fn open_floor(core: &mut Core, returned: &mut u64, stamp: &mut u64) -> u32
     ensures answer { (past : List Step) → Represents core.old past
@@ -231,7 +233,7 @@ pub fn check_vacuum(core: &Core, at: Stamp, returned: &mut u64) -> u32
 }
 
 /// Vacuums to a stamp. Returns 0, the stamp, how many rows were kept, what they cost in bytes, and how many were
-/// dropped; or a refusal and its word.
+/// dropped; or 8, 9 or 15 and its word, and then changes nothing. It reads each key once at each point.
 #[tactic(auto, using(crate::proofs::Refusals::refused_returns, crate::proofs::Refusals::made_returns))]
 pub fn vacuum_to(
     core: &mut Core,
@@ -260,9 +262,9 @@ pub fn vacuum_to(
     }
 }
 
-/// Makes a part of a vacuum to a stamp, of the first keys above one, at most so many. Returns 0, the stamp, the numbers
-/// of the part, the length of its last key and, where it fits, the key, and whether a key is left above it; or a
-/// refusal and its word.
+/// Makes a part of a vacuum to a stamp, of the first keys above `after`, at most `most` keys. Returns 0, the stamp, the
+/// numbers of the part, the length of its last key and, where it fits, the key, and whether a key is left above it; or
+/// 8, 9 or 15 and its word, and then changes nothing.
 pub fn vacuum_part(
     core: &mut Core,
     at: Stamp,

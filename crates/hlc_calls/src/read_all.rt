@@ -99,7 +99,9 @@ fn put_answers(
     0
 }
 
-/// Reads keys in a snapshot, at some places among bytes. Returns what `put_answers` returns; or 10.
+/// Writes the answers of keys in a snapshot in turn, as many as fit, and returns how many answers and bytes these are.
+/// The keys are at some places among bytes. Returns 0; 103 where the next key lies outside the bytes; 104 where its
+/// answer does not fit; or 10 where the snapshot is not open. It needs no memory.
 pub fn read_all(
     core: &Core,
     id: u64,

@@ -345,7 +345,7 @@ fewest_good lines count bytes is = (is.points, is.rows, is.witnesses, is.lines_a
 reason_good : (lines : List (List ℕ)) (reason : AReason) → ShowsReason lines reason → AreGoodLines lines
 reason_good lines reason is = (is.points, is.rows, is.witnesses, is.lines_are)
 
--- lines that show so many rows to be the fewest have no other end, except out of memory
+-- lines that show this many rows to be the fewest have no other end, except out of memory
 pub ends_fewest : (text : List ℕ) (count bytes : ℕ) (end : CheckEnd) → ShowsFewest (lines_of text) count bytes
     → MayEnd text end → (end ≡ Fewest count bytes) ⊎ (end ≡ NoMemory)
 ends_fewest text count bytes (Fewest n k) is may = inl (fewest_once (lines_of text) n count k bytes may is)

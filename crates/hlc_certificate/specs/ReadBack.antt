@@ -21,15 +21,15 @@ PrintedIsRead = (points : List ℕ) (rows : List ARow) (witnesses : List AWitnes
     → AllByRecursion HasCheckLine (all_said points rows witnesses)
     → AreLinesOf points rows witnesses (lines_of (certificate_text points rows witnesses))
 
--- A check of the text, where it is not too long and no read failed, answers that so many rows are the fewest and cost
--- so much; or it reports out of memory.
+-- A check of the text, where it is not too long and no read failed, answers that this many rows are the fewest, and
+-- that this is their cost; or it reports out of memory.
 abbrev pub IsAnsweredFewest : List ℕ → ℕ → ℕ → Type 0
 IsAnsweredFewest text count bytes =
     length text ≤ INPUT_LIMIT → (end : CheckEnd) → MayAnswer text end → end ≢ NotLoaded ReadFault
     → (end ≡ Fewest count bytes) ⊎ ReportsNoMemory end
 
--- A check of the text in memory, however long it is, ends with this: so many rows are the fewest and cost so much; or
--- with out of memory.
+-- A check of the text in memory, however long it is, ends with this: this many rows are the fewest, and this is their
+-- cost; or with out of memory.
 abbrev pub EndsFewest : List ℕ → ℕ → ℕ → Type 0
 EndsFewest text count bytes = (end : CheckEnd) → MayEnd text end → (end ≡ Fewest count bytes) ⊎ (end ≡ NoMemory)
 

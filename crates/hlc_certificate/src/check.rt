@@ -19,8 +19,8 @@ use std::io::{Read, Write};
 /// How a check ended.
 #[derive(Clone, Copy, Debug, PartialEq, Eq)]
 pub enum CheckEnd {
-    /// The rows, so many, are the fewest that give the same answers at the points, and their bytes, so many, are the
-    /// least.
+    /// The rows, `count` of them, are the fewest that give the same answers at the points, and `bytes` is the least
+    /// cost.
     Fewest { count: u64, bytes: u128 },
     /// The witnesses do not show that the rows are the fewest.
     NotShown(NotShown),

@@ -45,7 +45,7 @@ impl Checked {
         Ok(Checked { head, table })
     }
 
-    /// Does the same by value: the rows are moved. A refused checkpoint is lost.
+    /// Checks a checkpoint as `copy_of` does, and moves its parts and its rows. A refused checkpoint is lost.
     pub fn of(alloc: Global, checkpoint: Checkpoint) -> Result<Checked, RestoreFault>
         ensures { Restores checkpoint result }
     {

@@ -192,8 +192,8 @@ impl Checkpoint {
         self.links.as_slice()
     }
 
-    /// Returns the greatest head: the greatest stamp of an accepted item, or of the start of a node that joined. It is
-    /// computed.
+    /// Returns the greatest head: the greatest stamp of an accepted item, or of the start of a node that joined. It
+    /// looks at each link.
     pub fn top(&self) -> Stamp
         ensures value { result ≡ self.now.top }
         ensures greatest { result ≡ greatest_head self.now.links }
@@ -201,8 +201,8 @@ impl Checkpoint {
         greatest_head(self.links.as_slice())
     }
 
-    /// Returns the floor: the least head of the nodes that have not retired, or the greatest head if all have. It is
-    /// computed.
+    /// Returns the floor: the least head of the nodes that have not retired, or the greatest head if all have. It looks
+    /// at each link.
     pub fn floor(&self) -> Stamp
         ensures { result ≡ floor_in self.now }
     {

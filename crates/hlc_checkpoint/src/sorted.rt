@@ -24,7 +24,8 @@ enum Side {
     Above(Stamp),
 }
 
-/// Returns copies of the rows at or below a stamp, by key, stamp and node.
+/// Returns copies of the rows at or below a stamp, by key, stamp and node. It goes through all rows, and sorts the
+/// copies. It needs memory for them, and 16 bytes for each leaf of the index.
 pub fn sorted_rows_to(alloc: Global, table: &Table, bound: Stamp) -> Result<Vec<Row>, NoMemory>
     ensures { IfOk result (λ listed. AreRowsTo table.now bound listed.items) }
 {
@@ -34,7 +35,7 @@ pub fn sorted_rows_to(alloc: Global, table: &Table, bound: Stamp) -> Result<Vec<
     Ok(listed)
 }
 
-/// Returns copies of the rows above a stamp, by key, stamp and node.
+/// Returns copies of the rows above a stamp, by key, stamp and node, as `sorted_rows_to` returns those up to it.
 pub fn sorted_rows_above(alloc: Global, table: &Table, bound: Stamp) -> Result<Vec<Row>, NoMemory>
     ensures { IfOk result (λ listed. AreRowsAbove table.now bound listed.items) }
 {
@@ -44,7 +45,7 @@ pub fn sorted_rows_above(alloc: Global, table: &Table, bound: Stamp) -> Result<V
     Ok(listed)
 }
 
-/// Returns copies of all rows, by key, stamp and node.
+/// Returns copies of all rows, by key, stamp and node, as `sorted_rows_to` returns those up to a stamp.
 pub fn sorted_rows(alloc: Global, table: &Table) -> Result<Vec<Row>, NoMemory>
     ensures same { IfOk result (λ listed. IsPermutation table.now listed.items) }
     ensures ascend { IfOk result (λ listed. RowsAscend listed.items) }

@@ -127,8 +127,8 @@ impl<'a> StoreRef<'a> {
         Ok(Leaves { list })
     }
 
-    /// Returns the columns of the first keys above a key, at most so many, in byte order. It looks up the key, and
-    /// needs memory for each column, and none for a row.
+    /// Returns the columns of the first keys above a key, at most `most` columns, in byte order. It looks up the key,
+    /// and needs memory for each column, and none for a row.
     pub fn columns_after(&self, key: &[u8], most: usize) -> Result<Vec<Keyed<'a>>, NoMemory>
         requires { AreInLimits self.now.rows }
         ensures next { IfOk result (λ columns. AreNext self.now.rows key.now most columns.items) }
@@ -138,7 +138,8 @@ impl<'a> StoreRef<'a> {
         Ok(columns)
     }
 
-    /// Makes a checkpoint of copies of the links and of the open snapshots, and of these rows.
+    /// Makes a checkpoint of this state with these rows: it copies the links and the open snapshots, and moves the
+    /// rows. If memory runs out, the rows are lost.
     pub fn with_rows(&self, alloc: Global, rows: Vec<Row>) -> Result<Checkpoint, NoMemory>
         ensures same { IfOk result
             (λ made. made ≡ with_rows_left self.now made.rows self.now.horizon) }

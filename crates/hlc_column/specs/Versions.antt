@@ -56,7 +56,7 @@ versions_left cells from to last = newest_first (filter (is_left from to last) c
 abbrev pub IsNoNewer : Cell → Cell → Type 0
 IsNoNewer a b = (a.stamp < b.stamp) ⊎ ((a.stamp ≡ b.stamp) × (a.node ≤ b.node))
 
--- of the first so many cells, the newest that is still to come
+-- of the first `count` cells, the newest that is still to come
 abbrev pub IsNewestLeft : ℕ → ℕ → Option (ℕ × ℕ) → List Cell → ℕ → Option ℕ → Type 0
 IsNewestLeft from to last cells count None =
     (i : ℕ) (cell : Cell) → i < count → slice_get cells i ≡ Some cell → is_left from to last cell ≡ true → ⊥

@@ -33,6 +33,7 @@ impl Model for Column {
 }
 
 impl Column {
+    /// Returns a column without rows. It allocates nothing.
     pub fn new(alloc: Global) -> Column
         ensures { result ≡ [] }
     {

@@ -56,7 +56,7 @@ impl<const N: usize> Lists<N> {
         }
     }
 
-    /// Returns lists without a row, with room for so many.
+    /// Returns lists without a row, with room for this many.
     pub(crate) fn with_room(alloc: Global, count: usize) -> Result<Lists<N>, NoMemory>
         ensures cells { IfOk result (λ lists. lists.cells ≡ []) }
         ensures room { IfOk result (λ lists. count ≤ lists.room) }

@@ -84,7 +84,7 @@ abbrev pub last_key : List ℕ → List KeyCells → List ℕ
 last_key key [] = key
 last_key key (one ∷ columns) = last_key one.key columns
 
--- where a part of at most so many columns ends: at its last key, or nowhere if it has fewer columns, since no key is
+-- where a part of at most this many columns ends: at its last key, or nowhere if it has fewer columns, since no key is
 -- left
 abbrev pub part_end : List ℕ → ℕ → List KeyCells → Option (List ℕ)
 part_end key most columns = if nat_lt (length columns) most then None else Some (last_key key columns)
@@ -98,7 +98,7 @@ is_upto (Some last) key = not (is_gt (slice_cmp nat_cmp key last))
 abbrev pub in_part : List ℕ → Option (List ℕ) → List ℕ → Bool
 in_part from to key = is_gt (slice_cmp nat_cmp key from) && is_upto to key
 
--- the columns of the first keys above a key, at most so many
+-- the columns of the first keys above a key, at most this many
 pub record AreNext (rows : List Row) (key : List ℕ) (most : ℕ) (columns : List KeyCells) : Type 0 where
   pub few : length columns ≤ most
   pub ascend : KeysAscend columns

@@ -14,7 +14,7 @@ use hlc_index::Index;
 use hlc_values::NoMemory;
 use std::alloc::Global;
 
-/// Returns the first columns whose keys are above a key, at most so many, each with its key.
+/// Returns the first columns whose keys are above a key, at most this many, each with its key.
 pub(crate) fn columns_above<'a>(
     alloc: Global,
     columns: &'a Index<Rows>,
@@ -42,7 +42,7 @@ fn walk_above<'a>(columns: &'a Index<Rows>, key: &[u8]) -> Walk<'a>
     walk
 }
 
-/// Returns the next columns of a walk, at most so many.
+/// Returns the next columns of a walk, at most this many.
 fn take_columns<'a>(
     alloc: Global,
     walk: &mut Walk<'a>,

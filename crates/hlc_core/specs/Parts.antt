@@ -39,14 +39,14 @@ pub record Trims (old new : StoreView) (at : ℕ) (past : List Step) (is_of : Li
   pub dropped : report.dropped + length new.rows ≡ length old.rows
   pub fewest : LeavesFewest (rows_of_keys is_of new.rows) (rows_of_keys is_of (writes past)) report
 
--- a part of the stored rows, of the first keys above one, at most so many, ends at this key; or nowhere, if there is no
--- key above it
+-- a part of the stored rows, of the first keys above one, at most this many, ends at this key; or nowhere, if there is
+-- no key above it
 pub record EndsAt (kept : StoreView) (after : List ℕ) (most : ℕ) (end : Option (List ℕ)) : Type 0 where
   pub columns : List KeyCells
   pub next : AreNext kept.rows after most columns
   pub is : end ≡ part_end after most columns
 
--- part of a vacuum to the stamp took place, of the first keys above one, at most so many, and where it ended is
+-- part of a vacuum to the stamp took place, of the first keys above one, at most this many, and where it ended is
 -- returned; or it was refused
 abbrev pub VacuumsPart
     : StoreView → StoreView → ℕ → List ℕ → ℕ → List Step

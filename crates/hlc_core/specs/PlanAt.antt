@@ -19,7 +19,7 @@ pub record IsTallyAt (kept : StoreView) (at : ℕ) (tally : TallyView) : Type 0 
   pub planned : IsPlanAt kept at plan
   pub is : tally ≡ tally_of plan
 
--- the plan was made of the stored rows of the first keys above one, at most so many, at these stamps
+-- the plan was made of the stored rows of the first keys above one, at most this many, at these stamps
 pub record IsPartPlanAt (kept : StoreView) (at : ℕ) (after : List ℕ) (most : ℕ) (part : PartPlan) : Type 0 where
   pub made : IsPartOf part kept.rows after most
   pub points : ArePoints (stamps_to at kept.snapshots) at part.plan.points

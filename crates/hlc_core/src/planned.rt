@@ -78,7 +78,7 @@ impl Core {
         }
     }
 
-    /// Does the same, but several threads plan a whole vacuum.
+    /// Plans what an event asks for as `planned` does, but several threads plan a whole vacuum.
     pub fn planned_parallel(
         &self,
         rt: &(impl Threads + Sync),

@@ -33,7 +33,7 @@ impl Core {
         }
     }
 
-    /// Does the same with a borrowed event.
+    /// Takes a borrowed event as `step` takes one.
     pub fn step_ref(&mut self, event: &CoreEvent) -> Result<CoreReply, NoMemory>
         ensures represents { (history : List (AnEvent × AReply)) → RepresentsHistory self.old history
             → Steps self.old self.new event.now history result }

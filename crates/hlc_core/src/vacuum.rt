@@ -31,7 +31,7 @@ impl Core {
         Ok(self.carry_out(floor, plan))
     }
 
-    /// Does the same as `vacuum`, but several threads plan the rows. Of several rows it may keep another one.
+    /// Vacuums as `vacuum` does, but several threads plan the rows. Of several rows it may keep another one.
     pub fn vacuum_parallel(&mut self, rt: &(impl Threads + Sync)) -> Result<Report, NoMemory>
         ensures ok { IfOk result
             (λ report. (past : List Step) → Represents self.old past
@@ -44,7 +44,7 @@ impl Core {
         Ok(self.carry_out(floor, plan))
     }
 
-    /// Does the same as `vacuum`, and returns the report twice. All memory is allocated before anything changes.
+    /// Vacuums as `vacuum` does, and returns the report twice. All memory is allocated before anything changes.
     pub fn vacuum_pair(&mut self) -> Result<(Report, Report), NoMemory>
         ensures ok { IfOk result
             (λ reports. (past : List Step) → Represents self.old past
@@ -59,7 +59,8 @@ impl Core {
         Ok((self.carry_out(floor, plan), report))
     }
 
-    /// Does the same as `vacuum_parallel`, and returns the report twice, allocated before anything changes.
+    /// Vacuums as `vacuum_parallel` does, and returns the report twice. All memory is allocated before anything
+    /// changes. If it runs out, nothing is changed.
     pub fn vacuum_pair_parallel(
         &mut self,
         rt: &(impl Threads + Sync),
@@ -77,7 +78,7 @@ impl Core {
         Ok((self.carry_out(floor, plan), report))
     }
 
-    /// Does the same as `vacuum`, and returns the numbers of the report alone. The changes are counted and not listed,
+    /// Vacuums as `vacuum` does, and returns the numbers of the report alone. The changes are counted and not listed,
     /// so it needs no memory for them.
     pub fn vacuum_counted(&mut self) -> Result<Numbers, NoMemory>
         ensures ok { IfOk result
@@ -108,7 +109,7 @@ impl Core {
         Ok(self.carry_out(at, plan))
     }
 
-    /// Does the same as `vacuum_to`, and returns the numbers of the report alone, as `vacuum_counted` does.
+    /// Vacuums as `vacuum_to` does, and returns the numbers of the report alone, as `vacuum_counted` does.
     pub fn vacuum_to_counted(&mut self, at: Stamp) -> Result<Numbers, CoreFault>
         ensures represents { (past : List Step) → Represents self.old past
             → VacuumsToCounted self.old self.new at past result }

@@ -115,8 +115,8 @@ impl Draft {
         self.count(changes, bytes)
     }
 
-    /// Counts more changes, and the bytes that they force. No memory has so many rows that a sum does not fit; were it
-    /// so, it would count as out of memory.
+    /// Counts more changes, and the bytes that they force. A sum that does not fit counts as out of memory; no memory
+    /// has room for that many rows.
     fn count(&mut self, changes: u64, bytes: u128) -> Result<(), NoMemory>
         ensures keep { OnOk result (self.new.keep ≡ self.old.keep) }
         ensures changes { OnOk result (self.new.changes ≡ self.old.changes + changes) }
@@ -128,7 +128,8 @@ impl Draft {
     }
 }
 
-/// Adds a list to another. If that is empty, the list is moved in its place, and not copied.
+/// Appends a list to another. If that is empty, the list is moved in its place, and not copied. If memory runs out, the
+/// second list is lost.
 pub fn append_list<T: Drop>(list: &mut Vec<T>, mut more: Vec<T>) -> Result<(), NoMemory>
     ensures { OnOk result (list.new.items ≡ list.old.items ++ more.items) }
 {

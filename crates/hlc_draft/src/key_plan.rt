@@ -31,7 +31,7 @@ pub fn plan_key(alloc: Global, column: &Column, points: &[Stamp]) -> Result<KeyP
     plan_lanes(alloc, column.lanes(), points)
 }
 
-/// Does so for the rows themselves.
+/// Plans a vacuum of the rows of one key, as `plan_key` plans that of their column.
 fn plan_lanes(alloc: Global, lanes: Lanes<'_>, points: &[Stamp]) -> Result<KeyPlan, NoMemory>
     requires { PointsAscend points.now }
     ensures flags { IfOk result (λ plan. (key : List ℕ)

@@ -29,8 +29,8 @@ pub enum CoreEvent {
     JoinAt(Stamp),
     /// Rows up to this stamp that no reader needs any more are dropped.
     VacuumTo(Stamp),
-    /// Part of a vacuum to the stamp: such rows of the first stored keys above `after`, at most so many, are dropped.
-    /// The first part begins with the empty key.
+    /// Part of a vacuum to the stamp: such rows of the first stored keys above `after`, at most `most` keys, are
+    /// dropped. The first part begins with the empty key.
     VacuumPart {
         at: Stamp,
         after: Bytes,

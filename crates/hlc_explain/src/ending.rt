@@ -116,7 +116,7 @@ fn put_check_stop(alloc: Global, sentence: &mut Sentence, text: &[u8]) {
     }
 }
 
-/// Puts why the line behind so many lines is not that of a certificate.
+/// Puts why the line after the first `before` lines is not that of a certificate.
 fn put_bad_line(sentence: &mut Sentence, text: &[u8], before: u64) {
     if let Some(line) = line_behind(text, before) {
         put_line(sentence, before, line);
@@ -124,7 +124,7 @@ fn put_bad_line(sentence: &mut Sentence, text: &[u8], before: u64) {
     }
 }
 
-/// Puts the number of the line behind so many lines, and the line.
+/// Puts the number of the line after the first `before` lines, and the line.
 fn put_line(sentence: &mut Sentence, before: u64, line: &[u8]) {
     sentence.put(b"line ");
     sentence.put_number(before.saturating_add(1));

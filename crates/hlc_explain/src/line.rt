@@ -7,7 +7,7 @@ ghost use Rattle.hlc_script.specs.Line.{event_line, HasLine};
 use hlc_script::read_line;
 use hlc_text::input::first_line;
 
-/// Returns the line behind so many lines, or none where the text has no more lines.
+/// Returns the line after the first `before` lines, or none where the text has no more lines.
 pub fn line_behind(text: &[u8], before: u64) -> Option<&[u8]>
     ensures { MatchOption result (slice_get (lines_of text.now) before ≡ None)
         (λ line. slice_get (lines_of text.now) before ≡ Some line.now) }

@@ -17,7 +17,8 @@ pub extern "C" fn hlc_node_open(id: u16, start: u64) -> NodeCore
     NodeCore::new(id, Stamp::from_bits(start))
 }
 
-/// Returns 0 and the node after a restart; or 105, where no node issued so many items up to that stamp, and a new node.
+/// Returns 0 and the node after a restart; or 105, where no node issued that many items up to that stamp, and a new
+/// node.
 #[unsafe(no_mangle)]
 pub extern "C" fn hlc_node_restore(id: u16, last: u64, next: u64, node: &mut NodeCore) -> u32
     ensures restored { next ≤ last → (result ≡ 0)
@@ -75,7 +76,7 @@ pub extern "C" fn hlc_node_delete(
     hlc_node_calls::write(node, reading, key, None, number, word)
 }
 
-/// Issues one item of so many writes, 1 to 256 of different keys, from their bytes: for each a byte of length and the
+/// Issues one item of `count` writes, 1 to 256 of different keys, from their bytes: for each a byte of length and the
 /// key; and 0 for a deletion, or 1, two bytes of length (big-endian) and the value. Returns 0, its number and its
 /// stamp, or a refusal and its word; before those of the node 29, or 106 and the first fault of the bytes. No memory.
 #[unsafe(no_mangle)]

@@ -3,7 +3,7 @@ use Rattle.std.proofs.Common.{◌≡◌, ◌≤◌, ◌<◌, ◌+◌, ◌-◌, �
 use Rattle.std.proofs.Common.{List, ap, ap₂, arith, take, drop, replicate}
 use Rattle.std.proofs.lemmas.List.{take-replicate, drop-replicate}
 
--- so many set flags, and then so many that are not
+-- a number of set flags, then a number of unset ones
 abbrev pub run : ℕ → ℕ → List Bool
 run set unset = replicate set true ++ replicate unset false
 

@@ -6,7 +6,7 @@ use Rattle.std.specs.Int.{bit_at}
 abbrev pub bit_in : List ℕ → ℕ → Bool
 bit_in words at = nat_eq (bit_at (slice_index_or words (at / 64) 0) (at % 64)) 1
 
--- the bits from a position on, so many
+-- this many bits, from a position on
 abbrev pub bits_in : List ℕ → ℕ → ℕ → List Bool
 bits_in words from zero = []
 bits_in words from (suc count) = bit_in words from ∷ bits_in words (suc from) count

@@ -18,7 +18,7 @@ enum Form<'a> {
     Bytes(&'a [bool]),
     /// The bits from a position on, up to another.
     Bits(&'a [u64], usize, usize),
-    /// So many flags that are set, and then so many that are not.
+    /// A number of set flags, then a number of unset ones.
     Run(usize, usize),
 }
 
@@ -43,7 +43,7 @@ impl<'a> Flags<'a> {
         }
     }
 
-    /// Returns so many set flags, and then so many that are not. It needs no memory.
+    /// Returns `set` flags that are set, and then `unset` flags that are not. It needs no memory.
     pub fn run(set: usize, unset: usize) -> Flags<'a>
         requires { set + unset < 2 ^ 64 }
         ensures { result ≡ replicate set true ++ replicate unset false }
@@ -112,7 +112,7 @@ impl<'a> Flags<'a> {
         count
     }
 
-    /// Returns the first flags, so many, and the others.
+    /// Returns the first `count` flags, and the others.
     pub fn split_at(self, count: usize) -> (Flags<'a>, Flags<'a>)
         requires { count ≤ length self }
         ensures many { length result.0 ≡ count }

@@ -84,7 +84,7 @@ impl FlagList {
         self.set_after(at, 0);
     }
 
-    /// Sets the flag at so many positions after another one.
+    /// Sets the flag that is `place` positions after another one.
     pub fn set_after(&mut self, from: usize, place: usize)
         requires { from + place < length self.old }
         ensures { self.new ≡ slice_set self.old (from + place) true }

@@ -6,7 +6,7 @@ ghost use Rattle.hlc_frame.specs.Opening.{Reads};
 
 use hlc_wire::WireFault;
 
-/// Reads the number in the first four bytes.
+/// Reads the number in the first four bytes, and returns it with the bytes after them. `Short` if there are fewer.
 pub fn u32_at(bytes: &[u8]) -> Result<(u32, &[u8]), WireFault>
     ensures { Reads (λ x. (x.0, x.1.now)) result (number_at w32 bytes.now) }
 {
@@ -18,7 +18,7 @@ pub fn u32_at(bytes: &[u8]) -> Result<(u32, &[u8]), WireFault>
     Ok((number, rest))
 }
 
-/// Reads the number in the first eight bytes.
+/// Reads the number in the first eight bytes, and returns it with the bytes after them. `Short` if there are fewer.
 pub fn u64_at(bytes: &[u8]) -> Result<(u64, &[u8]), WireFault>
     ensures { Reads (λ x. (x.0, x.1.now)) result (number_at w64 bytes.now) }
 {

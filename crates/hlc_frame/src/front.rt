@@ -24,7 +24,8 @@ pub struct Front {
     pub word: u64,
 }
 
-/// Reads the front at the start of some bytes, and returns it with the bytes after it.
+/// Reads the front at the start of some bytes, and returns it with the bytes after it; or `Short` without four bytes,
+/// then `Version`, then `Short`.
 #[tactic(auto, unfolding(crate::specs::Opening::front_at))]
 pub fn front_at(bytes: &[u8]) -> Result<(Front, &[u8]), WireFault>
     ensures { Reads (λ x. (x.0, x.1.now)) result (front_at bytes.now) }

@@ -28,7 +28,7 @@ module _ (R : RattleType) (L : Laws R) (at : Ptr) (value : R.Denot) where
   abbrev pub Reads : ℕ → Fml
   Reads a = fsep (part 63 a) (lent_at R at value (a ∷ []))
 
-  -- what is left while there are so many readers
+  -- what is left while there are this many readers
   abbrev pub Lent : ℕ → ℕ → Fml
   Lent a n = fsep (rest 63 a n) (flent (a ∷ []) Owned)
 

@@ -70,7 +70,7 @@ word_good : (p : Ptr) → T (has_ty ty_ptr (ptr_val p)) × WT (ptr_val p)
 word_good (block_ptr b o) = (tt, tt)
 word_good null_ptr = (tt, record { fits = lit< tt })
 
--- the code of a function with so many parameters among its locals
+-- the code of a function with this many parameters among its locals
 abbrev code : ℕ → List Local → Body → Fn
 code n locals body = record {
   lifetimes = 0;

@@ -7,14 +7,14 @@ use Rattle.hlc_saved.specs.declared.savings.Saver.{Saver}
 use Rattle.hlc_saved.specs.Saved.{AreOfStore}
 use Rattle.hlc_saved.specs.Saver.{HasMade, mark_of}
 
--- it has begun, nothing was read, and it will be so many bytes; or it did not start, out of memory; one that was under
--- way goes on
+-- it has begun, nothing was read, and it will be this many bytes; or it did not start, out of memory; one that was
+-- under way goes on
 abbrev pub HasBegun : Option Saver → Option Saver → ℕ → StoreView → ℕ → ℕ → Type 0
 HasBegun (Some before) new word core code len = (code ≡ 119) × (len ≡ 0) × (new ≡ Some before)
 HasBegun None new word core code len = MatchOption new ((code ≡ 15) × (len ≡ 0))
     (λ saver. (code ≡ 0) × (len ≡ length (saved_bytes word core)) × HasMade saver word core [])
 
--- so many bytes are at the start of the buffer, whose other bytes are as they were
+-- this many bytes are at the start of the buffer, whose other bytes are as they were
 abbrev pub AreWritten : ℕ → List ℕ → List ℕ → Type 0
 AreWritten len old out = (len ≤ length old) × (drop len out ≡ drop len old)
 

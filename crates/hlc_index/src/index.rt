@@ -226,7 +226,7 @@ impl<V: Drop> Index<V> {
         self.leaves.put(at, slot, entry, head)
     }
 
-    /// Lends the value at a slot of a leaf for a change.
+    /// Lends the value of an entry for a change. The leaf and the slot must exist.
     pub fn value_mut(&mut self, at: usize, slot: usize) -> &mut V
         requires leaf { at < length self.old }
         requires inside { slot < length (slice_index_or self.old at []) }

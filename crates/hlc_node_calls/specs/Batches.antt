@@ -11,6 +11,6 @@ abbrev pub coded : Result (List Write) WireFault → Result (List Write) (ℕ ×
 coded (Ok writes) = Ok writes
 coded (Err fault) = Err (106, fault_code fault)
 
--- so many writes from all of the bytes; or the number of the refusal and its word: 29 and 0 for more than 256
+-- this many writes from all of the bytes; or the number of the refusal and its word: 29 and 0 for more than 256
 abbrev pub batch_in : ℕ → List ℕ → Result (List Write) (ℕ × ℕ)
 batch_in count bytes = if nat_lt MOST_WRITES count then Err (29, 0) else coded (whole (writes_at count bytes))

@@ -78,7 +78,7 @@ pub struct BadBatch {
     pub word: u64,
 }
 
-/// Returns so many writes from all of the bytes: for each a byte of length and the key; and 0 for a deletion mark, or
+/// Returns this many writes from all of the bytes: for each a byte of length and the key; and 0 for a deletion mark, or
 /// 1, two bytes of length (big-endian) and the value. Or returns 29 for more than 256, or 106 and the first fault.
 pub fn batch_of(count: usize, bytes: &[u8]) -> Result<Writes<'_>, BadBatch>
     ensures { MatchResult result (λ writes. batch_in count bytes.now ≡ Ok writes)

@@ -21,7 +21,7 @@ part_bytes false pair = pair_bytes pair
 abbrev pub parts_bytes : {X : Type 0} → (X → List ℕ) → List X → List ℕ
 parts_bytes part items = flat_map part items
 
--- after so many bytes: no item is left, and the answer is 0; or the next one does not fit, and it is 104
+-- after this many bytes: no item is left, and the answer is 0; or the next one does not fit, and it is 104
 abbrev pub IsEnd : {X : Type 0} → (X → List ℕ) → List X → ℕ → ℕ → ℕ → Type 0
 IsEnd part [] len room code = code ≡ 0
 IsEnd part (item ∷ items) len room code = (code ≡ 104) × (room < len + length (part item))

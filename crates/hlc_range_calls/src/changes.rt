@@ -10,7 +10,7 @@ use crate::list::{put_answer, put_sized};
 use crate::scan::end;
 use hlc_core::{Changes, Core};
 
-/// Returns whether a key fits in so many bytes with its answer.
+/// Returns whether a key fits in this many bytes with its answer.
 fn fits(room: usize, key: &[u8], value: Option<&[u8]>) -> bool
     ensures { result ≡ nat_le (length (change_bytes (key.now, option_copied value.entry))) room }
 {

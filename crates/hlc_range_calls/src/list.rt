@@ -24,7 +24,7 @@ fn listing_len(answers: Answers<'_>) -> Option<usize>
     Some(len)
 }
 
-/// Writes bytes to a place of a buffer, and returns the place after them.
+/// Writes bytes to a place of a buffer, and returns the place after them. They must fit there.
 pub fn put(out: &mut [u8], at: usize, bytes: &[u8]) -> usize
     requires { at + length bytes.now ≤ length out.now }
     ensures end { result ≡ at + length bytes.now }

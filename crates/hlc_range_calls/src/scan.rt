@@ -9,7 +9,7 @@ ghost use Rattle.hlc_range_calls.specs.Scan.{end_of, part_bytes, ReturnsFitting,
 use crate::list::{put_pair, put_sized};
 use hlc_core::{Answers, Core};
 
-/// Returns whether a key fits in so many bytes, alone or with its value.
+/// Returns whether a key fits in this many bytes, alone or with its value.
 #[tactic(auto, using(crate::proofs::ByteLemmas::pair_length))]
 pub(crate) fn fits(room: usize, alone: bool, key: &[u8], value: &[u8]) -> bool
     ensures { result ≡ nat_le (length (part_bytes alone (key.now, value.now))) room }

@@ -61,8 +61,8 @@ impl Division {
         })
     }
 
-    /// Divides the keys over so many stores by their hash: FNV-1a of 64 bits, modulo the number of stores. Returns none
-    /// if there are no stores, or more than 1,024.
+    /// Divides the keys over this many stores by their hash: FNV-1a of 64 bits, modulo the number of stores. Returns
+    /// none if there are no stores, or more than 1,024.
     pub fn by_hash(stores: usize) -> Option<Division>
         ensures ok { IfSome result (λ division. division ≡ ByHash stores) }
         ensures none { IfNone result ((stores ≡ 0) ⊎ (MOST_STORES < stores)) }

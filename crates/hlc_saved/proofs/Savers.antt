@@ -227,8 +227,8 @@ either a b c d so = elim (cases_eq a b) [
   ]
 ]
 
--- What the reading has done so far, after some turns: so many bytes are in the buffer, which are the next ones; it goes
--- on while it is not full, and all that was made is read.
+-- What the reading has done so far, after some turns: this many bytes are in the buffer, which are the next ones; it
+-- goes on while it is not full, and all that was made is read.
 pub record Reads (core : StoreView) (first now : Saver) (old new : List ℕ) (len all' turns : ℕ) : Type 0 where
   pub room : all' ≡ length old
   pub within : len ≤ all'
@@ -239,7 +239,7 @@ pub record Reads (core : StoreView) (first now : Saver) (old new : List ℕ) (le
   pub some : 0 < turns → 0 < len
   pub fresh : len ≡ 0 → (now ≡ first) × (new ≡ old)
 
--- so many of the bytes that were made are read
+-- this many of the bytes that were made are read
 pub takes : (core : StoreView) (first mid now : Saver) (old out new : List ℕ) (len room n turns : ℕ)
     → room ≡ length old → len ≤ room → length out ≡ length old → drop len out ≡ drop len old
     → n ≡ min (length (drop mid.at mid.made.items)) (length out - len)

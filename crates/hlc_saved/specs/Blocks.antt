@@ -18,7 +18,7 @@ use Rattle.hlc_body.specs.Reading.{row_at, times_at, preamble_at, checkpoint_at}
 abbrev pub Reader : Type 0
 Reader = List ℕ → Result (StoreView × List ℕ) WireFault
 
--- so many more rows, after those of the checkpoint so far
+-- this many more rows, after those of the checkpoint so far
 unfoldable pub rows_after : StoreView → ℕ → Reader
 rows_after kept left bytes = do
   others ← times_at row_at left bytes

@@ -33,7 +33,7 @@ pub record IsAudited (core : StoreView) (trail : List Entry) (calls : ℕ) : Typ
   pub represents : RepresentsHistory core (history_of trail)
   pub counted : length trail ≡ calls
 
--- the core represents a history of so many calls
+-- the core represents a history of this many calls
 pub record HasHistory (core : StoreView) (calls : ℕ) : Type 0 where
   pub history : List (CoreEvent × CoreReply)
   pub represents : RepresentsHistory core history

@@ -29,7 +29,7 @@ pub fn step_guarded<L: Ledger>(
     (caller, returned)
 }
 
-/// Does the same for a vacuum, which several threads plan.
+/// Makes the call of a vacuum as `step_guarded` does, but several threads plan it.
 pub fn vacuum_guarded<L: Ledger>(
     rt: &(impl Threads + Sync),
     guarded: &mut Guarded<L>,
@@ -59,7 +59,7 @@ impl<L: Ledger> Guarded<L> {
         }
     }
 
-    /// Does the same, but several threads plan a vacuum.
+    /// Makes a call as `call` does, but several threads plan a vacuum.
     pub(crate) fn call_by_threads(
         &mut self,
         rt: &(impl Threads + Sync),

@@ -45,7 +45,7 @@ impl<L: Ledger> Model for Guarded<L> {
 }
 
 impl<L: Ledger> Guarded<L> {
-    /// Returns a new core of so many nodes and its callers, who are numbered from 0, with no lock around it. With
+    /// Returns a new core of this many nodes and its callers, who are numbered from 0, with no lock around it. With
     /// `audit`, a trail is kept.
     ///
     /// Refused, in this order: not 1 to 64 nodes; out of memory.

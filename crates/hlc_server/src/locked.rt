@@ -10,7 +10,7 @@ use hlc_core::CoreEvent;
 use std::sync::ledger::Ledger;
 use std::thread::Threads;
 
-/// What a lock protects, with so many trails, 0 or 1. Code that takes the lock knows no more about that than its type
+/// What a lock protects, with this many trails, 0 or 1. Code that takes the lock knows no more about that than its type
 /// says.
 #[derive(Drop)]
 pub(crate) struct Locked<L: Ledger, const TRAILS: usize> {
@@ -28,7 +28,7 @@ impl<L: Ledger, const TRAILS: usize> Locked<L, TRAILS> {
         self.guarded.call(caller, event)
     }
 
-    /// Does the same, but several threads plan a vacuum.
+    /// Makes a call as `call` does, but several threads plan a vacuum.
     pub(crate) fn call_by_threads(
         &mut self,
         rt: &(impl Threads + Sync),

@@ -40,7 +40,7 @@ impl<L: Ledger> Model for Shared<L> {
 }
 
 impl<L: Ledger> Shared<L> {
-    /// Returns a new core of so many nodes under a lock, and its callers, who are numbered from 0. With `audit`, a
+    /// Returns a new core of this many nodes under a lock, and its callers, who are numbered from 0. With `audit`, a
     /// trail is kept: each call costs one more copy of its event and its reply.
     ///
     /// Refused, in this order: not 1 to 64 nodes; out of memory.
@@ -93,7 +93,7 @@ impl<L: Ledger> Shared<L> {
         }
     }
 
-    /// Does the same, but several threads plan a vacuum. The store is locked for the whole call.
+    /// Makes a call as `call` does, but several threads plan a vacuum. The store is locked for the whole call.
     pub fn call_by_threads<R: Wait + Threads + Sync>(
         &self,
         rt: &R,

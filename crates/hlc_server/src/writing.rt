@@ -33,7 +33,7 @@ pub(crate) fn make_call(
     }
 }
 
-/// Does the same, but several threads plan a whole vacuum.
+/// Makes a call as `make_call` does, but several threads plan a whole vacuum.
 pub(crate) fn plan_call(
     rt: &(impl Threads + Sync),
     core: &mut Core,

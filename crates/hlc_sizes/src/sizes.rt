@@ -28,7 +28,7 @@ impl Sizes {
         }
     }
 
-    /// Returns the sums of both.
+    /// Returns the sums of these sizes and the others. They must fit.
     pub fn plus(self, other: Sizes) -> Sizes
         requires { Fit (plus self other) }
         ensures { result ≡ plus self other }
@@ -41,7 +41,7 @@ impl Sizes {
         }
     }
 
-    /// Returns the differences.
+    /// Returns these sizes less the others, which must be part of them.
     pub fn minus(self, other: Sizes) -> Sizes
         requires { IsPart other self }
         ensures { result ≡ minus self other }
@@ -81,7 +81,7 @@ impl Sizes {
     }
 }
 
-/// Returns the bytes of a value. A deletion mark has none.
+/// Returns how many bytes a value has: none for a deletion mark.
 pub fn length_of(value: Option<&[u8]>) -> usize
     ensures { result ≡ value_bytes (option_copied value.entry) }
 {

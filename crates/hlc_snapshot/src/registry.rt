@@ -151,7 +151,7 @@ impl Registry {
     }
 
     /// Returns the points of a vacuum to this stamp: the distinct stamps of the open snapshots at or below it, and the
-    /// stamp itself, ascending, so that it is the last.
+    /// stamp itself, ascending, so that it is the last. It needs memory for them.
     pub fn points(&self, at: Stamp) -> Result<Vec<Stamp>, NoMemory>
         ensures points { IfOk result
             (λ points. ArePoints (stamps_to at self.now.snapshots) at points.items) }

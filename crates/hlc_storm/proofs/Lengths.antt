@@ -1,4 +1,4 @@
--- Lengths: a list is one longer than what is left where its last element is removed, and a board of so many nodes has
+-- Lengths: a list is one longer than what is left where its last element is removed, and a board of this many nodes has
 -- as many feeders.
 use Rattle.std.proofs.Common.{◌≡◌, ◌∙◌, ℕ, zero, suc, ◌+◌, List, [], ◌∷◌, ◌++◌, length, ap, refl, arith, length-append}
 use Rattle.atomic_table.specs.Seated.{TableId}

@@ -20,12 +20,12 @@ value_text node number = decimal node ++ (codes "." ++ decimal number)
 abbrev pub stamp_at : ℕ → ℕ
 stamp_at reading = COUNTER_BOUND * reading
 
--- a node's write of this number, over so many keys: it is made at the reading after its number
+-- a node's write of this number, over this many keys: it is made at the reading after its number
 abbrev pub write_item : ℕ → ℕ → ℕ → Item
 write_item keys node number =
     an_item node number (stamp_at (number + 1)) (Write (key_text (number % keys)) (Some (value_text node number)))
 
--- a node's report after so many writes
+-- a node's report after this many writes
 abbrev pub report_item : ℕ → ℕ → Item
 report_item node writes = an_item node writes (stamp_at (writes + 1)) Report
 
@@ -37,6 +37,6 @@ write_items keys node count = map (write_item keys node) (range_with_len 0 count
 abbrev pub items_of : StormPlan → ℕ → List Item
 items_of plan node = write_items plan.keys node plan.writes ++ report_item node plan.writes ∷ []
 
--- a node that made so many writes
+-- a node that made this many writes
 abbrev pub after_writes : ℕ → ℕ → NodeView
 after_writes node count = record { id = node; last = stamp_at count; next = count; retired = false }

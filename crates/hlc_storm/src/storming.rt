@@ -82,7 +82,8 @@ fn storm_in<
 }
 
 /// Does the work of a storm. Returns what was under the lock of its store, and the receipts by caller, one list for
-/// each.
+/// each; or the refusal of the first worker that is not done, or out of memory where the store, a link or a thread was
+/// not made.
 pub fn work<
     L: Ledger + Send + Sync,
     F: Gate + Sync,

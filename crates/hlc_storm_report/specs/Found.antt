@@ -15,7 +15,7 @@ use Rattle.hlc_storm_report.specs.declared.report.StormFault.{StormFault}
 use Rattle.hlc_storm_report.specs.declared.report.StormFault.TheVariants.{Work, Settle}
 use Rattle.hlc_server.specs.declared.end.WorkEnd.TheVariants.{Done}
 
--- For a past of a core with so many nodes: the number of accepted items of each node of the plan, the floor, the keys
+-- For a past of a core with this many nodes: the number of accepted items of each node of the plan, the floor, the keys
 -- that have a value there, with the newest accepted one, and the rows that a vacuum to the floor keeps, made after the
 -- snapshot of the listing is closed.
 pub record IsFoundIn (plan : StormPlan) (nodes : ℕ) (past : List Step) (report : StormReport) : Type 0 where

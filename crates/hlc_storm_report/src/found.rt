@@ -24,7 +24,7 @@ pub fn report_of(alloc: Global, core: Core, plan: StormPlan) -> Result<StormRepo
     found_in(alloc, &mut core, plan)
 }
 
-/// Does the same, and keeps the core.
+/// Returns what a core contains, and vacuums it. Refused where it runs out of memory.
 fn found_in(alloc: Global, core: &mut Core, plan: StormPlan) -> Result<StormReport, StormFault>
     ensures found { IfOk result
         (λ report. (past : List Step) → Represents core.old past
@@ -79,7 +79,7 @@ fn kept_by_vacuum(core: &mut Core) -> Result<u64, StormFault>
     }
 }
 
-/// Returns how many items of each of so many nodes the core accepted.
+/// Returns how many items of each of this many nodes the core accepted.
 fn counts_of(alloc: Global, core: &Core, count_of_nodes: u16) -> Result<Vec<u64>, StormFault>
     ensures counts { IfOk result (λ counts. (past : List Step) → Represents core.now past
         → counts.items ≡ map (λ node. count node past) (range_with_len 0 count_of_nodes)) }

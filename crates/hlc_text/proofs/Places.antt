@@ -1,4 +1,4 @@
--- The first byte of some value among the next so many, found by counting those before it, is the first one in the text.
+-- The first byte of some value among the next ones, found by counting those before it, is the first one in the text.
 use Rattle.std.proofs.Common.{◌≡◌, ℕ, ◌+◌, ◌<◌, ◌≤◌, ◌∙◌, sym, List, length, get_or, arith, eqb, eq-eqb, inl, inr, not}
 use Rattle.std.specs.List.{prefix_len}
 use lib.Lanes.{chunk}

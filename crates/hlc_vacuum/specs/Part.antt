@@ -29,7 +29,7 @@ HaveFlags (key ∷ keys) flags rows =
     × HaveFlags keys (drop (length (rows_with key rows)) flags)
     (rows_kept key (take (length (rows_with key rows)) flags) rows)
 
--- The part has the plan of the columns of the first keys above one, at most so many, with these keys and where they
+-- The part has the plan of the columns of the first keys above one, at most this many, with these keys and where they
 -- end.
 pub record IsPartOf (part : PartPlan) (rows : List Row) (after : List ℕ) (most : ℕ) : Type 0 where
   pub columns : List KeyCells

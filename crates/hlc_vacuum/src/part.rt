@@ -34,8 +34,8 @@ pub struct PartTally {
     pub end: Option<Bytes>,
 }
 
-/// Plans a vacuum of the first keys above a key, at most so many, at ascending points, as `plan_table` does for all. It
-/// reads no other columns, and changes nothing.
+/// Plans a vacuum of the first keys above a key, at most `most` keys, at ascending points, as `plan_table` does for
+/// all. It reads no other columns, and changes nothing.
 pub fn plan_part(
     alloc: Global,
     table: &Table,
@@ -56,7 +56,7 @@ pub fn plan_part(
     Ok(PartPlan { plan, keys, end })
 }
 
-/// Does the same, and counts the changes in place of listing them.
+/// Plans a vacuum of the first keys as `plan_part` does, but counts the changes in place of listing them.
 pub fn tally_part(
     alloc: Global,
     table: &Table,
@@ -87,7 +87,7 @@ fn copy_keys(alloc: Global, columns: &[Keyed<'_>]) -> Result<Vec<Bytes>, NoMemor
     Ok(keys)
 }
 
-/// Returns a copy of the last of the keys, or of `after` if there are none; or none if they are fewer than so many.
+/// Returns a copy of the last of the keys, or of `after` if there are none; or none if they are fewer than `most`.
 fn end_of(
     alloc: Global,
     after: &[u8],
@@ -120,7 +120,8 @@ pub fn apply_part(table: &mut Table, part: PartPlan) -> (Report, Option<Bytes>)
     (plan.into_report(numbers), end)
 }
 
-/// Does so with a tally, and returns the numbers of the report of each plan that has this tally.
+/// Carries out the tally of the columns of some keys of this table, and returns the numbers of the report of each plan
+/// that has this tally. All other rows stay. It needs no memory.
 pub fn apply_part_tally(table: &mut Table, part: PartTally) -> (Numbers, Option<Bytes>)
     requires { (after : List ℕ) × (most : ℕ) × IsPartTallyOf part table.old after most }
     ensures vacuumed { (after : List ℕ) (most : ℕ) (plan : PlanView)
@@ -133,7 +134,7 @@ pub fn apply_part_tally(table: &mut Table, part: PartTally) -> (Numbers, Option<
     (apply_to_keys(table, keys.as_slice(), &tally), end)
 }
 
-/// Does so for these keys.
+/// Carries out a tally of the columns of these keys, and returns the numbers of the report.
 fn apply_to_keys(table: &mut Table, keys: &[Bytes], tally: &Tally) -> Numbers
     requires { HaveFlags keys.now tally.now.keep table.old }
     ensures rows { table.new ≡ all_kept keys.now tally.now.keep table.old }

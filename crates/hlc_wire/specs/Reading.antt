@@ -74,7 +74,7 @@ write_at bytes = do
   value ← value_at key.1
   Ok (record { key = key.0; value = value.0 }, value.1)
 
--- so many writes
+-- this many writes
 unfoldable pub writes_at : ℕ → List ℕ → Result (List Write × List ℕ) WireFault
 writes_at zero bytes = Ok ([], bytes)
 writes_at (suc count) bytes = do

@@ -30,7 +30,7 @@ pub(crate) fn batch_at(bytes: &[u8]) -> Result<(Writes<'_>, &[u8]), DecodeError>
     }
 }
 
-/// Returns the bytes after so many writes.
+/// Returns the bytes after this many writes.
 #[tactic(auto, unfolding(crate::specs::Reading::writes_at))]
 fn after_writes(count: usize, bytes: &[u8]) -> Result<&[u8], DecodeError>
     ensures read { Gives (λ rest. (writes_in count bytes.now, rest.now)) result (writes_at count bytes.now) }
@@ -44,7 +44,7 @@ fn after_writes(count: usize, bytes: &[u8]) -> Result<&[u8], DecodeError>
     after_writes(count - 1, rest)
 }
 
-/// Reads so many writes, at most 256, from all of the bytes. Their keys and values are those in the bytes: nothing is
+/// Reads this many writes, at most 256, from all of the bytes. Their keys and values are those in the bytes: nothing is
 /// copied. The error is the first fault from the left.
 pub fn writes_of(count: usize, bytes: &[u8]) -> Result<Writes<'_>, WireFault>
     requires { count ≤ 256 }

@@ -87,7 +87,7 @@ pub record HasLookedFor (before after : FloorPassView) (stamps : List ℕ) : Typ
   pub never_fall : NeverFalls stamps
   pub last : 0 < length stamps → IsLeast before.board.words after.seen (slice_index stamps (length stamps - 1))
 
--- so many rounds, each at a stamp for which the pass has looked
+-- this many rounds, each at a stamp for which the pass has looked
 abbrev pub HasServed : List (List ℕ) → ℕ → FloorPassView → FloorPassView → List Receipt → Type 0
 HasServed keys rounds before after receipts =
     (stamps : List ℕ) × (length stamps ≡ rounds) × AreRounds keys stamps receipts × HasLookedFor before after stamps

@@ -77,7 +77,7 @@ impl<L: Ledger, G: Gate, R: Wait> Session<'_, L, G, R> {
         }
     }
 
-    /// Makes so many rounds, each at the floor of the board that the pass sees then.
+    /// Makes this many rounds, each at the floor of the board that the pass sees then.
     fn make_rounds(
         &mut self,
         board: &Board,
@@ -98,7 +98,7 @@ impl<L: Ledger, G: Gate, R: Wait> Session<'_, L, G, R> {
     }
 }
 
-/// Makes so many rounds. Each looks at the floor of the board, opens a snapshot there, reads each key in turn, and
+/// Makes this many rounds. Each looks at the floor of the board, opens a snapshot there, reads each key in turn, and
 /// closes it. That stamp may be above the floor of the store while a node that joined lags, or it may be below the
 /// horizon (GC threshold): then the round makes one more call, and opens at the floor of the store. A round whose
 /// opening is refused for another reason ends there. The pass must be of this board.

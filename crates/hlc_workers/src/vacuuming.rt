@@ -33,7 +33,7 @@ impl<L: Ledger, G: Gate, R: Wait + Threads + Sync> Session<'_, L, G, R> {
         }
     }
 
-    /// Makes so many vacuums.
+    /// Makes this many vacuums.
     fn vacuum_often(&mut self, times: u64) -> Result<(), WorkEnd>
         ensures { MadeSome (G.may_answer self.old.gate.now) self.old.work self.new.work result
             (λ more. map event_of more ≡ replicate times AnEvent.Vacuum) }
@@ -45,7 +45,7 @@ impl<L: Ledger, G: Gate, R: Wait + Threads + Sync> Session<'_, L, G, R> {
     }
 }
 
-/// Makes so many vacuums, one after another. The gate is asked before each.
+/// Makes this many vacuums, one after another. The gate is asked before each.
 ///
 /// It ends `Done` after the last vacuum, `Held` where the gate answered false, and `Spent` where a vacuum was not made,
 /// or it ran out of memory for the receipt. It returns the receipts so far.

@@ -23,9 +23,9 @@ MomentsAreReported schedule =
 abbrev pub ReadsAreClosed : List (Event × Reply) → Type 0
 ReadsAreClosed schedule = (before : List (Event × Reply)) → IsMoment schedule before → IsClosed before
 
--- All of this is true of a schedule of so many nodes, after which these rows are stored. The store's reads returned the
--- newest accepted values, no answer of a snapshot changed, and vacuums were the least and the cheapest, and left the
--- fewest rows.
+-- All of this is true of a schedule of this many nodes, after which these rows are stored. The store's reads returned
+-- the newest accepted values, no answer of a snapshot changed, and vacuums were the least and the cheapest, and left
+-- the fewest rows.
 pub record IsFaithful (nodes : ℕ) (schedule : List (Event × Reply)) (rows : List Row) : Type 0 where
   pub store : IsStoreFaithful nodes (store_history schedule) rows
   pub moments : MomentsAreReported schedule

@@ -43,7 +43,7 @@ pub record Represents (state : WorldView) (schedule : List (Event × Reply)) : T
       → slice_get state.nodes n ≡ Some (record { node = node_of n schedule; issued = issued n schedule })
   pub sent_stamps : state.sent_stamps ≡ stamps_of (sent schedule)
 
--- so many nodes, at which no event has taken place
+-- this many nodes, at which no event has taken place
 abbrev pub fresh_issuers : ℕ → List IssuerView
 fresh_issuers zero = []
 fresh_issuers (suc n) =

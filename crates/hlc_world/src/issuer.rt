@@ -65,7 +65,8 @@ impl Issuer {
         self.issued.as_slice().get(number as usize)
     }
 
-    /// Issues an item with this content, and returns its stamp and its number.
+    /// Issues an item with this content, and returns its stamp and its number; or the refusal of the node, or out of
+    /// memory. The item is kept, to be delivered.
     pub fn issue(&mut self, reading: u64, content: Content) -> Result<(Stamp, u64), Refusal>
         ensures { Issues self.old self.new (body_of content) reading result }
     {

@@ -34,7 +34,7 @@ pub enum Reply {
     Floor { stamp: Stamp },
     /// The vacuum took place; this is its report.
     Vacuumed { report: Report },
-    /// So many rows are stored.
+    /// This many rows are stored.
     Rows { count: u128 },
     /// The event did not take place.
     Refused(Refusal),

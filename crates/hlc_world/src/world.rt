@@ -48,7 +48,7 @@ impl Model for World {
 }
 
 impl World {
-    /// Returns a world of so many nodes, 1 to 64, at which no event has taken place. Nodes are numbered from 0, and
+    /// Returns a world of this many nodes, 1 to 64, at which no event has taken place. Nodes are numbered from 0, and
     /// each clock starts at 0.0. Nodes that join get the numbers after these, up to 1,023.
     pub fn new(alloc: Global, nodes: u16) -> Result<World, Refusal>
         ensures { Makes nodes result }
@@ -287,7 +287,8 @@ impl World {
         self.issue(node, reading, Content::Report)
     }
 
-    /// Lets a node issue an item with this content, and returns the reply.
+    /// Lets a node issue an item with this content, and returns the reply: its stamp and number, or that there is no
+    /// such node, the refusal of the node, or out of memory.
     fn issue(&mut self, node: u16, reading: u64, content: Content) -> Reply
         ensures represents { (schedule : List (AnEvent × AReply)) → Represents self.old schedule
             → Represents self.new ((issuing node reading content, result) ∷ schedule) }
@@ -419,7 +420,7 @@ impl World {
     }
 }
 
-/// Returns so many nodes, at which no event has taken place.
+/// Returns this many nodes, at which no event has taken place.
 fn fresh_nodes(alloc: Global, count: u16) -> Result<Vec<Issuer>, NoMemory>
     ensures { IfOk result (λ made. made.items ≡ fresh_issuers count) }
 {

@@ -15,7 +15,7 @@ use Rattle.hlc_world.specs.Store.{share, core_past}
 use Rattle.hlc_ranges.specs.Run.{Layout, Turn, Issued, Sent as Sends, Received as Receives, Observed as Observes}
 use Rattle.hlc_ranges.specs.Run.{Stepped}
 
--- one store, the one with number 0, which has every key and so many nodes at its start; each node is a machine of its
+-- one store, the one with number 0, which has every key and this many nodes at its start; each node is a machine of its
 -- own, which has the node's number
 abbrev pub layout_of : ℕ → Layout
 layout_of nodes = record { stores = 1; nodes = λ s. nodes; machine = λ s node. node; store_of = λ key. 0 }

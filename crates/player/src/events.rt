@@ -32,7 +32,7 @@ fn body_of(alloc: Global, name: &str, words: &mut LineWords<'_>) -> Option<Body>
     }
 }
 
-/// Returns a batch of so many writes, each of a key and a value, or none where memory ran out.
+/// Returns a batch of this many writes, each of a key and a value, or none where memory ran out.
 fn batch_of(alloc: Global, words: &mut LineWords<'_>) -> Option<Body> {
     let mut writes = Vec::new(alloc);
     for _ in 0..next_number(words) {

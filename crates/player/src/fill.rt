@@ -7,8 +7,8 @@ use std::alloc::Global;
 /// How many rows each key has.
 const VERSIONS: u64 = 4;
 
-/// Feeds a store of one node so many rows with values of so many bytes. From one row to the next the key advances by
-/// this step, in a circle; with step 0 the rows of a key come one after the other.
+/// Feeds a store of one node this many rows with values of this many bytes. From one row to the next the key advances
+/// by this step, in a circle; with step 0 the rows of a key come one after the other.
 pub(crate) fn fill(rt: &HostRuntime, core: &mut Core, words: &mut LineWords<'_>) -> Option<()> {
     let rows = next_number(words);
     let size = next_number(words) as usize;

@@ -2,7 +2,7 @@
 //! `tests/refuse.c` knows, loaded before the C library. Where it is not loaded, no request is refused.
 use std::alloc::Global;
 
-/// Refuses the request that comes so many requests later, if this number is added.
+/// Refuses the request that comes this many requests later, if this number is added.
 const REFUSE: u64 = 1 << 60;
 
 /// Asks whether a request was refused, and refuses none from then on. It succeeds where one was.

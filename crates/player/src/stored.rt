@@ -25,7 +25,7 @@ impl Stored {
         Stored { core, held, saved }
     }
 
-    /// Makes a store of so many nodes.
+    /// Makes a store of this many nodes.
     fn make(&mut self, rt: &HostRuntime, nodes: u16) -> Option<()> {
         self.core = match Core::new(rt.alloc(), nodes) {
             Ok(made) => Some(made),

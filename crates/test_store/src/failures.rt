@@ -52,7 +52,7 @@ const CASES: [Case; 2] = [
     (Input::Certificate(CERTIFICATE), b"fewest 1 bytes 12\n"),
 ];
 
-/// Returns so many times the letter x, and then fails.
+/// Returns the letter x this many times, and then fails.
 #[derive(Drop)]
 struct Letters {
     left: usize,

@@ -38,7 +38,7 @@ impl Calls {
     }
 }
 
-/// Returns a text, so many bytes in a call, and counts its calls. One call may fail, and the later ones work.
+/// Returns a text, this many bytes in a call, and counts its calls. One call may fail, and the later ones work.
 #[derive(Drop)]
 pub struct Giving<'a> {
     pub text: &'a [u8],
@@ -74,7 +74,7 @@ impl<'a> Read for Giving<'a> {
     }
 }
 
-/// Takes so many bytes in a call, and counts its calls. One call may fail or take none, and the later ones work.
+/// Takes this many bytes in a call, and counts its calls. One call may fail or take none, and the later ones work.
 #[derive(Drop)]
 pub struct Taking {
     pub taken: Vec<u8>,

@@ -108,7 +108,7 @@ fn fed_new<G: Gate, R: Wait + Abort>(
     fed::<Brand, G, R>(rt, alloc, Blank::new(1), numbers, ends, gate)
 }
 
-/// Checks that the feeding ended like this, with so many receipts, left this item, and returned its feeder.
+/// Checks that the feeding ended like this, with this many receipts, left this item, and returned its feeder.
 fn has_ended<R: Abort>(rt: &R, ended: &Ended, expected: (WorkEnd, usize), left: Option<Item>) {
     must_be(rt, (ended.end, ended.receipts.len()), expected);
     must_be(rt, &ended.left, &left);

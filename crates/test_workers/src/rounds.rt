@@ -80,7 +80,7 @@ impl<'a, L: Ledger> Reading<'a, L> {
     }
 }
 
-/// Returns so many times the key `a`.
+/// Returns the key `a` this many times.
 pub(crate) fn keys_of<R: Abort>(rt: &R, alloc: Global, count: u8) -> Vec<Bytes> {
     let mut keys = Vec::new(alloc);
     for _ in 0..count {
@@ -100,7 +100,7 @@ pub(crate) struct Round {
     pub(crate) value: u8,
 }
 
-/// Checks that, after so many receipts, the last ones are those of an opening, a read and the close.
+/// Checks that, after this many receipts, the last ones are those of an opening, a read and the close.
 fn has_read<R: Abort>(rt: &R, alloc: Global, receipts: &[Receipt], before: usize, expected: Round)
     requires { before ≤ 256 }
 {
@@ -111,7 +111,7 @@ fn has_read<R: Abort>(rt: &R, alloc: Global, receipts: &[Receipt], before: usize
     replied(rt, &receipts[before + 2], CoreReply::Closed(stamp));
 }
 
-/// Makes a round over the key, and checks that it has the expected result. There were so many receipts before.
+/// Makes a round over the key, and checks that it has the expected result. There were this many receipts before.
 pub(crate) fn read_as_expected<'a, L: Ledger, R: Wait + Abort>(
     rt: &R,
     alloc: Global,
@@ -131,7 +131,7 @@ pub(crate) fn read_as_expected<'a, L: Ledger, R: Wait + Abort>(
     reading
 }
 
-/// Checks that, after so many receipts, the others are those of the expected round.
+/// Checks that, after this many receipts, the others are those of the expected round.
 fn is_expected<R: Abort>(rt: &R, alloc: Global, receipts: &[Receipt], before: u8, expected: Round) {
     let mut before = usize::from(before);
     if expected.refused {

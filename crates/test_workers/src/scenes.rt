@@ -26,7 +26,7 @@ pub struct Seats<L: Ledger> {
 /// A caller with its receipts, for settling.
 pub type Paid<L> = (Caller<L>, Vec<Receipt>);
 
-/// Returns a new store with so many callers, and a new board.
+/// Returns a new store with this many callers, and a new board.
 pub fn new_scene<L: Ledger, R: Abort>(
     rt: &R,
     alloc: Global,

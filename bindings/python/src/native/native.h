@@ -74,21 +74,21 @@ PyObject *number_object(uint64_t number);
 /* How many bytes a length has before the bytes that it counts. */
 enum { LENGTH = 8 };
 
-/* A number of so many bytes, the low one first. */
+/* A number of this many bytes, the low one first. */
 uint64_t number_at(const uint8_t *at, size_t size);
 
-/* The value of an answer, or None where there is none: a byte 0; or a byte 1, a length and so many bytes. at: the
+/* The value of an answer, or None where there is none: a byte 0; or a byte 1, a length and that many bytes. at: the
  * answer's place, and then that of what follows. */
 PyObject *answer_object(const uint8_t **at);
 
 /* Makes an object of the entry at a place, which becomes that of the next one. Returns NULL with an exception. */
 typedef PyObject *(*Reader)(const uint8_t **at);
 
-/* A list of so many entries. */
+/* A list of this many entries. */
 PyObject *list_of(const uint8_t *at, size_t many, Reader read);
 
-/* Lets go of the interpreter for work on so many bytes, if they are many. Returns what take_back needs: the thread, or
- * NULL. Where other threads of Python run, taking it back may last milliseconds. */
+/* Lets go of the interpreter for work on this many bytes, if they are many. Returns what take_back needs: the thread,
+ * or NULL. Where other threads of Python run, taking it back may last milliseconds. */
 PyThreadState *let_go_for(size_t len);
 void take_back(PyThreadState *thread);
 
@@ -100,7 +100,7 @@ PyObject *output_object(hlc_output *output, size_t len);
 /* Raises the exception of a refusal, and returns NULL. */
 PyObject *refuse(uint32_t code, uint64_t word);
 
-/* Raises the exception of a refusal of one of many items: so many were accepted before it, in so many bytes. */
+/* Raises the exception of a refusal of one of many items: this many were accepted before it, in this many bytes. */
 PyObject *refuse_after(uint32_t code, uint64_t word, size_t accepted, size_t used, uint64_t threshold);
 
 /* The class Stamp of hlcstore/_stamp.py, or NULL with an exception. */
@@ -177,7 +177,7 @@ typedef struct {
 /* Fills in the writes of a batch, or of an iterable of pairs, as a copy. Returns false with an exception. */
 bool take_writes(Classes *classes, PyObject *from, Content *content);
 
-/* A tuple of so many writes: pairs of a key and its value, or None. */
+/* A tuple of this many writes: pairs of a key and its value, or None. */
 PyObject *pairs_of_writes(const uint8_t *at, size_t count);
 
 /* An empty batch for a block at whose end the node issues it. */

@@ -1,4 +1,4 @@
--- The line that is left behind so many lines of the rest is the one that is searched for.
+-- The line that is left after this many lines of the rest is the one that is searched for.
 use Rattle.std.proofs.Common.{◌≡◌, length}
 use Rattle.std.specs.Prelude.{slice_get}
 use Rattle.hlc_text.specs.Lines.{lines_of}

@@ -1,4 +1,4 @@
--- A board of so many nodes has as many feeders, and as many passes as were requested.
+-- A board of this many nodes has as many feeders, and as many passes as were requested.
 use Rattle.std.proofs.Common.{◌≡◌, ◌∙◌, ℕ, ◌+◌, IfOk, ap, arith, length, subst}
 use Rattle.std.proofs.lemmas.List.{length-replicate}
 use Rattle.hlc_floor.specs.Views.{blind}

@@ -1,4 +1,4 @@
--- So many rounds were made, and the pass looked for each.
+-- This many rounds were made, and the pass looked for each.
 use Rattle.std.proofs.Common.{◌≡◌, List}
 use Rattle.hlc_server.specs.declared.entry.Receipt.{Receipt}
 use Rattle.hlc_workers.specs.Paid.{HasCalled}

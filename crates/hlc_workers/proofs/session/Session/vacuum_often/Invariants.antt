@@ -1,4 +1,4 @@
--- So many vacuums were made.
+-- This many vacuums were made.
 use Rattle.std.proofs.Common.{◌≡◌, List, map, replicate}
 use Rattle.hlc_events.specs.declared.event.CoreEvent.TheVariants.{Vacuum}
 use Rattle.hlc_server.specs.declared.entry.Receipt.{Receipt}
