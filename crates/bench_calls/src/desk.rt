@@ -215,7 +215,7 @@ fn run<L: Ledger + Send + Sync, R: Threads + Wait + Sync + Clock>(
     }
 }
 
-/// Does the same with a board.
+/// Runs as `run` does, but with a board.
 #[tactic(auto, using(hlc_floor::proofs::PlaceLemmas::feeders_new, hlc_floor::proofs::PlaceLemmas::passes_new))]
 fn run_on_board<L: Ledger + Send + Sync, R: Threads + Wait + Sync + Clock>(
     rt: &R,

@@ -27,7 +27,7 @@ pub(crate) fn run<W: Write>(alloc: Global, writer: &mut Watched<W>) -> Result<Sh
     run_on(alloc, &mut core, writer)
 }
 
-/// Does the same with an existing store.
+/// Reads and vacuums as `run` does, with an existing store.
 fn run_on<W: Write>(
     alloc: Global,
     core: &mut Core,

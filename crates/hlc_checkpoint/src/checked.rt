@@ -57,7 +57,7 @@ impl Checked {
         Ok(Checked { head, table })
     }
 
-    /// Returns the same of parts and a table that were checked.
+    /// Returns the checkpoint of parts and a table that were checked.
     pub(crate) fn grown(head: Checkpoint, table: Table) -> Checked
         requires { (kept : StoreView) × IsCheckpoint kept × IsCopyOf kept (with_rows head table) }
         ensures { result ≡ with_rows head table }

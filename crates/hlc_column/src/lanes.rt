@@ -66,8 +66,8 @@ impl<'a> Lanes<'a> {
         self.stamps.len()
     }
 
-    /// Returns the same number, by the lengths of all four lists. If the rows of several keys are lent and asked for it
-    /// in turn, the processor fetches what they are stored in from memory side by side.
+    /// Returns the number of rows, by the lengths of all four lists. If the rows of several keys are lent and asked for
+    /// it in turn, the processor fetches what they are stored in from memory side by side.
     pub fn fetched_len(&self) -> usize
         ensures { result ≡ length self.now }
     {
@@ -152,7 +152,7 @@ impl<'a> Lanes<'a> {
         self.value_at(place)
     }
 
-    /// Returns the same value by a pass over all rows, without the index. Of a few rows it is faster.
+    /// Returns what `answer` returns, by a pass over all rows, without the index. Of a few rows it is faster.
     pub(crate) fn answer_of_few(&self, bound: Stamp) -> Option<&'a [u8]>
         ensures { (key : List ℕ) → option_copied result ≡ answer (rows_of key self.now) key bound }
     {

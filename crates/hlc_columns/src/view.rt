@@ -61,7 +61,7 @@ impl<'a> View<'a> {
         self.table.answers(self.stamp)
     }
 
-    /// Returns the same for the keys that are not below `from`, and below `to`, if there is one.
+    /// Returns what `iter` returns for the keys that are not below `from`, and below `to`, if there is one.
     pub fn range(&self, from: &[u8], to: Option<&'a [u8]>) -> Answers<'a>
         ensures { AreAnswers self.now.rows self.now.stamp
             (IsBetween from.now (option_copied to.entry)) result }

@@ -117,7 +117,7 @@ impl<V: Drop> Index<V> {
         }
     }
 
-    /// Returns the same. It is made for keys that ascend: it compares the key with the greatest one first.
+    /// Returns what `locate` returns. It is made for keys that ascend: it compares the key with the greatest one first.
     pub fn locate_last(&self, key: &[u8]) -> Result<(usize, usize), (usize, usize)>
         ensures found { IfOk result (λ place. IsEntryAt self.now key.now place.0 place.1) }
         ensures absent { IfErr result (λ _. lookup (is_key key.now) (entries_in self.now) ≡ None) }
@@ -137,8 +137,8 @@ impl<V: Drop> Index<V> {
         }
     }
 
-    /// Returns the same. It compares the key with the one at a place first, and looks it up only if they differ: so
-    /// whoever guesses where a key is saves the search.
+    /// Returns what `locate` returns. It compares the key with the one at a place first, and looks it up only if they
+    /// differ: so whoever guesses where a key is saves the search.
     pub fn locate_near(
         &self,
         key: &[u8],

@@ -26,7 +26,7 @@ pub struct PartPlan {
     pub end: Option<Bytes>,
 }
 
-/// The same with a tally in place of the plan.
+/// The tally of the columns of some keys, these keys, and the last of them, or none if there is no key above it.
 #[derive(Debug, Drop)]
 pub struct PartTally {
     pub tally: Tally,

@@ -34,7 +34,7 @@ pub(crate) fn play_desk<R: Threads + Sync>(host: &Host<'_, R>, lines: &mut Lines
     play_in::<Brand, R>(host, lines, Blank::new(1), audit);
 }
 
-/// Does the same with a store of this ledger.
+/// Plays the calls as `play_desk` does, with a store of this ledger.
 fn play_in<L: Ledger, R: Threads + Sync>(
     host: &Host<'_, R>,
     lines: &mut Lines<'_>,

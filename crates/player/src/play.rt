@@ -109,7 +109,7 @@ pub(crate) fn say<T: Debug>(rt: &HostRuntime, name: &str, answer: &T) -> Option<
     Some(())
 }
 
-/// Does the same with the answer of a call that was made. Returns none where it ran out of memory.
+/// Prints the answer of a call that was made as `say` does. Returns none where the call ran out of memory.
 pub(crate) fn say_made<T: Debug + Drop>(
     rt: &HostRuntime,
     name: &str,
@@ -118,7 +118,8 @@ pub(crate) fn say_made<T: Debug + Drop>(
     say(rt, name, &answer?)
 }
 
-/// Does the same for calls that were to take no memory, and prints before whether a request was refused.
+/// Prints the answers of calls that were to take no memory as `say` does, and before them whether a request was
+/// refused.
 pub(crate) fn say_quiet<T: Debug>(rt: &HostRuntime, name: &str, answers: &T) -> Option<()> {
     say_refused(rt);
     say(rt, name, answers)

@@ -85,7 +85,8 @@ impl Stored {
         self.replace(rt, made)
     }
 
-    /// Does the same by pieces: they are written from the store, and read in blocks of at most this size.
+    /// Puts a store in place of this one, made of pieces: they are written from the store, and read in blocks of at
+    /// most this size.
     pub(crate) fn move_in_pieces(&mut self, rt: &HostRuntime, word: u64, size: u64) -> Option<()> {
         let core = self.core.as_ref()?;
         let mut reader = CheckpointReader::new(rt.alloc());
@@ -93,21 +94,21 @@ impl Stored {
         self.replace(rt, reader.finish())
     }
 
-    /// Does the same with copies of what is in the checkpoint.
+    /// Puts a store in place of this one, made of copies of what is in the checkpoint.
     pub(crate) fn restore(&mut self, rt: &HostRuntime) -> Option<()> {
         let checkpoint = self.saved.checkpoint.as_ref()?;
         self.core = Some(Core::restore(rt.alloc(), checkpoint).ok()?);
         say(rt, "restored", &())
     }
 
-    /// Does the same with the checkpoint itself.
+    /// Puts a store in place of this one, made of the checkpoint itself.
     pub(crate) fn move_in_checkpoint(&mut self, rt: &HostRuntime) -> Option<()> {
         let checkpoint = self.saved.checkpoint.take()?;
         self.core = Some(Core::from_checkpoint(rt.alloc(), checkpoint).ok()?);
         say(rt, "restored", &())
     }
 
-    /// Does the same with a copy, made of the store's bytes.
+    /// Puts a store in place of this one, a copy made of its bytes.
     pub(crate) fn copy(&mut self, rt: &HostRuntime) -> Option<()> {
         self.core = Some(copy_by_bytes(rt.alloc(), self.core.as_ref()?).ok()?);
         say(rt, "copied", &())

@@ -39,7 +39,7 @@ pub(crate) fn answer<R: Wait + Threads + Sync>(host: &Host<'_, R>, words: &mut L
     answer_in::<Brand, R>(host, Blank::new(1), words);
 }
 
-/// Does the same with a store of this ledger.
+/// Runs the worker as `answer` does, with a store of this ledger.
 fn answer_in<L: Ledger, R: Wait + Threads + Sync>(
     host: &Host<'_, R>,
     blank: Blank,

@@ -163,7 +163,7 @@ fn writes_fail<W: Written, H: AllocGlobal + Abort>(
     }
 }
 
-/// Does the same for each fault of a writer.
+/// Checks as `writes_fail` does, for each fault of a writer.
 fn each_write_fails<W: Written, H: AllocGlobal + Abort>(rt: &H, written: &W, output: &[u8]) {
     for fault in [
         Fault::Error(ErrorKind::Other),

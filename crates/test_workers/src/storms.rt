@@ -104,7 +104,7 @@ fn calls_in<L: Ledger>(lists: &Lists<L>) -> (bool, u64) {
     (above, calls)
 }
 
-/// Does the same for a storm whose gates never stop a worker.
+/// Returns what `calls_in` returns, of a storm whose gates never stop a worker.
 fn calls_of_storm<L: Ledger + Send + Sync, R: Threads + Wait + Abort + Sync>(
     rt: &R,
     alloc: Global,
@@ -305,7 +305,7 @@ fn join_ended<L: Ledger + Send + Sync, R: Threads + Wait + Abort + Sync>(
     })
 }
 
-/// Does the same with callers of a new store.
+/// Starts and joins them as `join_ended` does, with callers of a new store.
 fn join_new<L: Ledger + Send + Sync, R: Threads + Wait + Abort + Sync>(
     rt: &R,
     alloc: Global,
