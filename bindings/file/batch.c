@@ -16,7 +16,7 @@ uint32_t hlc_file_batch_new(hlc_file_batch **batch)
     return *batch ? HLC_OK : HLC_NO_MEMORY;
 }
 
-/* Makes room for so many more bytes. */
+/* Makes room for this many more bytes. */
 static uint32_t make_room(hlc_file_batch *batch, size_t len)
 {
     size_t before = batch->entry ? batch->entry->len : 0, room = batch->entry ? batch->room : 256;

@@ -97,7 +97,7 @@ void record_stamp(uint8_t *item, uint16_t node, uint64_t number, uint64_t stamp)
     put_number(item + 11, stamp, 8);
 }
 
-/* Writes the head of an item that is a batch of so many writes, whose bytes are behind it. */
+/* Writes the head of an item that is a batch of this many writes, whose bytes are behind it. */
 void record_put_batch(uint8_t *item, size_t count)
 {
     item[0] = ITEM;

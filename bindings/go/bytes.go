@@ -30,7 +30,7 @@ func room(bytes []byte) (*C.uint8_t, C.size_t) {
 	return pointer(bytes[len(bytes):cap(bytes)])
 }
 
-// grown returns the bytes with room for at least so many more, and with that of append where they are moved.
+// grown returns the bytes with room for at least this many more, and with that of append where they are moved.
 func grown(bytes []byte, more int) []byte {
 	if cap(bytes)-len(bytes) >= more {
 		return bytes

@@ -42,7 +42,7 @@ func DivideByKeys(boundaries ...string) (Division, error) {
 	return Division{boundaries: append([]string(nil), boundaries...)}, nil
 }
 
-// DivideByHash divides the keys among so many stores, 1 to 1,024, by their hash: the 64-bit FNV-1a of a key's bytes,
+// DivideByHash divides the keys among this many stores, 1 to 1,024, by their hash: the 64-bit FNV-1a of a key's bytes,
 // modulo the number of stores.
 //
 // Refusal: ErrBadDivision.

@@ -36,7 +36,7 @@ const (
 	ErrKeyTwice         = Code(C.HLC_KEY_TWICE)          // two writes of the batch are of one key
 	ErrClosed           = Code(C.HLC_CLOSED)             // the store is closed
 	ErrNoValue          = Code(C.HLC_NO_VALUE)           // the key has no value in the snapshot
-	ErrNoSuchNode       = Code(C.HLC_NO_SUCH_NODE)       // no node has issued so many items up to this stamp
+	ErrNoSuchNode       = Code(C.HLC_NO_SUCH_NODE)       // no node has issued that many items up to this stamp
 	ErrBadBytes         = Code(C.HLC_BAD_BYTES)          // word: the number of the first fault, see docs/formats.md
 	ErrNoCheckpoint     = Code(C.HLC_NO_CHECKPOINT)      // word: the number of the reason, see docs/formats.md
 	ErrNotFewest        = Code(C.HLC_NOT_FEWEST)         // a vacuum to the stamp would drop a row

@@ -58,7 +58,7 @@ func joinedKeys(keys [][]byte) ([]C.hlc_place, []byte) {
 	return places, bytes
 }
 
-// takeAnswers appends so many answers to some values.
+// takeAnswers appends this many answers to some values.
 func takeAnswers(values [][]byte, rest []byte, many int) [][]byte {
 	for ; many > 0; many-- {
 		var value []byte

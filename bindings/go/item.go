@@ -141,7 +141,7 @@ func (f *itemFields) bytes(length int) []byte {
 	return field
 }
 
-// number returns a number of so many bytes, the high one first.
+// number returns a number of this many bytes, the high one first.
 func (f *itemFields) number(size int) uint64 {
 	var number uint64
 	for _, b := range f.bytes(size) {

@@ -19,7 +19,7 @@ func NewNode(id uint16, start Stamp) *Node {
 // RestoreNode returns a node as it was before a restart, from its number, the stamp of its last event, and the number
 // of its next item. A node that retired has no further event, so it is not restored.
 //
-// Refusal: ErrNoSuchNode, if no node has issued so many items up to this stamp.
+// Refusal: ErrNoSuchNode, if no node has issued that many items up to this stamp.
 func RestoreNode(id uint16, last Stamp, next uint64) (*Node, error) {
 	restored := C.hlcgo_node_restore(C.uint16_t(id), C.uint64_t(last), C.uint64_t(next))
 	if restored.code != C.HLC_OK {

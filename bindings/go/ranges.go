@@ -26,8 +26,8 @@ const (
 	mostOpenings = 8    // of a snapshot that vacuums overtake
 )
 
-// OpenRanges opens the stores of a division, in which nothing took place, with so many machines, 1 to 64, numbered from
-// 0.
+// OpenRanges opens the stores of a division, in which nothing took place, with this many machines, 1 to 64, numbered
+// from 0.
 //
 // Refusal: ErrBadNodeCount, where it is another number.
 func OpenRanges(division Division, machines uint16) (*Ranges, error) {
@@ -233,7 +233,7 @@ func (r *Ranges) VacuumTo(stamp Stamp) (Vacuumed, error) {
 	return r.VacuumInParts(context.Background(), stamp, keysOfPart)
 }
 
-// VacuumInParts does what VacuumTo does, by parts of so many keys, as [Store.VacuumInParts]: so it may be cancelled,
+// VacuumInParts does what VacuumTo does, by parts of this many keys, as [Store.VacuumInParts]: so it may be cancelled,
 // and returns then what it did so far. A later call with this stamp, or a greater one, goes through all keys again.
 //
 // Refusals: those of VacuumTo; the context's error.

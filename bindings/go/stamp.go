@@ -75,7 +75,7 @@ func (s Stamp) Physical() uint64 { return uint64(s) >> counterBits }
 // Counter returns the counter, the logical part.
 func (s Stamp) Counter() uint16 { return uint16(s) }
 
-// Time returns the physical part as the time of so many milliseconds since 1970 UTC.
+// Time returns the physical part as the time of this many milliseconds since 1970 UTC.
 func (s Stamp) Time() time.Time { return time.UnixMilli(int64(s.Physical())).UTC() }
 
 // String returns the parts as text, as 5.0.

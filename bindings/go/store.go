@@ -22,7 +22,7 @@ type Store struct {
 // closedStore is the store of the zero Snapshot.
 var closedStore Store
 
-// Open opens a store of so many nodes, 1 to 64, numbered from 0, in which nothing took place.
+// Open opens a store of this many nodes, 1 to 64, numbered from 0, in which nothing took place.
 //
 // Refusal: ErrBadNodeCount, where it is another number.
 func Open(nodes uint16) (*Store, error) {

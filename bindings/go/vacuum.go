@@ -36,10 +36,10 @@ func (s *Store) VacuumTo(stamp Stamp) (Vacuumed, error) {
 	return vacuumed(C.hlcgo_vacuum_to(&s.raw, C.uint64_t(stamp)))
 }
 
-// VacuumInParts does what VacuumTo does, by parts of so many keys, at least one, and holds the lock only during each of
-// them. All other calls are allowed between parts, and each part leaves the fewest rows at the snapshots that are open
-// then. Before each part it looks whether the context is done: then it returns what the parts before it did, and the
-// context's error. The store has the stamp as its horizon from the first part on. A later call begins anew.
+// VacuumInParts does what VacuumTo does, by parts of this many keys, at least one, and holds the lock only during each
+// of them. All other calls are allowed between parts, and each part leaves the fewest rows at the snapshots that are
+// open then. Before each part it looks whether the context is done: then it returns what the parts before it did, and
+// the context's error. The store has the stamp as its horizon from the first part on. A later call begins anew.
 //
 // Refusals: those of VacuumTo; also between parts, where another vacuum went above the stamp.
 func (s *Store) VacuumInParts(ctx context.Context, stamp Stamp, keys int) (Vacuumed, error) {
@@ -71,7 +71,7 @@ type VacuumPart struct {
 }
 
 // VacuumPart does a part of VacuumTo: of the first keys above `after`, or the first of all if that has no bytes, at
-// most so many. The first part makes the stamp the horizon.
+// most this many. The first part makes the stamp the horizon.
 //
 // Refusals: those of VacuumTo.
 func (s *Store) VacuumPart(stamp Stamp, after []byte, keys int) (VacuumPart, error) {

@@ -115,7 +115,7 @@ class saving {
   hlc_saving raw_ = HLC_NO_SAVING;
 };
 
-// Takes a number of so many bytes, the low one first, from the front of some bytes.
+// Takes a number of this many bytes, the low one first, from the front of some bytes.
 inline std::uint64_t take_number(std::string_view& rest, std::size_t size) {
   std::uint64_t number = 0;
   for (std::size_t at = size; at > 0; at--) number = number << 8 | static_cast<unsigned char>(rest[at - 1]);
@@ -123,7 +123,7 @@ inline std::uint64_t take_number(std::string_view& rest, std::size_t size) {
   return number;
 }
 
-// Takes a length of eight bytes, and so many bytes after it.
+// Takes a length of eight bytes, and that many bytes after it.
 inline std::string_view take_text(std::string_view& rest) {
   const std::uint64_t len = take_number(rest, length_size);
   const std::string_view text = rest.substr(0, len);

@@ -75,7 +75,7 @@ class item_fields {
     }
   }
 
-  // A number of so many bytes, the high one first.
+  // A number of this many bytes, the high one first.
   std::uint64_t number(std::size_t size) {
     std::uint64_t number = 0;
     for (const char byte : text(size)) number = number << 8 | static_cast<unsigned char>(byte);

@@ -334,7 +334,7 @@ class ranges {
   ranges(ranges&&) noexcept = default;
   ranges& operator=(ranges&&) noexcept = default;
 
-  // Opens the stores, each with the nodes of so many machines, 1 to 64. They are numbered from 0.
+  // Opens the stores, each with the nodes of this many machines, 1 to 64. They are numbered from 0.
   ranges(hlcstore::division divided, std::uint16_t machines) : division_(std::move(divided)) {
     stores_.reserve(division_.stores());
     while (stores_.size() < division_.stores()) stores_.emplace_back(store(machines));
@@ -515,8 +515,8 @@ class ranges {
   ranges_snapshot open_snapshot() && = delete;
   ranges_snapshot open_snapshot(timestamp stamp) && = delete;
 
-  // Vacuums each store to the stamp, or to the cut where that is below it, in parts of so many keys. Its report has the
-  // stamp, and sums over the stores. Where it throws, some stores were vacuumed, and it may be called again.
+  // Vacuums each store to the stamp, or to the cut where that is below it, in parts of this many keys. Its report has
+  // the stamp, and sums over the stores. Where it throws, some stores were vacuumed, and it may be called again.
   vacuum_report vacuum_to(timestamp stamp, std::size_t most = 1024) {
     vacuum_report all{std::min(stamp, cut()), 0, 0, 0};
     for (shared_store& one : stores_) {

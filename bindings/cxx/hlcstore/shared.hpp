@@ -275,7 +275,7 @@ class shared_store {
     return make(&store::vacuum_part, stamp, after, most);
   }
 
-  // Makes a vacuum_to by its parts, each of so many keys and alone under the lock. Readers that wait run between two
+  // Makes a vacuum_to by its parts, each of this many keys and alone under the lock. Readers that wait run between two
   // parts. Where it throws, parts were made, and it may be called again.
   vacuum_report vacuum_in_parts(timestamp stamp, std::size_t most = 1024) {
     vacuum_report all{stamp, 0, 0, 0};

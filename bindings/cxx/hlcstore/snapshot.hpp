@@ -331,7 +331,7 @@ class snapshot {
   change_range changes(const snapshot& after, std::string_view from = {}, std::string_view to = {}) && = delete;
   change_range changes(const snapshot&& after, std::string_view from = {}, std::string_view to = {}) && = delete;
 
-  // As many pairs of a range, or from its end, or keys, as fit into so many bytes.
+  // As many pairs of a range, or from its end, or keys, as fit into this many bytes.
   part scan(std::string_view from, std::string_view to, std::size_t room) const {
     return view_.scan(hlc_snapshot_scan, from, to, room);
   }

@@ -402,8 +402,8 @@ class store {
   }
 
   // Does a part of vacuum_to, so that one call does a bounded amount of work: of the first keys above one, or the first
-  // of all where that has no bytes, at most so many. The first part makes the stamp the horizon. All calls are allowed
-  // between parts. Each leaves the fewest rows of its keys at the snapshots that are open then.
+  // of all where that has no bytes, at most this many. The first part makes the stamp the horizon. All calls are
+  // allowed between parts. Each leaves the fewest rows of its keys at the snapshots that are open then.
   partial_vacuum vacuum_part(timestamp stamp, std::string_view after = {}, std::size_t most = 1024) {
     partial_vacuum made;
     // A part of no keys ends where it begins.

@@ -200,7 +200,7 @@ func (f *File) VacuumTo(stamp hlcstore.Stamp) (hlcstore.Vacuumed, error) {
 	return vacuumed(C.file_vacuum_to(f.raw, C.uint64_t(stamp)))
 }
 
-// VacuumOlder does the same, to the stamp that the system's clock had so many milliseconds ago, or to the floor where
+// VacuumOlder vacuums to the stamp that the system's clock had this many milliseconds ago, or to the floor where
 // that is lower; where the horizon is higher, to the horizon.
 //
 // Refusal: ErrNoStamp, where the clock reads less.

@@ -610,7 +610,7 @@ static PyObject *page_object(uint32_t code, const uint8_t *at, size_t many, Read
     return entries ? Py_BuildValue("(NO)", entries, code == HLC_MORE ? Py_True : Py_False) : NULL;
 }
 
-/* Returns the pairs of a range that fit into so many bytes, and whether there are more. */
+/* Returns the pairs of a range that fit into this many bytes, and whether there are more. */
 static PyObject *file_scan(PyObject *self, PyObject *args)
 {
     uint64_t id;

@@ -356,7 +356,7 @@ class File(_file.File):
     """An open file, which closes itself. In a with statement it is closed at the end.
 
     It is made where the path has none, but not with `must_exist`. With `keep_before_damage` a file whose log is damaged
-    opens with what is before the damage. A new file has so many `nodes`, 1 to 64. `promise` is that of the calls that
+    opens with what is before the damage. A new file has this many `nodes`, 1 to 64. `promise` is that of the calls that
     name none. GROUP waits `group_microseconds` for batches of other threads. A checkpoint is made in the background
     after `checkpoint_bytes` of log, 64 MiB by default.
     """

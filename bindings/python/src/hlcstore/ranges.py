@@ -98,7 +98,7 @@ class Division:
 
     @classmethod
     def by_hash(cls, stores: int, /) -> Self:
-        """Divide the keys among so many stores, 1 to 1,024, by the 64-bit FNV-1a of their bytes, modulo that number.
+        """Divide the keys among this many stores, 1 to 1,024, by the 64-bit FNV-1a of their bytes, modulo that number.
         Any other number is refused with `BadDivision`."""
         division = super().__new__(cls)
         division._boundaries = ()

@@ -8,7 +8,7 @@
 /* How many bytes a write has beside its key and its value. */
 enum { BESIDE_KEY = 2, BESIDE_VALUE = 2 };
 
-/* Makes room for so many bytes more. Returns false with an exception. */
+/* Makes room for this many bytes more. Returns false with an exception. */
 static bool make_room(Batch *batch, size_t more)
 {
     if (batch->room - batch->len >= more) return true;

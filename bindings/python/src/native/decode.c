@@ -18,7 +18,7 @@ static Fault skip(Rest *rest, size_t len)
     return FINE;
 }
 
-/* Takes a number of so many bytes, the high one first. */
+/* Takes a number of this many bytes, the high one first. */
 static Fault take(Rest *rest, size_t size, uint64_t *number)
 {
     const uint8_t *at = rest->at;
@@ -27,7 +27,7 @@ static Fault take(Rest *rest, size_t size, uint64_t *number)
     return FINE;
 }
 
-/* Takes some bytes, with a length of so many bytes before them. They get no owner yet. */
+/* Takes some bytes, with a length of this many bytes before them. They get no owner yet. */
 static Fault take_sized(Rest *rest, size_t size, Bytes *bytes)
 {
     uint64_t len;

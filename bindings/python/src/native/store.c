@@ -569,7 +569,7 @@ static PyMethodDef store_methods[] = {
       "Drop all rows up to a stamp that neither it nor an open snapshot below it needs." },
     METHOD("vacuum_part", store_vacuum_part,
            "vacuum_part($self, /, stamp, after=b'', most=1024)\n--\n\n"
-           "Do a part of vacuum_to: of the first keys above one, at most so many.\n\n"
+           "Do a part of vacuum_to: of the first keys above `after`, at most `most` keys.\n\n"
            "The next part goes on after the key that is returned as next, until that is None. All calls are allowed\n"
            "between parts. Each leaves the fewest rows of its keys at the snapshots that are open then."),
     { "check_vacuum", store_check_vacuum, METH_O,
@@ -619,7 +619,7 @@ static PyMemberDef store_members[] = {
 static PyType_Slot store_slots[] = {
     { Py_tp_doc,
       "Store(nodes)\n--\n\n"
-      "A multi-version store of so many nodes, numbered from 0. Any thread may call it." },
+      "A multi-version store with `nodes` nodes, numbered from 0. Any thread may call it." },
     { Py_tp_new, store_new },
     { Py_tp_dealloc, store_dealloc },
     { Py_tp_repr, store_repr },

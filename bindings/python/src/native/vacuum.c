@@ -35,7 +35,7 @@ PyObject *store_vacuum_to(PyObject *self, PyObject *from)
 /* The longest key. */
 #define KEY_ROOM 255
 
-/* A part of a vacuum up to a stamp: of the first keys above one, at most so many. */
+/* A part of a vacuum up to a stamp: of the first keys above one, at most this many keys. */
 typedef struct {
     uint64_t stamp;
     Bytes after;

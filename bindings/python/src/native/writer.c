@@ -17,7 +17,7 @@ static Py_ssize_t would_block(void)
     return -1;
 }
 
-/* How many of so many bytes a file took, from what its write returned, or -1 with an exception. */
+/* How many of these bytes a file took, from what its write returned, or -1 with an exception. */
 static Py_ssize_t taken(PyObject *answer, Py_ssize_t len)
 {
     if (answer == Py_None) return would_block();

@@ -119,7 +119,7 @@ impl File {
         self.handle.vacuum_to(stamp)
     }
 
-    /// Does the same up to the stamp that the system's clock had so long ago, or to the floor where that is lower. Where
+    /// Vacuums up to the stamp that the system's clock had so long ago, or to the floor where that is lower. Where
     /// the horizon is higher, vacuums to the horizon.
     ///
     /// Refusals: `NoStamp`, and those of [`Writer`].

@@ -27,7 +27,7 @@ fn answer<T>(code: u32, word: u64, value: T) -> Result<T> {
     if code == OK { Ok(value) } else { Err(Error::new(code, word)) }
 }
 
-/// Room for so many bytes.
+/// Room for this many bytes.
 fn with_room(room: usize) -> Result<Vec<u8>> {
     let mut bytes = Vec::new();
     bytes.try_reserve_exact(room).map_err(|_| Error::new(NO_MEMORY, 0))?;
@@ -37,12 +37,12 @@ fn with_room(room: usize) -> Result<Vec<u8>> {
 /// The bytes of a page, how many entries these are, and whether more are left.
 type Filled = (Vec<u8>, usize, bool);
 
-/// Makes a call that fills a page of so many bytes. It gets the place for them, how many there is room for, and where
+/// Makes a call that fills a page of this many bytes. It gets the place for them, how many there is room for, and where
 /// it writes how many bytes and how many entries there are.
 ///
 /// # Safety
 ///
-/// If the call returns `OK` or `MORE`, it has written so many bytes to the place.
+/// If the call returns `OK` or `MORE`, it has written that many bytes to the place.
 unsafe fn fill(room: usize, call: impl FnOnce(*mut u8, usize, &mut usize, &mut usize) -> u32) -> Result<Filled> {
     let (mut bytes, mut len, mut many) = (with_room(room)?, 0, 0);
     let code = call(bytes.as_mut_ptr(), room, &mut len, &mut many);
@@ -260,7 +260,7 @@ impl Handle {
         })
     }
 
-    /// Returns the pairs of a range that fit in so many bytes, in byte order or from the last on.
+    /// Returns the pairs of a range that fit in this many bytes, in byte order or from the last on.
     pub(crate) fn scan(&self, id: u64, from: &[u8], to: &[u8], room: usize, is_back: bool) -> Result<Page> {
         let scan = if is_back { sys::hlc_file_scan_back } else { sys::hlc_file_scan };
         let (from, from_len, to, to_len, file) = (from.as_ptr(), from.len(), to.as_ptr(), to.len(), self.0.as_ptr());
@@ -270,7 +270,7 @@ impl Handle {
         Ok(Page::from_bytes(bytes, many, has_more))
     }
 
-    /// Returns the keys of a range that fit in so many bytes.
+    /// Returns the keys of a range that fit in this many bytes.
     pub(crate) fn scan_keys(&self, id: u64, from: &[u8], to: &[u8], room: usize) -> Result<KeyPage> {
         let (from, from_len, to, to_len) = (from.as_ptr(), from.len(), to.as_ptr(), to.len());
         let (bytes, many, has_more) = unsafe {
@@ -283,7 +283,7 @@ impl Handle {
         Ok(KeyPage::from_bytes(bytes, many, has_more))
     }
 
-    /// Returns the changes of a range from one snapshot to another that fit in so many bytes.
+    /// Returns the changes of a range from one snapshot to another that fit in this many bytes.
     pub(crate) fn scan_changes(&self, ids: (u64, u64), from: &[u8], to: &[u8], room: usize) -> Result<ChangePage> {
         let ((before, after), from_len, to_len) = (ids, from.len(), to.len());
         let (from, to) = (from.as_ptr(), to.as_ptr());
@@ -415,7 +415,7 @@ impl Copied {
         let (mut piece, mut at) = (with_room(self.len.min(PIECE)).map_err(as_saving)?, 0);
         while at < self.len {
             let mut len = 0;
-            // SAFETY: the piece has room for so many bytes, and the call writes the first `len` of them.
+            // SAFETY: the piece has room for this many bytes, and the call writes the first `len` of them.
             unsafe {
                 store::hlc_output_read(&mut self.raw, at, piece.as_mut_ptr(), piece.capacity().min(PIECE), &mut len);
                 piece.set_len(len);

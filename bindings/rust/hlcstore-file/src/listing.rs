@@ -18,7 +18,7 @@ trait Listed {
     /// Whether the last key comes first.
     const IS_BACK: bool = false;
 
-    /// Reads the entries of a range that fit in so many bytes, and returns whether more are left.
+    /// Reads the entries of a range that fit in this many bytes, and returns whether more are left.
     fn load(&self, handle: &Handle, range: &Range, room: usize) -> Result<(Vec<Self::Entry>, bool)>;
 
     fn key(entry: &Self::Entry) -> &[u8];

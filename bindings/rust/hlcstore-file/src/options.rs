@@ -83,7 +83,7 @@ impl Options {
         self
     }
 
-    /// Makes a checkpoint in the background after so many bytes of log, 64 MiB by default; `u64::MAX` means never.
+    /// Makes a checkpoint in the background after this many bytes of log, 64 MiB by default; `u64::MAX` means never.
     pub fn checkpoint_bytes(mut self, bytes: u64) -> Options {
         self.raw.checkpoint_bytes = bytes;
         self

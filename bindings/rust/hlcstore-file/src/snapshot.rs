@@ -102,29 +102,29 @@ impl<F: Deref<Target = File>> Snapshot<F> {
         last.transpose()
     }
 
-    /// Returns as many pairs of a range as fit in so many bytes, in one call, as
+    /// Returns as many pairs of a range as fit in this many bytes, in one call, as
     /// [`Snapshot::scan`](hlcstore::Snapshot::scan) does.
     pub fn scan(&self, range: impl KeyRange, room: usize) -> Result<Page> {
         let (from, to) = range.ends()?;
         self.file.handle().scan(self.id, &from, &to, room, false)
     }
 
-    /// Returns as many pairs of a range as fit in so many bytes, in one call, from the last key on, as
+    /// Returns as many pairs of a range as fit in this many bytes, in one call, from the last key on, as
     /// [`Snapshot::scan_back`](hlcstore::Snapshot::scan_back) does.
     pub fn scan_back(&self, range: impl KeyRange, room: usize) -> Result<Page> {
         let (from, to) = range.ends()?;
         self.file.handle().scan(self.id, &from, &to, room, true)
     }
 
-    /// Returns as many keys of a range as fit in so many bytes, in one call, as
+    /// Returns as many keys of a range as fit in this many bytes, in one call, as
     /// [`Snapshot::scan_keys`](hlcstore::Snapshot::scan_keys) does.
     pub fn scan_keys(&self, range: impl KeyRange, room: usize) -> Result<KeyPage> {
         let (from, to) = range.ends()?;
         self.file.handle().scan_keys(self.id, &from, &to, room)
     }
 
-    /// Returns as many of the [`changes`](Snapshot::changes) to another snapshot as fit in so many bytes, in one call, as
-    /// [`Snapshot::scan_changes`](hlcstore::Snapshot::scan_changes) does.
+    /// Returns as many of the [`changes`](Snapshot::changes) to another snapshot as fit in this many bytes, in one
+    /// call, as [`Snapshot::scan_changes`](hlcstore::Snapshot::scan_changes) does.
     pub fn scan_changes(&self, after: &Snapshot<F>, range: impl KeyRange, room: usize) -> Result<ChangePage> {
         let (from, to) = range.ends()?;
         self.file.handle().scan_changes(self.ids(after)?, &from, &to, room)

@@ -138,13 +138,13 @@ impl<'a> IntoIterator for &'a Batch {
 /// ```
 #[derive(Clone, Copy, PartialEq, Eq, Hash)]
 pub struct Writes<'a> {
-    // The bytes are those of so many writes, at most 256, and no more.
+    // The bytes are those of this many writes, at most 256, and of nothing else.
     count: usize,
     bytes: &'a [u8],
 }
 
 impl<'a> Writes<'a> {
-    /// The writes of bytes that are so many, and no more.
+    /// The writes of bytes that have this many, and nothing else.
     pub(crate) fn of(count: usize, bytes: &'a [u8]) -> Writes<'a> {
         Writes { count, bytes }
     }

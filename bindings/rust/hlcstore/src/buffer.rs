@@ -3,7 +3,7 @@
 use crate::{Error, Result};
 use hlcstore_sys as sys;
 
-/// Makes room for so many bytes more.
+/// Makes room for this many bytes more.
 pub(crate) fn reserve(bytes: &mut Vec<u8>, more: usize) -> Result<()> {
     bytes.try_reserve_exact(more).map_err(|_| Error::NO_MEMORY)
 }
@@ -21,7 +21,7 @@ pub(crate) fn copied(bytes: &[u8]) -> Result<Vec<u8>> {
 ///
 /// # Safety
 ///
-/// If the call returns `HLC_OK` and a length for which there was room, it has written so many bytes to the place.
+/// If the call returns `HLC_OK` and a length for which there was room, it has written that many bytes to the place.
 pub(crate) unsafe fn append(out: &mut Vec<u8>, mut call: impl FnMut(*mut u8, usize, &mut usize) -> u32) -> Result<()> {
     loop {
         let room = out.spare_capacity_mut();

@@ -21,7 +21,7 @@ pub struct Division(Arc<Rule>);
 enum Rule {
     /// By ascending boundary keys: of each store but the first, the least key that it may have.
     Keys(Vec<Vec<u8>>),
-    /// By the hash of a key, among so many stores.
+    /// By the hash of a key, among this many stores.
     Hash(usize),
 }
 
@@ -42,7 +42,7 @@ impl Division {
         }
     }
 
-    /// Divides among so many stores, 1 to 1,024, by the hash of a key: FNV-1a of 64 bits, modulo their number.
+    /// Divides among this many stores, 1 to 1,024, by the hash of a key: FNV-1a of 64 bits, modulo their number.
     ///
     /// Refusal: `BadDivision`.
     pub fn by_hash(stores: usize) -> Result<Division, RangesError> {

@@ -73,7 +73,7 @@ pub enum ErrorKind {
     Closed,
     /// The store is open already.
     IsOpen,
-    /// No node has issued so many items up to this stamp.
+    /// No node has issued that many items up to this stamp.
     NoSuchNode,
     /// The bytes are no items, or no checkpoint. The word is the number of the first fault.
     BadBytes,

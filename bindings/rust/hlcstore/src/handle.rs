@@ -259,7 +259,7 @@ impl Handle {
         }
     }
 
-    /// Lists the entries of a range that fit in so many bytes. Returns how many these are, and whether more are left.
+    /// Lists the entries of a range that fit in this many bytes. Returns how many these are, and whether more are left.
     pub(crate) fn scan(
         &self,
         listed: Listed,

@@ -8,7 +8,7 @@ use std::cmp::Ordering;
 use std::fmt;
 use std::iter::FusedIterator;
 
-/// How many bytes an iterator asks for: at first so many, and then twice as many each time, since a listing may be
+/// How many bytes an iterator asks for at first; then it asks for twice as many each time, since a listing may be
 /// long, or its next pair longer than the page. The greatest room is more than any pair takes.
 const FIRST_ROOM: usize = 4096;
 const GREATEST_ROOM: usize = 1 << 17;
@@ -23,7 +23,7 @@ pub(crate) struct Part {
 }
 
 impl Part {
-    /// Fills the part with the entries of a range that fit in so many bytes, in place of what it contains.
+    /// Fills the part with the entries of a range that fit in this many bytes, in place of what it contains.
     pub(crate) fn fill<S: Access>(
         &mut self,
         snapshot: &Snapshot<S>,
@@ -82,8 +82,8 @@ impl<'a> Iterator for Strings<'a> {
 pub struct Page(pub(crate) Part);
 
 impl Page {
-    /// Returns so many pairs in the form of [`as_bytes`](Page::as_bytes), for programs that make calls of the C library
-    /// themselves.
+    /// Returns this many pairs in the form of [`as_bytes`](Page::as_bytes), for programs that make calls of the C
+    /// library themselves.
     pub fn from_bytes(bytes: Vec<u8>, len: usize, has_more: bool) -> Page {
         Page(Part { bytes, len, has_more })
     }
@@ -128,7 +128,7 @@ impl fmt::Debug for Page {
 pub struct KeyPage(pub(crate) Part);
 
 impl KeyPage {
-    /// Returns so many keys in the form of [`as_bytes`](KeyPage::as_bytes), for programs that make calls of the C
+    /// Returns this many keys in the form of [`as_bytes`](KeyPage::as_bytes), for programs that make calls of the C
     /// library themselves.
     pub fn from_bytes(bytes: Vec<u8>, len: usize, has_more: bool) -> KeyPage {
         KeyPage(Part { bytes, len, has_more })
@@ -172,8 +172,8 @@ impl fmt::Debug for KeyPage {
 pub struct ChangePage(pub(crate) Part);
 
 impl ChangePage {
-    /// Returns so many changes in the form of [`as_bytes`](ChangePage::as_bytes), for programs that make calls of the C
-    /// library themselves.
+    /// Returns this many changes in the form of [`as_bytes`](ChangePage::as_bytes), for programs that make calls of the
+    /// C library themselves.
     pub fn from_bytes(bytes: Vec<u8>, len: usize, has_more: bool) -> ChangePage {
         ChangePage(Part { bytes, len, has_more })
     }

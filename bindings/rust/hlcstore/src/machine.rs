@@ -41,7 +41,7 @@ impl Machine {
     /// the restart is below them, the stamp must not be below that of any event: save it, or choose the physical clock.
     ///
     /// Refusals: `BadDivision`, if there are not as many links as stores; of a store `NoSuchNode`, if a node cannot
-    /// have issued so many items.
+    /// have issued that many items.
     ///
     /// ```
     /// use hlcstore::{Division, Link, Machine, Stamp};

@@ -30,7 +30,7 @@ impl Node {
     /// Returns a node as it was before a restart, from its number, the stamp of its last event, and the number of its
     /// next item.
     ///
-    /// Refusal: `NoSuchNode`, if no node has issued so many items up to this stamp.
+    /// Refusal: `NoSuchNode`, if no node has issued that many items up to this stamp.
     pub fn restore(id: u16, last: Stamp, next_number: u64) -> Result<Node> {
         let mut node = Node::new(id, last);
         // SAFETY: the node is live, and is not used otherwise during the call.

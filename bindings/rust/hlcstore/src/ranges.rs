@@ -47,7 +47,7 @@ pub struct Ranges {
 }
 
 impl Ranges {
-    /// Opens the stores of a division, each with so many nodes, 1 to 64: node n of each store is that of machine n.
+    /// Opens the stores of a division, each with this many nodes, 1 to 64: node n of each store is that of machine n.
     ///
     /// Refusals, of a store: `BadNodeCount`, `NoMemory`.
     pub fn open(division: &Division, machines: u16) -> Result<Ranges> {

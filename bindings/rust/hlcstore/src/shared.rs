@@ -130,7 +130,7 @@ impl SharedStore {
         SharedStore { locked: Arc::new(Locked { gate, savings, handle }) }
     }
 
-    /// Opens a store of so many nodes, as [`Store::open`] does.
+    /// Opens a store of this many nodes, as [`Store::open`] does.
     pub fn open(nodes: u16) -> Result<SharedStore> {
         Store::open(nodes).map(Store::into_shared)
     }

@@ -248,8 +248,8 @@ impl<S: Access> Snapshot<S> {
         Keys::new(self, range.to_bounds())
     }
 
-    /// Returns as many pairs of a range as fit in so many bytes, in one call. A pair takes the bytes of its key and its
-    /// value, and 16; so there is room for at least one in 65,806 bytes.
+    /// Returns as many pairs of a range as fit in this many bytes, in one call. A pair takes the bytes of its key and
+    /// its value, and 16; so there is room for at least one in 65,806 bytes.
     ///
     /// ```
     /// use hlcstore::{Node, Stamp, Store};
@@ -274,23 +274,23 @@ impl<S: Access> Snapshot<S> {
         Ok(Page(part))
     }
 
-    /// Returns as many pairs of a range as fit in so many bytes, in one call, from the last key on. So the range of the
-    /// next page ends before the last key of this one.
+    /// Returns as many pairs of a range as fit in this many bytes, in one call, from the last key on. So the range of
+    /// the next page ends before the last key of this one.
     pub fn scan_back(&self, range: impl KeyRange, room: usize) -> Result<Page> {
         let mut part = Part::default();
         part.fill(self, Listed::PairsBack, &range.to_bounds()?, room)?;
         Ok(Page(part))
     }
 
-    /// Returns as many keys of a range as fit in so many bytes, in one call. A key takes its bytes, and 8.
+    /// Returns as many keys of a range as fit in this many bytes, in one call. A key takes its bytes, and 8.
     pub fn scan_keys(&self, range: impl KeyRange, room: usize) -> Result<KeyPage> {
         let mut part = Part::default();
         part.fill(self, Listed::Keys, &range.to_bounds()?, room)?;
         Ok(KeyPage(part))
     }
 
-    /// Returns as many of the [`changes`](Snapshot::changes) to another snapshot as fit in so many bytes, in one call. A
-    /// change takes the bytes of its key and of its value, and at most 17.
+    /// Returns as many of the [`changes`](Snapshot::changes) to another snapshot as fit in this many bytes, in one
+    /// call. A change takes the bytes of its key and of its value, and at most 17.
     ///
     /// Refusal: `NoSnapshot`, also where they are not of one store.
     pub fn scan_changes(&self, after: &Snapshot<S>, range: impl KeyRange, room: usize) -> Result<ChangePage> {

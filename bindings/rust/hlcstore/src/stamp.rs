@@ -70,7 +70,7 @@ impl Stamp {
         self.0 as u16
     }
 
-    /// Returns the physical part as the time of so many milliseconds since 1970. Its opposite is `Stamp::try_from`.
+    /// Returns the physical part as the time of this many milliseconds since 1970. Its opposite is `Stamp::try_from`.
     ///
     /// ```
     /// use hlcstore::Stamp;

@@ -58,7 +58,7 @@ pub struct Sizes {
 }
 
 impl Store {
-    /// Opens a store of so many nodes, 1 to 64, numbered from 0, in which nothing took place.
+    /// Opens a store of this many nodes, 1 to 64, numbered from 0, in which nothing took place.
     ///
     /// Refusals: `BadNodeCount`, `NoMemory`.
     pub fn open(nodes: u16) -> Result<Store> {
@@ -290,7 +290,7 @@ impl Store {
     }
 
     /// Does a part of [`vacuum_to`](Store::vacuum_to), so that a call does a bounded amount of work while other threads
-    /// wait: of the first keys above `after`, or the first of all where that has no bytes, at most so many. The next
+    /// wait: of the first keys above `after`, or the first of all where that has no bytes, at most this many. The next
     /// part goes on after the key [`next`](VacuumPart::next). The first part makes the stamp the horizon. All
     /// calls are allowed between parts. Each leaves the fewest rows of its keys at the snapshots that are open then.
     ///
