@@ -61,7 +61,7 @@ pub fn settle_guarded<L: Ledger>(
 impl<L: Ledger> Shared<L> {
     /// Compares the receipts of all callers with the trail, once all threads have ended, and returns the core and the
     /// number of calls. It calls `into_guarded`, and then `settle_guarded`, whose contract is about exactly the store
-    /// that it gets.
+    /// that it gets, and which says why it is refused.
     pub fn settle(self, lists: Vec<(Caller<L>, Vec<Receipt>)>) -> Result<Settled, SettleFault>
         ensures { (lock : GuardedView) × (is_some lock.trail ≡ self.audited)
             × IsSettlement lock (claims_of lists.items) result }
