@@ -33,7 +33,7 @@ value_in (suc flag ∷ rest) = long_in rest
 abbrev pub a_write : List ℕ → Option (List ℕ) → Write
 a_write key value = record { key = key; value = value }
 
--- so many writes at the front of some bytes
+-- this many writes at the front of some bytes
 unfoldable pub writes_in : ℕ → List ℕ → List Write
 writes_in zero bytes = []
 writes_in (suc count) bytes =

@@ -15,7 +15,7 @@ const MARKS: usize = 4_096;
 /// A prime below it, by which numbers of eight bytes are divided, so that each byte counts in their marks.
 const SPREAD: u64 = 4_093;
 
-/// Below so many writes each key is compared with each other one.
+/// With fewer writes than this each key is compared with each other one.
 const FEW: usize = 9;
 
 /// A new version of a key.
@@ -26,7 +26,7 @@ pub struct Write {
     pub value: Option<Bytes>,
 }
 
-/// Returns whether one of the first writes, so many, is of this key.
+/// Returns whether one of the first `count` writes is of this key.
 fn first_have_key(writes: Writes<'_>, count: usize, key: &[u8]) -> bool
     ensures { result ≡ writes_key key.now (take count writes.entry) }
 {

@@ -24,7 +24,7 @@ pub struct Writes<'a> {
 #[derive(Debug, Drop)]
 pub(crate) enum Form<'a> {
     Slice(&'a [Write]),
-    /// So many, one after another.
+    /// A count of writes, and their bytes.
     Bytes(usize, &'a [u8]),
 }
 
@@ -49,7 +49,7 @@ impl<'a> Writes<'a> {
         }
     }
 
-    /// Returns so many writes from their bytes: for each a byte of length and the key; and 0 for a deletion mark, or 1,
+    /// Returns `count` writes from their bytes: for each a byte of length and the key; and 0 for a deletion mark, or 1,
     /// two bytes of length and the value. What is missing at the end counts as empty: nothing is checked here.
     #[inline]
     pub fn spelled(count: usize, bytes: &'a [u8]) -> Writes<'a>
@@ -109,7 +109,7 @@ impl<'a> Writes<'a> {
     }
 }
 
-/// Returns the first bytes, so many or all, and the others.
+/// Returns the first `count` bytes, or all, and the others.
 #[inline]
 fn cut(bytes: &[u8], count: usize) -> (&[u8], &[u8])
     ensures first { result.0.now ≡ take count bytes.now }
