@@ -10,7 +10,7 @@ use Rattle.hlc_rows.specs.declared.write.Write.{Write}
 use Rattle.hlc_rows.specs.declared.limits.BodyFault.{BodyFault}
 use Rattle.hlc_rows.specs.Limits.{write_refusal}
 use Rattle.hlc_rows.specs.declared.limits.BodyFault.TheVariants.{KeyTwice}
-use Rattle.hlc_rows.specs.Writes.{all_refusal, first_of, writes_key, writes_refusal, writes_twice, mark_of}
+use Rattle.hlc_rows.specs.Writes.{all_refusal, first_of, writes_key, writes_refusal, writes_twice, marks_of}
 
 pub take-more : {A : Type 0} (n : ℕ) (x : A) (xs : List A) → n ≢ 0 → take n (x ∷ xs) ≡ x ∷ take (n - 1) xs
 take-more zero x xs some = absurd (some refl)
@@ -103,13 +103,31 @@ last-or-before key (first ∷ before) write h =
           ]
     ]
 
--- the writes before the rest are of different keys, and the mark of each of their keys is set
+-- this mark is set
+abbrev IsSet : List Bool → ℕ → Type 0
+IsSet marks mark = get_or marks mark false ≡ true
+
+-- a mark that is set
+sets : (marks : List Bool) (mark : ℕ) → mark < length marks → IsSet (set marks mark true) mark
+sets marks mark low = get_or-set_same marks mark true false low
+
+-- a mark stays set when others are
+stays-set : (marks : List Bool) (mark other : ℕ) → other < length marks → IsSet marks mark
+    → IsSet (set marks other true) mark
+stays-set marks mark other low is =
+    elim (cases_eq mark other) [
+      | inl here ↦ subst (λ m. IsSet (set marks other true) m) (sym here) (sets marks other low)
+      | inr there ↦ get_or-set_other marks other mark true false there ∙ is
+    ]
+
+-- the writes before the rest are of different keys, and both marks of each of their keys are set
 pub record Passed (writes : List Write) (marks : List Bool) (rest : List Write) : Type 0 where
   pub before : List Write
   pub parts : writes ≡ before ++ rest
   pub once : writes_twice before ≡ false
   pub room : length marks ≡ 4096
-  pub marked : (key : List ℕ) → writes_key key before ≡ true → get_or marks (mark_of key) false ≡ true
+  pub marked : (key : List ℕ) → writes_key key before ≡ true
+      → IsSet marks (marks_of key).0 × IsSet marks (marks_of key).1
 
 pub passed-none : (writes : List Write) (marks : List Bool) → length marks ≡ 4096 → Passed writes marks writes
 passed-none writes marks room = record {
@@ -146,37 +164,46 @@ passed-found writes marks rest write others many p is count h =
     (found p.before write others
     (sym (ap (writes_key write.key) (firsts writes marks rest write others many p is count)) ∙ h))
 
--- the key of the next write is not among those before, since its mark is not set or no key is the same
+-- the key of the next write is not among those before, since one of its marks is not set or no key is the same
 pub passed-more : (writes : List Write) (marks : List Bool) (rest : List Write) (write : Write) (others : List Write)
-    (many mark : ℕ) → Passed writes marks rest → rest ≡ write ∷ others → many ≡ length writes - 1 - length others
-    → mark ≡ mark_of write.key → mark < 4096
-    → (get_or marks mark false ≡ false) ⊎ (writes_key write.key (take many writes) ≡ false)
-    → Passed writes (set marks mark true) others
-passed-more writes marks rest write others many mark p is count of low new =
+    (many : ℕ) (at : ℕ × ℕ) → Passed writes marks rest → rest ≡ write ∷ others
+    → many ≡ length writes - 1 - length others → at ≡ marks_of write.key → at.0 < 4096 → at.1 < 4096
+    → (get_or marks at.0 false ≡ false) ⊎ ((get_or marks at.1 false ≡ false)
+    ⊎ (writes_key write.key (take many writes) ≡ false))
+    → Passed writes (set (set marks at.0 true) at.1 true) others
+passed-more writes marks rest write others many at p is count of one two new =
+    let low : at.0 < length marks = omega (arith, one, p.room) in
+    let low' : at.1 < length (set marks at.0 true) = omega (arith, two, p.room, length-set marks at.0 true) in
+    let unseen : (mark : ℕ) → (writes_key write.key p.before ≡ true → IsSet marks mark)
+    → get_or marks mark false ≡ false → writes_key write.key p.before ≡ false =
+    λ mark seen unset.
+    elim (cases_Bool (writes_key write.key p.before)) [
+      | inl h ↦ absurd (false≢true (sym unset ∙ seen h))
+      | inr h ↦ h
+    ] in
     let none : writes_key write.key p.before ≡ false =
     elim new [
-      | inl unset ↦
-          elim (cases_Bool (writes_key write.key p.before)) [
-            | inl h ↦ absurd (false≢true (sym unset ∙ ap (λ (m : ℕ). get_or marks m false) of ∙ p.marked write.key h))
-            | inr h ↦ h
-          ]
-      | inr h ↦ sym (ap (writes_key write.key) (firsts writes marks rest write others many p is count)) ∙ h
-    ] in record {
+      | inl unset ↦ unseen at.0 (λ h. subst (λ m. IsSet marks m.0) (sym of) ((p.marked write.key h).0)) unset
+      | inr (inl unset) ↦
+          unseen at.1 (λ h. subst (λ m. IsSet marks m.1) (sym of) ((p.marked write.key h).1)) unset
+      | inr (inr h) ↦ sym (ap (writes_key write.key) (firsts writes marks rest write others many p is count)) ∙ h
+    ] in
+    let both : (mark : ℕ) → IsSet marks mark → IsSet (set (set marks at.0 true) at.1 true) mark =
+    λ mark h. stays-set (set marks at.0 true) mark at.1 low' (stays-set marks mark at.0 low h) in record {
       before = p.before ++ write ∷ [];
       parts = p.parts ∙ ap (λ (xs : List Write). p.before ++ xs) is ∙ sym (append_assoc p.before (write ∷ []) others);
       once = still-once p.before write p.once none;
-      room = length-set marks mark true ∙ p.room;
+      room = length-set (set marks at.0 true) at.1 true ∙ length-set marks at.0 true ∙ p.room;
       marked = λ key h.
-          elim (cases_eq (mark_of key) mark) [
-            | inl here ↦
-                subst (λ m. get_or (set marks mark true) m false ≡ true) (sym here)
-                (get_or-set_same marks mark true false (omega (arith, low, p.room)))
-            | inr there ↦
-                get_or-set_other marks mark (mark_of key) true false there
-                ∙ elim (last-or-before key p.before write h) [
-                  | inl earlier ↦ p.marked key earlier
-                  | inr last ↦ absurd (there (ap mark_of (sym last) ∙ sym of))
-                ]
+          elim (last-or-before key p.before write h) [
+            | inl earlier ↦
+                (both (marks_of key).0 ((p.marked key earlier).0), both (marks_of key).1 ((p.marked key earlier).1))
+            | inr last ↦
+                subst (λ m. IsSet (set (set marks at.0 true) at.1 true) m.0
+                × IsSet (set (set marks at.0 true) at.1 true) m.1) (of ∙ ap marks_of last) (
+                  stays-set (set marks at.0 true) at.0 at.1 low' (sets marks at.0 low),
+                  sets (set marks at.0 true) at.1 low',
+                )
           ];
     }
 

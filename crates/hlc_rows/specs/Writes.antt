@@ -1,5 +1,5 @@
 -- Several writes that have one stamp, and the rows that they make.
-use Rattle.std.specs.Prelude.{ℕ, ◌+◌, ◌-◌, ◌*◌, ◌%◌, List, [], ◌∷◌, length, map, Bool, false, ◌==◌, ◌||◌, nat_lt}
+use Rattle.std.specs.Prelude.{ℕ, ◌+◌, ◌-◌, ◌*◌, ◌/◌, ◌%◌, List, [], ◌∷◌, length, map, Bool, false, ◌==◌, ◌||◌, nat_lt}
 use Rattle.std.specs.Prelude.{Option, Some, None}
 use Rattle.std.specs.Prelude.{if◌then◌else◌, slice_index}
 use Rattle.std.specs.Str.{bytes_eq}
@@ -49,14 +49,16 @@ row_written node stamp write = record { key = write.key; stamp = stamp; node = n
 abbrev pub rows_written : ℕ → ℕ → List Write → List Row
 rows_written node stamp writes = map (row_written node stamp) writes
 
--- A mark of a key, below 4,096: equal keys have equal marks, so keys whose marks differ are not compared.
-abbrev pub mark_from : ℕ → List ℕ → ℕ
-mark_from mark [] = mark
-mark_from mark (byte ∷ bytes) = mark_from ((mark * 33 + byte) % 4096) bytes
+-- Two marks of a key, below 4,096: equal keys have equal marks, so keys whose marks differ are not compared.
+
+-- the bytes of a key as one number, of which 64 bits are kept
+abbrev pub number_from : ℕ → List ℕ → ℕ
+number_from number [] = number
+number_from number (byte ∷ bytes) = number_from (number % 72057594037927936 * 256 + byte) bytes
 
 -- that of a key of fewer than eight bytes
-abbrev pub short_mark : List ℕ → ℕ
-short_mark key = mark_from 0 key
+abbrev pub short_number : List ℕ → ℕ
+short_number key = number_from 0 key
 
 -- eight bytes of a key as a number, the first one highest
 unfoldable pub eight_at : List ℕ → ℕ → ℕ
@@ -65,8 +67,15 @@ eight_at key at =
     + slice_index key (at + 3)) * 256 + slice_index key (at + 4)) * 256 + slice_index key (at + 5)) * 256
     + slice_index key (at + 6)) * 256 + slice_index key (at + 7)
 
--- that of any key: of a longer one by its first and its last eight bytes
-unfoldable pub mark_of : List ℕ → ℕ
-mark_of key =
-    if nat_lt (length key) 8 then short_mark key
-    else (eight_at key 0 % 4093 + eight_at key (length key - 8) % 4093) % 4093
+-- a number of any key: of a longer one that of its first and its last eight bytes
+unfoldable pub number_of : List ℕ → ℕ
+number_of key =
+    if nat_lt (length key) 8 then short_number key
+    else (eight_at key 0 + eight_at key (length key - 8)) % 18446744073709551616
+
+-- its marks: two parts of that number multiplied by 2^64 over the golden ratio
+unfoldable pub marks_of : List ℕ → ℕ × ℕ
+marks_of key = (
+  number_of key * 11400714819323198485 % 18446744073709551616 / 4503599627370496 % 4096,
+  number_of key * 11400714819323198485 % 18446744073709551616 / 1099511627776 % 4096,
+)

@@ -2,7 +2,8 @@
 ghost use Rattle.std.specs.Prelude.{◌≡◌, ◌+◌, ◌<◌, ◌≤◌, length, option_copied, take};
 ghost use Rattle.std.specs.Prelude.{List};
 ghost use Rattle.hlc_rows.specs.Limits.{write_refusal};
-ghost use Rattle.hlc_rows.specs.Writes.{all_refusal, batch_refusal, eight_at, first_of, mark_of, short_mark};
+ghost use Rattle.hlc_rows.specs.Writes.{all_refusal, batch_refusal, eight_at, first_of, marks_of};
+ghost use Rattle.hlc_rows.specs.Writes.{number_of, short_number};
 ghost use Rattle.hlc_rows.specs.Writes.{writes_key};
 
 use crate::limits::{BodyFault, MOST_WRITES, write_fault};
@@ -12,11 +13,12 @@ use hlc_bytes::Bytes;
 /// The number of marks of keys.
 const MARKS: usize = 4_096;
 
-/// A prime below it, by which numbers of eight bytes are divided, so that each byte counts in their marks.
-const SPREAD: u64 = 4_093;
+/// 2^64 divided by the golden ratio, by which the number of a key is multiplied, so that keys in order have marks that
+/// are far from each other (Knuth, The Art of Computer Programming 3, 6.4).
+const SPREAD: u64 = 11_400_714_819_323_198_485;
 
 /// With fewer writes than this each key is compared with each other one.
-const FEW: usize = 9;
+const FEW: usize = 5;
 
 /// A new version of a key.
 #[derive(Clone, PartialEq, Eq, Debug, Drop)]
@@ -64,33 +66,43 @@ fn eight_at(key: &[u8], at: usize) -> u64
     ])
 }
 
-/// Returns a mark of a key of fewer than eight bytes.
-fn short_mark(key: &[u8]) -> usize
-    ensures is { result ≡ short_mark key.now }
-    ensures below { result < 4096 }
+/// Returns the bytes of a key of fewer than eight bytes as one number.
+fn short_number(key: &[u8]) -> u64
+    ensures { result ≡ short_number key.now }
 {
-    let mut mark = 0usize;
+    let mut number = 0u64;
     let mut rest = key;
     while let Some((byte, others)) = rest.split_first() {
-        mark = (mark * 33 + *byte as usize) % MARKS;
+        number = number % 72_057_594_037_927_936 * 256 + *byte as u64;
         rest = others;
     }
-    mark
+    number
 }
 
-/// Returns a mark of a key, made of its first and its last eight bytes: equal keys have equal marks.
+/// Returns a number of a key, made of its first and its last eight bytes: equal keys have equal numbers.
 #[inline]
-#[tactic(auto, unfolding(crate::specs::Writes::mark_of))]
-fn mark_of(key: &[u8]) -> usize
-    ensures is { result ≡ mark_of key.now }
-    ensures below { result < 4096 }
+#[tactic(auto, unfolding(crate::specs::Writes::number_of))]
+fn number_of(key: &[u8]) -> u64
+    ensures { result ≡ number_of key.now }
 {
     if key.len() < 8 {
-        return short_mark(key);
+        return short_number(key);
     }
-    let front = eight_at(key, 0) % SPREAD;
-    let back = eight_at(key, key.len() - 8) % SPREAD;
-    ((front + back) % SPREAD) as usize
+    eight_at(key, 0).wrapping_add(eight_at(key, key.len() - 8))
+}
+
+/// Returns two marks of a key: equal keys have equal marks.
+#[inline]
+#[tactic(auto, unfolding(crate::specs::Writes::marks_of))]
+fn marks_of(key: &[u8]) -> (usize, usize)
+    ensures is { result ≡ marks_of key.now }
+    ensures one { result.0 < 4096 }
+    ensures two { result.1 < 4096 }
+{
+    let hash = number_of(key).wrapping_mul(SPREAD);
+    let one = (hash / 4_503_599_627_370_496) as usize % MARKS;
+    let two = (hash / 1_099_511_627_776) as usize % MARKS;
+    (one, two)
 }
 
 /// Returns whether one of the writes is of this key.
@@ -135,8 +147,9 @@ fn few_fault(writes: Writes<'_>) -> Option<BodyFault>
     fault
 }
 
-/// Returns the same for many writes. It compares a key with those before it only if one of them has the same mark, so
-/// that it takes time in proportion to the number of writes, but for chance.
+/// Returns the same for many writes. It compares a key with those before it only if both of its marks are set (Bloom,
+/// Space/Time Trade-offs in Hash Coding, 1970), so that it takes time in proportion to the number of writes, but for
+/// chance.
 fn many_fault(writes: Writes<'_>) -> Option<BodyFault>
     ensures { result ≡ all_refusal writes.entry }
 {
@@ -144,12 +157,13 @@ fn many_fault(writes: Writes<'_>) -> Option<BodyFault>
     let mut fault = None;
     let mut rest = writes.lend();
     while let Some((first, others)) = rest.split_first() {
-        let mark = mark_of(first.key);
+        let (one, two) = marks_of(first.key);
         let before = writes.len() - 1 - others.len();
-        if marks[mark] && first_have_key(writes.lend(), before, first.key) {
+        if marks[one] && marks[two] && first_have_key(writes.lend(), before, first.key) {
             return Some(BodyFault::KeyTwice);
         }
-        marks[mark] = true;
+        marks[one] = true;
+        marks[two] = true;
         fault = first_of(fault, first.key, first.value);
         rest = others;
     }

@@ -1,6 +1,6 @@
 //! The writes of a batch as bytes: one less than their number in a byte, and for each its key and its value.
 ghost use Rattle.std.specs.Prelude.{◌≡◌, ◌≤◌, ◌<◌, ◌+◌, ◌++◌, ◌*◌, length, option_copied, IfOk, IsErrOf};
-ghost use Rattle.std.specs.Prelude.{MatchResult, Ok, Err};
+ghost use Rattle.std.specs.Prelude.{MatchResult, Ok, Err, IsTrue, []};
 ghost use Rattle.hlc_rows.specs.Spelled.{writes_in, write_seen};
 ghost use Rattle.hlc_wire.specs.Spelling.{key_bytes, value_bytes, write_bytes, writes_bytes, batch_bytes};
 ghost use Rattle.hlc_wire.specs.Spelling.{KeyFits, ValueFits, WritesFit, BatchFits};
@@ -44,6 +44,23 @@ fn after_writes(count: usize, bytes: &[u8]) -> Result<&[u8], DecodeError>
     after_writes(count - 1, rest)
 }
 
+/// Returns whether the bytes are this many writes and no more. That is all that a reader of good bytes waits for.
+#[tactic(auto, unfolding(crate::specs::Reading::writes_at))]
+fn are_writes(count: usize, bytes: &[u8]) -> bool
+    ensures { IsTrue result → writes_at count bytes.now ≡ Ok (writes_in count bytes.now, []) }
+{
+    if count == 0 {
+        return bytes.is_empty();
+    }
+    let Ok((_, rest)) = key_slice_at(bytes) else {
+        return false;
+    };
+    let Ok((_, rest)) = value_slice_at(rest) else {
+        return false;
+    };
+    are_writes(count - 1, rest)
+}
+
 /// Reads this many writes, at most 256, from all of the bytes. Their keys and values are those in the bytes: nothing is
 /// copied. The error is the first fault from the left.
 pub fn writes_of(count: usize, bytes: &[u8]) -> Result<Writes<'_>, WireFault>
@@ -51,6 +68,9 @@ pub fn writes_of(count: usize, bytes: &[u8]) -> Result<Writes<'_>, WireFault>
     ensures { MatchResult result (λ writes. whole (writes_at count bytes.now) ≡ Ok writes)
         (λ fault. whole (writes_at count bytes.now) ≡ Err fault) }
 {
+    if are_writes(count, bytes) {
+        return Ok(Writes::spelled(count, bytes));
+    }
     match after_writes(count, bytes) {
         Ok([]) => Ok(Writes::spelled(count, bytes)),
         Ok(_) => Err(WireFault::Trailing),

@@ -5,8 +5,9 @@ use Rattle.hlc_rows.specs.Limits.{write_refusal}
 use Rattle.hlc_rows.specs.Writes.{first_of}
 use Rattle.hlc_rows.proofs.TwiceLemmas.{one-more, passed-found, passed-more, refused-twice}
 use Rattle.hlc_rows.proofs.write.many_fault.Goals.{
-  else-marks-mark-via-then-marks-mark+else-first_have_key,
-  else-marks-mark-via-else-marks-mark,
+  else-marks-one-via-then-marks-one+then-marks-two+else-first_have_key,
+  else-marks-one-via-then-marks-one+else-marks-two,
+  else-marks-one-via-else-marks-one,
 }
 use Rattle.hlc_rows.proofs.write.many_fault.Goals as goal
 
@@ -27,12 +28,14 @@ loop-first-preserved c =
     let found : c.first_of-fault.result ≡ first_of c.loop-first.fault (write_refusal write.key write.value) =
     c.first_of-fault.ensures in record {
       passed = passed-more writes c.loop-first.marks rest write others (c.len.result - 1 - c.len-in-Some.result)
-          c.mark_of-mark.result c.loop-first.invariant.passed c.in-Some.ensures
-          (rw (c.len.ensures, c.len-in-Some.ensures) refl) c.mark_of-mark.ensures.is c.mark_of-mark.ensures.below
-          (elim c.else-marks-mark.branch [
-            | else-marks-mark-via-then-marks-mark+else-first_have_key w ↦
-                inr (sym (rw w.lend.ensures at w.first_have_key.ensures) ∙ w.if-first_have_key.false)
-            | else-marks-mark-via-else-marks-mark w ↦ inl w.if-marks-mark.false
+          c.marks_of-one.result c.loop-first.invariant.passed c.in-Some.ensures
+          (rw (c.len.ensures, c.len-in-Some.ensures) refl) c.marks_of-one.ensures.is c.marks_of-one.ensures.one
+          c.marks_of-one.ensures.two
+          (elim c.else-marks-one.branch [
+            | else-marks-one-via-then-marks-one+then-marks-two+else-first_have_key w ↦
+                inr (inr (sym (rw w.lend.ensures at w.first_have_key.ensures) ∙ w.if-first_have_key.false))
+            | else-marks-one-via-then-marks-one+else-marks-two w ↦ inr (inl w.if-marks-two.false)
+            | else-marks-one-via-else-marks-one w ↦ inl w.if-marks-one.false
           ]);
       fault = rw found
           (one-more c.loop-first.fault writes rest write others c.loop-first.invariant.fault c.in-Some.ensures);

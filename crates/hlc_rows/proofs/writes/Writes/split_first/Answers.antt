@@ -1,5 +1,5 @@
 -- The first write is at the front of the bytes.
-use Rattle.std.proofs.Common.{◌∙◌, sym, ap, rules, List, ◌∷◌, option_copied}
+use Rattle.std.proofs.Common.{◌∙◌, sym, ap, List, ◌∷◌, option_copied}
 use Rattle.hlc_rows.specs.declared.write.Write.{Write}
 use Rattle.hlc_rows.specs.Spelled.{a_write, writes_seen}
 use Rattle.hlc_rows.proofs.SpelledLemmas.{writes_none, front}

@@ -1,0 +1,76 @@
+//! Where the next keys of a batch are in an index.
+use hlc_column::Rows;
+use hlc_index::Index;
+use hlc_rows::Writes;
+
+/// The keys of this many writes are looked up together.
+const AHEAD: usize = 16;
+
+/// A batch of fewer writes is not looked up ahead.
+const FEW: usize = 4;
+
+/// Guesses where the keys of the next writes are. A guess may be wrong: rows of keys that are new move others.
+#[derive(Debug, Drop)]
+pub(crate) struct Ahead {
+    places: [(usize, usize); AHEAD],
+    /// How many of them were asked for.
+    used: usize,
+}
+
+impl Ahead {
+    /// Returns guesses for a batch of so many writes. Those for a few writes are all wrong, and cost nothing.
+    pub(crate) fn new(count: usize) -> Ahead {
+        Ahead {
+            places: [(usize::MAX, 0); AHEAD],
+            used: if count < FEW { 0 } else { AHEAD },
+        }
+    }
+
+    /// Returns a guess for the key of a write, after which these come. If no guess is left, it looks up the keys of the
+    /// next writes first, and fetches their columns from memory: none of these reads waits for the one before it.
+    #[inline]
+    pub(crate) fn next(
+        &mut self,
+        columns: &Index<Rows>,
+        key: &[u8],
+        others: Writes<'_>,
+    ) -> (usize, usize) {
+        if self.used >= AHEAD {
+            self.used = look_up(columns, key, others, &mut self.places);
+        }
+        let place = self.places.get(self.used).copied();
+        self.used = self.used.saturating_add(1);
+        place.unwrap_or((usize::MAX, 0))
+    }
+}
+
+/// Finds the places of a key and of those of the next writes, each of which may follow the one before it. Returns 0.
+fn look_up(
+    columns: &Index<Rows>,
+    key: &[u8],
+    others: Writes<'_>,
+    places: &mut [(usize, usize); AHEAD],
+) -> usize {
+    let mut near = (usize::MAX, 0);
+    let mut sum = 0u64;
+    let mut key = key;
+    let mut rest = others;
+    for i in 0..AHEAD {
+        near = match columns.locate_near(key, near) {
+            Ok(found) => {
+                sum = sum.wrapping_add(columns.leaf(found.0)[found.1].1.fetched());
+                found
+            }
+            Err(gap) => gap,
+        };
+        places[i] = near;
+        near.1 = near.1.saturating_add(1);
+        let Some((next, others)) = rest.split_first() else {
+            break;
+        };
+        key = next.key;
+        rest = others;
+    }
+    // The sum has no meaning, but without this test the compiler could leave the reads out.
+    if sum == u64::MAX { 1 } else { 0 }
+}
