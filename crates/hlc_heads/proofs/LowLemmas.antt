@@ -5,7 +5,7 @@ use Rattle.std.proofs.Common.{None, Option, refl, ap, sym}
 use Rattle.std.proofs.Common.{◌∙◌, ◌⊎◌, subst, inl, inr, arith, length}
 use Rattle.std.proofs.lemmas.Bool.{cond-true, cond-false, cases_lt, cases_eq, cases_Bool}
 use Rattle.hlc_heads.specs.Low.{lower, least_left, or_else, low}
-use Rattle.hlc_heads.specs.Heads.{HeadsView, head_at, IsFloor, floor_of}
+use Rattle.hlc_heads.specs.Heads.{HeadsView, link_at, IsFloor, floor_of}
 
 -- one of those that have not retired has the value
 abbrev pub IsOneLeft : (ℕ → ℕ) → (ℕ → Bool) → ℕ → ℕ → Type 0
@@ -192,8 +192,8 @@ low-stays f g has_retired left n top next k within here at others =
 -- the floor is the one that the function computes
 pub floor-is : (marks : HeadsView) (floor : ℕ) → IsFloor marks floor → floor ≡ floor_of marks
 floor-is marks floor h =
-    low-one (λ k. (head_at marks.heads k).stamp) (λ k. (head_at marks.heads k).retired)
-    (length marks.heads) marks.top floor (floor_of marks)
+    low-one (λ k. (link_at marks.links k).head) (λ k. (link_at marks.links k).retired)
+    (length marks.links) marks.top floor (floor_of marks)
     (elim h [
       | inl one ↦ record { least = one.least; is = inl one.is_head }
       | inr none ↦
@@ -203,5 +203,5 @@ floor-is marks floor h =
             is = inr none;
           }
     ])
-    (low-is (λ k. (head_at marks.heads k).stamp) (λ k. (head_at marks.heads k).retired)
-    (length marks.heads) marks.top)
+    (low-is (λ k. (link_at marks.links k).head) (λ k. (link_at marks.links k).retired)
+    (length marks.links) marks.top)

@@ -1,10 +1,10 @@
--- The heads of all nodes, and the floor.
+-- The links of all nodes, and the floor, which is the least of their heads.
 use Rattle.std.specs.Prelude.{◌≡◌, ℕ, ◌<◌, ◌≤◌, ◌⊎◌, ◌++◌, Bool, true, false, List, [], ◌∷◌, length}
 use Rattle.std.specs.Prelude.{max, replicate}
 use Rattle.std.specs.Prelude.{slice_set, slice_index_or, Result, Ok, Err}
+use Rattle.hlc_intake.specs.IntakeView.{IntakeView}
 use Rattle.hlc_heads.specs.Low.{low}
 use Rattle.hlc_heads.specs.declared.heads.TheConstants.{MOST_NODES, MOST_NUMBERS}
-use Rattle.hlc_heads.specs.declared.heads.Head.{Head}
 use Rattle.hlc_heads.specs.declared.heads.HeadsFault.{HeadsFault}
 use Rattle.hlc_heads.specs.declared.heads.HeadsFault.TheVariants.{NoNode, NoMemory}
 use Rattle.hlc_heads.specs.declared.heads.JoinFault.{JoinFault}
@@ -16,78 +16,85 @@ pub record AcceptedView : Type 0 where
   pub stamp : ℕ
   pub retires : Bool
 
--- the head of each node; and the greatest stamp of an accepted item or of a start, 0 if there is none
+-- the link of each node; and the greatest stamp of an accepted item or of a start, 0 if there is none
 pub record HeadsView : Type 0 where
-  pub heads : List Head
+  pub links : List IntakeView
   pub top : ℕ
 
--- there is a head, and there are no more heads than node numbers
+-- there is a link, and there are no more links than node numbers
 pub record IsSized (marks : HeadsView) : Type 0 where
-  pub some : 0 < length marks.heads
-  pub few : length marks.heads ≤ MOST_NUMBERS
+  pub some : 0 < length marks.links
+  pub few : length marks.links ≤ MOST_NUMBERS
 
--- a head with these parts
-abbrev pub a_head : ℕ → Bool → Head
-a_head stamp retired = record { stamp = stamp; retired = retired }
+-- a link with this progress
+abbrev pub a_link : ℕ → ℕ → Bool → IntakeView
+a_link next head retired = record { next = next; head = head; retired = retired }
 
--- the head of this node; if there is no such node, a head that is retired
-abbrev pub head_at : List Head → ℕ → Head
-head_at heads node = slice_index_or heads node (a_head 0 true)
+-- in place of the link of a node that does not exist: one that has retired
+abbrev pub no_link : IntakeView
+no_link = a_link 0 0 true
 
--- the heads after an item of this node with this stamp was accepted, which may be the node's last one
+-- the link of this node
+abbrev pub link_at : List IntakeView → ℕ → IntakeView
+link_at links node = slice_index_or links node no_link
+
+-- the links after that of this node advanced to this one
+abbrev pub advanced : HeadsView → ℕ → IntakeView → HeadsView
+advanced marks node link = record { links = slice_set marks.links node link; top = max marks.top link.head }
+
+-- the links after an item of this node with this stamp was accepted, which may be the node's last one
 abbrev pub marked : HeadsView → ℕ → ℕ → Bool → HeadsView
-marked marks node stamp last =
-    record { heads = slice_set marks.heads node (a_head stamp last); top = max marks.top stamp }
+marked marks node stamp last = advanced marks node (a_link (link_at marks.links node).next stamp last)
 
--- the heads with one more node, whose head is its start
+-- the links with one more, whose head is its start
 abbrev pub joined : HeadsView → ℕ → HeadsView
-joined marks start = record { heads = marks.heads ++ a_head start false ∷ []; top = max marks.top start }
+joined marks start = record { links = marks.links ++ a_link 0 start false ∷ []; top = max marks.top start }
 
 -- every node has retired
-abbrev pub AllRetired : List Head → Type 0
-AllRetired heads = (k : ℕ) → k < length heads → (head_at heads k).retired ≡ true
+abbrev pub AllRetired : List IntakeView → Type 0
+AllRetired links = (k : ℕ) → k < length links → (link_at links k).retired ≡ true
 
 -- the least head of the nodes that have not retired
-pub record IsLeast (heads : List Head) (low : ℕ) : Type 0 where
-  pub is_head : (k : ℕ) × (k < length heads) × ((head_at heads k).retired ≡ false)
-      × ((head_at heads k).stamp ≡ low)
-  pub least : (k : ℕ) → k < length heads → (head_at heads k).retired ≡ false
-      → low ≤ (head_at heads k).stamp
+pub record IsLeast (links : List IntakeView) (low : ℕ) : Type 0 where
+  pub is_head : (k : ℕ) × (k < length links) × ((link_at links k).retired ≡ false)
+      × ((link_at links k).head ≡ low)
+  pub least : (k : ℕ) → k < length links → (link_at links k).retired ≡ false
+      → low ≤ (link_at links k).head
 
 -- The floor is the least head of the nodes that have not retired; if all have, it is the top. Each of them retired by
 -- an item above its start, so the top is the greatest stamp of an accepted item.
 abbrev pub IsFloor : HeadsView → ℕ → Type 0
-IsFloor marks floor = IsLeast marks.heads floor ⊎ (AllRetired marks.heads × (floor ≡ marks.top))
+IsFloor marks floor = IsLeast marks.links floor ⊎ (AllRetired marks.links × (floor ≡ marks.top))
 
--- the floor of these heads
+-- the floor of these links
 abbrev pub floor_of : HeadsView → ℕ
 floor_of marks =
-    low (λ k. (head_at marks.heads k).stamp) (λ k. (head_at marks.heads k).retired) (length marks.heads) marks.top
+    low (λ k. (link_at marks.links k).head) (λ k. (link_at marks.links k).retired) (length marks.links) marks.top
 
--- this many heads are made, each of them 0; or the number is 0 or too large; or there is no memory
+-- this many links are made, each with the head 0; or the number is 0 or too large; or there is no memory
 abbrev pub Makes : ℕ → Result HeadsView HeadsFault → Type 0
 Makes count (Ok marks) =
     (0 < count) × (count ≤ MOST_NODES)
-    × (marks ≡ record { heads = replicate count (a_head 0 false); top = 0 })
+    × (marks ≡ record { links = replicate count (a_link 0 0 false); top = 0 })
 Makes count (Err NoNode) = (count ≡ 0) ⊎ (MOST_NODES < count)
 Makes count (Err NoMemory) = (0 < count) × (count ≤ MOST_NODES)
 
 -- a node joined at the floor, with the next number; or no number is left; or there is no memory
 abbrev pub Joins : HeadsView → HeadsView → Result (ℕ × ℕ) JoinFault → Type 0
 Joins old new (Ok made) =
-    (length old.heads < MOST_NUMBERS) × (made.0 ≡ length old.heads) × IsFloor old made.1
+    (length old.links < MOST_NUMBERS) × (made.0 ≡ length old.links) × IsFloor old made.1
     × (new ≡ joined old made.1)
-Joins old new (Err TooManyNodes) = (MOST_NUMBERS ≤ length old.heads) × (new ≡ old)
+Joins old new (Err TooManyNodes) = (MOST_NUMBERS ≤ length old.links) × (new ≡ old)
 Joins old new (Err (BelowFloor floor)) = ⊥
-Joins old new (Err NoRoom) = (length old.heads < MOST_NUMBERS) × (new ≡ old)
+Joins old new (Err NoRoom) = (length old.links < MOST_NUMBERS) × (new ≡ old)
 
 -- a node joined at this start, with the next number; or no number is left; or the start is below the floor, which is
 -- returned; or there is no memory
 abbrev pub JoinsAt : HeadsView → HeadsView → ℕ → Result ℕ JoinFault → Type 0
 JoinsAt old new start (Ok node) =
-    (length old.heads < MOST_NUMBERS) × (floor_of old ≤ start) × (node ≡ length old.heads)
+    (length old.links < MOST_NUMBERS) × (floor_of old ≤ start) × (node ≡ length old.links)
     × (new ≡ joined old start)
-JoinsAt old new start (Err TooManyNodes) = (MOST_NUMBERS ≤ length old.heads) × (new ≡ old)
+JoinsAt old new start (Err TooManyNodes) = (MOST_NUMBERS ≤ length old.links) × (new ≡ old)
 JoinsAt old new start (Err (BelowFloor floor)) =
-    (length old.heads < MOST_NUMBERS) × (floor ≡ floor_of old) × (start < floor) × (new ≡ old)
-JoinsAt old new start (Err NoRoom) = (length old.heads < MOST_NUMBERS) × (floor_of old ≤ start) × (new ≡ old)
+    (length old.links < MOST_NUMBERS) × (floor ≡ floor_of old) × (start < floor) × (new ≡ old)
+JoinsAt old new start (Err NoRoom) = (length old.links < MOST_NUMBERS) × (floor_of old ≤ start) × (new ≡ old)

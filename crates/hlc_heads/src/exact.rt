@@ -3,7 +3,7 @@ ghost use Rattle.std.proofs.Common.{rules};
 ghost use Rattle.std.proofs.lemmas.Grind.{common_steps};
 
 use crate::accepted::Accepted;
-use crate::heads::{Head, HeadsFault, JoinFault};
+use crate::heads::{HeadsFault, JoinFault};
 use hlc_values::Exact;
 
 impl Exact for Accepted {
@@ -19,12 +19,6 @@ impl Exact for HeadsFault {
 }
 
 impl Exact for JoinFault {
-    ghost equal = { Prim.search (rules, common_steps) };
-
-    ghost copied = { Prim.search rules };
-}
-
-impl Exact for Head {
     ghost equal = { Prim.search (rules, common_steps) };
 
     ghost copied = { Prim.search rules };

@@ -3,48 +3,53 @@ ghost use Rattle.std.specs.Prelude.{◌≡◌, ◌+◌, ◌*◌, ◌≤◌, Matc
 ghost use Rattle.hlc_heads.specs.declared.groups.TheConstants.{GROUP};
 ghost use Rattle.hlc_heads.specs.Groups.{IsLeastIn, IsLeastOf, AreGroups, AreOthers};
 
-use crate::heads::Head;
 use hlc_clock::Stamp;
+use hlc_intake::Intake;
 
 /// The number of nodes in a group, and the number of groups.
 pub const GROUP: usize = 32;
 
 /// Returns the least head of the nodes of a group that have not retired, or none if all have. `first` is the first node
 /// of the group.
-pub(crate) fn least_in(heads: &[Head], first: usize) -> Option<Stamp>
+pub(crate) fn least_in(links: &[Intake], first: usize) -> Option<Stamp>
     requires { first ≤ 992 }
-    ensures { IsLeastIn heads.now first (first + GROUP) result }
+    ensures { IsLeastIn links.now first (first + GROUP) result }
 {
     let mut least = None;
-    for node in first..heads.len().min(first + GROUP) {
-        if !heads[node].retired {
-            least = Some(lower(least, heads[node].stamp));
+    for node in first..links.len().min(first + GROUP) {
+        if !links[node].retired() {
+            least = Some(lower(least, links[node].head()));
         }
     }
     least
 }
 
 /// Returns the least head of each group.
-pub(crate) fn groups_of(heads: &[Head]) -> [Option<Stamp>; GROUP]
-    ensures { AreGroups heads.now result }
+pub(crate) fn groups_of(links: &[Intake]) -> [Option<Stamp>; GROUP]
+    ensures { AreGroups links.now result }
 {
     let mut groups = [None; GROUP];
     for group in 0..GROUP {
-        groups[group] = least_in(heads, group * GROUP);
+        groups[group] = least_in(links, group * GROUP);
     }
     groups
 }
 
 /// Updates the least head of a node's group after the node's head rose from `was` or the node
 /// retired. The group is scanned only if `was` was its least head.
-pub(crate) fn regroup(groups: &mut [Option<Stamp>; GROUP], heads: &[Head], node: usize, was: Stamp)
+pub(crate) fn regroup(
+    groups: &mut [Option<Stamp>; GROUP],
+    links: &[Intake],
+    node: usize,
+    was: Stamp,
+)
     requires node { node < GROUP * GROUP }
-    requires others { AreOthers heads.now groups.old node was }
-    ensures { AreGroups heads.now groups.new }
+    requires others { AreOthers links.now groups.old node was }
+    ensures { AreGroups links.now groups.new }
 {
     let group = node / GROUP;
     if groups[group] == Some(was) {
-        groups[group] = least_in(heads, group * GROUP);
+        groups[group] = least_in(links, group * GROUP);
     }
 }
 

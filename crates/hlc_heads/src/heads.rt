@@ -1,4 +1,4 @@
-//! The head of each link, and the floor.
+//! The link of each node, and the floor.
 ghost use Rattle.std.specs.Prelude.{◌≡◌, ◌<◌, false, true, length, max};
 ghost use Rattle.hlc_heads.specs.declared.heads.TheConstants.{MOST_NODES, MOST_NUMBERS};
 ghost use Rattle.hlc_heads.specs.Faults.{join_code, join_word};
@@ -8,13 +8,15 @@ ghost use Rattle.hlc_heads.specs.Heads.{
   JoinsAt,
   IsFloor,
   IsSized,
-  head_at,
+  advanced,
+  link_at,
   marked,
 };
 
 use crate::accepted::Accepted;
 use crate::groups::{GROUP, groups_of, least_of, lower, regroup};
 use hlc_clock::Stamp;
+use hlc_intake::Intake;
 use std::alloc::Global;
 use std::error::Error;
 use std::fmt;
@@ -113,19 +115,11 @@ impl fmt::Display for JoinFault {
 
 impl Error for JoinFault {}
 
-/// The head of a node: the stamp of its last accepted item or else of its start, and whether that
-/// item was the node's last.
-#[derive(Clone, Copy, PartialEq, Eq, Debug)]
-pub struct Head {
-    pub stamp: Stamp,
-    pub retired: bool,
-}
-
-/// The head of each node, and the greatest stamp of an accepted item or of a start. In contracts it is the list of the
-/// heads, by node, and that stamp.
+/// The link of each node, and the greatest stamp of an accepted item or of a start. In contracts it is the list of the
+/// links, by node, and that stamp.
 #[derive(Debug, Drop)]
 pub struct Heads {
-    heads: Vec<Head>,
+    links: Vec<Intake>,
     /// The least head of each group of nodes, among those that have not retired.
     groups: [Option<Stamp>; GROUP],
     top: Stamp,
@@ -138,117 +132,113 @@ impl Model for Heads {
 
     ghost Value = { HeadsView };
 
-    ghost view = { λ heads. record { heads = heads.heads.items; top = heads.top } };
+    ghost view = { λ heads. record { links = heads.links.items; top = heads.top } };
 
-    ghost invariant = { λ heads. IsSized (record { heads = heads.heads.items; top = heads.top })
-        × IsFloor (record { heads = heads.heads.items; top = heads.top }) heads.floor
-        × AreGroups heads.heads.items heads.groups };
+    ghost invariant = { λ heads. IsSized (record { links = heads.links.items; top = heads.top })
+        × IsFloor (record { links = heads.links.items; top = heads.top }) heads.floor
+        × AreGroups heads.links.items heads.groups };
 }
 
 impl Heads {
-    /// Makes the heads of this many nodes, 1 to 64, without any accepted item. Nodes are numbered
-    /// from 0 and start at 0.0.
+    /// Makes the links of this many nodes, 1 to 64, without any accepted item. Nodes are numbered from 0 and start at
+    /// 0.0.
     pub fn new(alloc: Global, nodes: u16) -> Result<Heads, HeadsFault>
         ensures { Makes nodes result }
     {
         if nodes == 0 || nodes > MOST_NODES {
             return Err(HeadsFault::NoNode);
         }
-        let head = Head {
-            stamp: Stamp::ZERO,
-            retired: false,
-        };
-        match vec![in alloc; head; nodes as usize] {
-            Ok(heads) => Ok(Heads {
-                groups: groups_of(&heads),
-                heads,
-                top: Stamp::ZERO,
-                floor: Stamp::ZERO,
-            }),
+        match vec![in alloc; Intake::new(); nodes as usize] {
+            Ok(links) => Ok(Heads::resuming(links, Stamp::ZERO)),
             Err(_) => Err(HeadsFault::NoMemory),
         }
     }
 
-    /// Makes heads from these, by node, 1 to 1,024 of them, and the greatest stamp of an accepted item or of a start.
-    /// It needs no memory.
-    pub fn resuming(heads: Vec<Head>, top: Stamp) -> Heads
-        requires { IsSized (record { heads = heads.items; top = top }) }
-        ensures { result ≡ record { heads = heads.items; top = top } }
+    /// Makes heads from the links of 1 to 1,024 nodes, by node, and the greatest stamp of an accepted item or of a
+    /// start. It needs no memory.
+    pub fn resuming(links: Vec<Intake>, top: Stamp) -> Heads
+        requires { IsSized (record { links = links.items; top = top }) }
+        ensures { result ≡ record { links = links.items; top = top } }
     {
-        let groups = groups_of(&heads);
+        let groups = groups_of(&links);
         let floor = least_of(&groups).unwrap_or(top);
         Heads {
-            heads,
+            links,
             groups,
             top,
             floor,
         }
     }
 
+    /// Returns the links by the numbers of their nodes.
+    pub fn links(&self) -> &[Intake]
+        ensures { result.now ≡ self.now.links }
+    {
+        self.links.as_slice()
+    }
+
     /// Returns the head of a node, which is below the number of nodes.
     pub fn head(&self, node: u16) -> Stamp
-        requires { node < length self.now.heads }
-        ensures { result ≡ (head_at self.now.heads node).stamp }
+        requires { node < length self.now.links }
+        ensures { result ≡ (link_at self.now.links node).head }
     {
-        self.heads[node as usize].stamp
+        self.links[node as usize].head()
     }
 
     /// Returns whether a node, which is below the number of nodes, has retired.
     pub fn is_retired(&self, node: u16) -> bool
-        requires { node < length self.now.heads }
-        ensures { result ≡ (head_at self.now.heads node).retired }
+        requires { node < length self.now.links }
+        ensures { result ≡ (link_at self.now.links node).retired }
     {
-        self.heads[node as usize].retired
+        self.links[node as usize].retired()
     }
 
     /// Makes the stamp of an accepted item the head of its node. The node is below the number of
     /// nodes and has not retired, and the stamp is above its head.
     pub fn raise(&mut self, node: u16, stamp: Stamp) -> Accepted
-        requires node { node < length self.old.heads }
-        requires open { (head_at self.old.heads node).retired ≡ false }
-        requires rising { (head_at self.old.heads node).stamp < stamp }
+        requires node { node < length self.old.links }
+        requires open { (link_at self.old.links node).retired ≡ false }
+        requires rising { (link_at self.old.links node).head < stamp }
         ensures raised { self.new ≡ marked self.old node stamp false }
         ensures accepted { result ≡ record { node = node; stamp = stamp; retires = false } }
     {
-        self.mark(node, stamp, false)
+        let next = self.links[node as usize].next();
+        self.advance(node, Intake::resuming(next, stamp, false))
     }
 
     /// Makes the stamp of a node's last accepted item its head, and no longer counts the node in
     /// the floor. The node is below the number of nodes and has not retired, and the stamp is above
     /// its head.
     pub fn retire(&mut self, node: u16, stamp: Stamp) -> Accepted
-        requires node { node < length self.old.heads }
-        requires open { (head_at self.old.heads node).retired ≡ false }
-        requires rising { (head_at self.old.heads node).stamp < stamp }
+        requires node { node < length self.old.links }
+        requires open { (link_at self.old.links node).retired ≡ false }
+        requires rising { (link_at self.old.links node).head < stamp }
         ensures retired { self.new ≡ marked self.old node stamp true }
         ensures accepted { result ≡ record { node = node; stamp = stamp; retires = true } }
     {
-        self.mark(node, stamp, true)
+        let next = self.links[node as usize].next();
+        self.advance(node, Intake::resuming(next, stamp, true))
     }
 
-    /// Makes the stamp the node's head, and also the top if it is above the top. The floor is
-    /// computed again only if it was the node's head; otherwise it does not change.
-    fn mark(&mut self, node: u16, stamp: Stamp, last: bool) -> Accepted
-        requires node { node < length self.old.heads }
-        requires open { (head_at self.old.heads node).retired ≡ false }
-        requires rising { (head_at self.old.heads node).stamp < stamp }
-        ensures marked { self.new ≡ marked self.old node stamp last }
-        ensures accepted { result ≡ record { node = node; stamp = stamp; retires = last } }
+    /// Puts the progress of a node's link after it admitted an item: the stamp of the item is its head. The node is
+    /// below the number of nodes and has not retired, and the stamp is above its head. The floor is computed again only
+    /// if it was the node's head; otherwise it does not change.
+    pub fn advance(&mut self, node: u16, link: Intake) -> Accepted
+        requires node { node < length self.old.links }
+        requires open { (link_at self.old.links node).retired ≡ false }
+        requires rising { (link_at self.old.links node).head < link.head }
+        ensures advanced { self.new ≡ advanced self.old node link }
+        ensures accepted { result ≡ record { node = node; stamp = link.head; retires = link.retired } }
     {
         let place = node as usize;
-        let was = self.heads[place].stamp;
-        self.heads[place] = Head {
-            stamp,
-            retired: last,
-        };
-        if stamp > self.top {
-            self.top = stamp;
-        }
-        regroup(&mut self.groups, &self.heads, place, was);
+        let was = self.links[place].head();
+        self.links[place] = link;
+        self.top = greater(self.top, link.head());
+        regroup(&mut self.groups, &self.links, place, was);
         if was == self.floor {
             self.floor = least_of(&self.groups).unwrap_or(self.top);
         }
-        Accepted::new(node, stamp, last)
+        Accepted::new(node, link.head(), link.retired())
     }
 
     /// Adds a node, which is assigned the next number and starts at the floor, its first head. So
@@ -272,18 +262,14 @@ impl Heads {
     pub fn join_at(&mut self, start: Stamp) -> Result<u16, JoinFault>
         ensures { JoinsAt self.old self.new start result }
     {
-        let place = self.heads.len();
+        let place = self.links.len();
         if place >= MOST_NUMBERS as usize {
             return Err(JoinFault::TooManyNodes);
         }
         if start < self.floor {
             return Err(JoinFault::BelowFloor { floor: self.floor });
         }
-        let head = Head {
-            stamp: start,
-            retired: false,
-        };
-        let Ok(()) = self.heads.push(head) else {
+        let Ok(()) = self.links.push(Intake::starting_at(start)) else {
             return Err(JoinFault::NoMemory);
         };
         let group = place / GROUP;
@@ -295,8 +281,8 @@ impl Heads {
 
     /// Returns the floor: the least head of the nodes that have not retired, or the greatest stamp of an accepted item
     /// if all have. It never falls, and every item that is accepted later has a stamp above it. It is stored, so this
-    /// call costs the same however many nodes have joined and retired: `raise` and `retire` update it. They scan 32
-    /// heads if the node had the least head of its group, and 32 groups if that head was the floor.
+    /// call costs the same however many nodes have joined and retired: `advance` updates it. It scans 32 heads
+    /// if the node had the least head of its group, and 32 groups if that head was the floor.
     pub fn floor(&self) -> Stamp
         ensures { IsFloor self.now result }
     {

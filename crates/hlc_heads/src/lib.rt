@@ -1,4 +1,4 @@
-//! The heads of all links, their floor, and the receipts of accepted items.
+//! The links of all nodes, the floor of their heads, and the receipts of accepted items.
 #![tactic(auto)]
 
 mod accepted;
@@ -8,7 +8,7 @@ mod heads;
 
 pub use accepted::Accepted;
 pub use heads::{
-    Head, Heads, HeadsFault, JoinFault, MOST_NODES, MOST_NUMBERS, most_nodes_are_64,
+    Heads, HeadsFault, JoinFault, MOST_NODES, MOST_NUMBERS, most_nodes_are_64,
     most_numbers_are_1024,
 };
 pub use hlc_clock::Stamp;

@@ -7,5 +7,5 @@ use Rattle.hlc_heads.proofs.groups.groups_of.Given as goal
 abbrev pub invariant-loop-group : goal.invariant-loop-group
 invariant-loop-group l = record {
   found : (other : ℕ) → other < l.group
-      → IsLeastIn l.heads (other * GROUP) (other * GROUP + GROUP) (group_at l.groups other);
+      → IsLeastIn l.links (other * GROUP) (other * GROUP + GROUP) (group_at l.groups other);
 }

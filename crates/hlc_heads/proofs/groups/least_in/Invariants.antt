@@ -5,5 +5,5 @@ use Rattle.hlc_heads.proofs.groups.least_in.Given as goal
 
 abbrev pub invariant-loop-node : goal.invariant-loop-node
 invariant-loop-node l = record {
-  found : IsLeastIn l.heads l.first l.node l.least;
+  found : IsLeastIn l.links l.first l.node l.least;
 }
