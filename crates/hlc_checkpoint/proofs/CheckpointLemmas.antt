@@ -1,23 +1,21 @@
 -- The parts that are made from a checkpoint are consistent, as those of a core are, and the state of a core, with its
 -- rows in order, is a checkpoint.
-use Rattle.std.proofs.Common.{◌≡◌, ◌≢◌, ℕ, suc, ◌<◌, ◌≤◌, List, [], ◌∷◌, length, get_or}
-use Rattle.std.proofs.Common.{refl, ap, sym, ◌∙◌, subst, inl, inr, arith, IsPermutation, true, ltb}
+use Rattle.std.proofs.Common.{◌≡◌, ◌≢◌, ℕ, suc, ◌<◌, ◌≤◌, List, [], ◌∷◌, length}
+use Rattle.std.proofs.Common.{refl, sym, subst, inl, inr, arith, IsPermutation, ltb}
 use Rattle.std.specs.Prelude.{MatchOption}
 use Rattle.std.proofs.lemmas.Option.{slice_get-get_or, slice_get_past}
 use Rattle.std.proofs.lemmas.Bool.{cases_lt}
-use Rattle.std.proofs.lemmas.List.{get_or-map, length-map}
 use Rattle.std.proofs.lemmas.List.Elements.{All-weaker, All-filter}
 use Rattle.std.proofs.lemmas.List.Sorted.{All-permutation, IsPermutation-keeps}
 use Rattle.hlc_rows.specs.declared.row.Row.{Row}
 use Rattle.hlc_rows.specs.Rows.{IsRowSet, IsSameVersion}
 use Rattle.hlc_intake.specs.IntakeView.{IntakeView}
-use Rattle.hlc_heads.specs.declared.heads.Head.{Head}
-use Rattle.hlc_heads.specs.Heads.{HeadsView, a_head, head_at}
+use Rattle.hlc_heads.specs.Heads.{no_link, link_at}
 use Rattle.hlc_snapshot.specs.RegistryView.{IsRegister}
 use Rattle.hlc_column.proofs.FlagLemmas.{filter-IsRowSet}
 use Rattle.hlc_witness.specs.Cost.{IsInLimits}
 use Rattle.hlc_witness.proofs.CertificateLemmas.{ascending_rows_are_a_row_set}
-use Rattle.hlc_checkpoint.specs.StoreView.{StoreView, marks_of, with_rows_left, HaveHeads, HasNodes, IsConsistent}
+use Rattle.hlc_checkpoint.specs.StoreView.{StoreView, marks_of, with_rows_left, IsConsistent}
 use Rattle.hlc_checkpoint.specs.StoreView.{IsSound}
 use Rattle.hlc_checkpoint.specs.declared.checkpoint.RestoreFault.{RestoreFault}
 use Rattle.hlc_checkpoint.specs.declared.checkpoint.RestoreFault.TheVariants as reasons
@@ -27,17 +25,9 @@ use Rattle.hlc_witness.specs.Certificate.{RowsAscend}
 use Rattle.hlc_checkpoint.specs.Sorted.{AreRowsAbove, rows_above}
 use Rattle.hlc_checkpoint.proofs.AscendLemmas.{AreApart, apart, apart-swap}
 
--- the default where there is no link
-abbrev no_link : IntakeView
-no_link = record { next = 0; head = 0; retired = true }
-
--- a link's head
-abbrev head_of : IntakeView → Head
-head_of link = a_head link.head link.retired
-
 -- the row is of one of the nodes, and not above its head
-abbrev pub IsUnder : List Head → Row → Type 0
-IsUnder heads row = (row.node < length heads) × (row.stamp ≤ (head_at heads row.node).stamp)
+abbrev pub IsUnder : List IntakeView → Row → Type 0
+IsUnder links row = (row.node < length links) × (row.stamp ≤ (link_at links row.node).head)
 
 from_apart : (rows : List Row) → AreApart rows → IsRowSet rows
 from_apart [] h = tt
@@ -51,54 +41,34 @@ pub row_set-moved : (rows moved : List Row) → IsRowSet rows → IsPermutation 
 row_set-moved rows moved h moves =
     from_apart moved (IsPermutation-keeps rows AreApart (apart rows h) apart-swap moved moves)
 
-pub heads-length : (links : List IntakeView) (marks : HeadsView) → HaveHeads links marks → length marks.heads
-    ≡ length links
-heads-length links marks h = ap (λ (m : HeadsView). length m.heads) h.same ∙ length-map links head_of
-
--- a head is its link's
-pub head-of : (links : List IntakeView) (marks : HeadsView) (n : ℕ) → HaveHeads links marks → n < length links
-    → head_at marks.heads n ≡ head_of (get_or links n no_link)
-head-of links marks n h within = ap (λ (m : HeadsView). head_at m.heads n) h.same
-    ∙ get_or-map head_of links n no_link (a_head 0 true) within
-
--- if there are nodes, and links of them, the heads are theirs
-pub heads-had : (start : ℕ) (links : List IntakeView) (most : ℕ) → HasNodes start links
-    → HaveHeads links (marks_of links most)
-heads-had start links most h =
-    record { some = omega (arith, h.some, h.linked); few = h.bounded; same = refl }
-
-under-to : (links : List IntakeView) (top start : ℕ) (row : Row) → HasNodes start links → IsUnderHead links row
-    → IsUnder (marks_of links top).heads row
-under-to links top start row has under =
-    let had = heads-had start links top has in
-    let d : IntakeView = record { next = 0; head = 0; retired = true } in
-    let len : length (marks_of links top).heads ≡ length links = heads-length links (marks_of links top) had in
+under-to : (links : List IntakeView) (row : Row) → IsUnderHead links row → IsUnder links row
+under-to links row under =
     elim (cases_lt row.node (length links)) [
-      | inl below ↦
-          let low : row.stamp ≤ (get_or links row.node d).head =
-          subst (λ o. MatchOption o ⊥ (λ link. row.stamp ≤ link.head)) (slice_get-get_or links row.node d below)
-          under in
-          let e : (head_at (marks_of links top).heads row.node).stamp ≡ (get_or links row.node d).head =
-          ap (λ h. h.stamp) (head-of links (marks_of links top) row.node had below) in
-          (omega arith, omega arith)
+      | inl below ↦ (
+        below,
+        subst (λ o. MatchOption o ⊥ (λ link. row.stamp ≤ link.head)) (slice_get-get_or links row.node no_link below)
+            under,
+      )
       | inr outside ↦
           absurd (subst (λ o. MatchOption o ⊥ (λ link. row.stamp ≤ link.head)) (slice_get_past links row.node outside)
           under)
     ]
 
--- a core of a checkpoint's parts, with its rows in another order, has its heads, is consistent, and has its nodes
+under-from : (links : List IntakeView) (row : Row) → IsUnder links row → IsUnderHead links row
+under-from links row (within, low) =
+    subst (λ o. MatchOption o ⊥ (λ link. row.stamp ≤ link.head))
+    (sym (slice_get-get_or links row.node no_link within)) low
+
+-- a core of a checkpoint's parts, with its rows in another order, is consistent and sound
 pub restored : (kept : StoreView) (rows : List Row) → IsCheckpoint kept → IsPermutation kept.rows rows
-    → HaveHeads kept.links (marks_of kept.links kept.top)
-    × IsConsistent (marks_of kept.links kept.top) kept.snapshots rows
+    → IsConsistent (marks_of kept.links kept.top) kept.snapshots rows
     × IsSound kept.start kept.links kept.top kept.horizon rows
 restored kept rows is moved = (
-  heads-had kept.start kept.links kept.top is.nodes,
   record {
     opened = is.opened;
     row_set = row_set-moved kept.rows rows (ascending_rows_are_a_row_set kept.rows is.ascend) moved;
-    stored = All-permutation (IsUnder (marks_of kept.links kept.top).heads) kept.rows rows moved
-        (All-weaker (IsUnderHead kept.links) (IsUnder (marks_of kept.links kept.top).heads)
-        (λ row under. under-to kept.links kept.top kept.start row is.nodes under) kept.rows is.under);
+    stored = All-permutation (IsUnder kept.links) kept.rows rows moved
+        (All-weaker (IsUnderHead kept.links) (IsUnder kept.links) (under-to kept.links) kept.rows is.under);
   },
   record {
     nodes = is.nodes;
@@ -112,12 +82,11 @@ restored kept rows is moved = (
 
 -- and so has a copy of a checkpoint, by its own parts
 pub copied : (kept copy : StoreView) → IsCheckpoint kept → IsCopyOf kept copy
-    → HaveHeads copy.links (marks_of copy.links copy.top)
-    × IsConsistent (marks_of copy.links copy.top) copy.snapshots copy.rows
+    → IsConsistent (marks_of copy.links copy.top) copy.snapshots copy.rows
     × IsSound copy.start copy.links copy.top copy.horizon copy.rows
 copied kept copy is same =
-    subst (λ (c : StoreView). HaveHeads c.links (marks_of c.links c.top)
-    × IsConsistent (marks_of c.links c.top) c.snapshots c.rows × IsSound c.start c.links c.top c.horizon c.rows)
+    subst (λ (c : StoreView). IsConsistent (marks_of c.links c.top) c.snapshots c.rows
+    × IsSound c.start c.links c.top c.horizon c.rows)
     {x = with_rows_left kept copy.rows kept.horizon} (sym same.same) (restored kept copy.rows is same.rows)
 
 -- its snapshots are those of a register
@@ -127,47 +96,22 @@ copied-register kept copy is same =
     subst (λ (c : StoreView). IsRegister (record { snapshots = c.snapshots; opened = c.opened }))
     {x = with_rows_left kept copy.rows kept.horizon} (sym same.same) is.register
 
--- and there are as many links as heads may be made of
-pub copied-nodes : (kept copy : StoreView) → IsCheckpoint kept → IsCopyOf kept copy → HasNodes copy.start copy.links
-copied-nodes kept copy is same =
-    subst (λ (c : StoreView). HasNodes c.start c.links) {x = with_rows_left kept copy.rows kept.horizon}
-    (sym same.same) is.nodes
-
-under-from : (links : List IntakeView) (top start : ℕ) (row : Row) → HasNodes start links
-    → IsUnder (marks_of links top).heads row → IsUnderHead links row
-under-from links top start row has under =
-    let had = heads-had start links top has in
-    let d : IntakeView = record { next = 0; head = 0; retired = true } in
-    let len : length (marks_of links top).heads ≡ length links = heads-length links (marks_of links top) had in
-    let node : row.node < length (marks_of links top).heads = under.0 in
-    let below : row.node < length links = omega arith in
-    let low : row.stamp ≤ (head_at (marks_of links top).heads row.node).stamp = under.1 in
-    let e : (head_at (marks_of links top).heads row.node).stamp ≡ (get_or links row.node d).head =
-    ap (λ h. h.stamp) (head-of links (marks_of links top) row.node had below) in
-    subst (λ o. MatchOption o ⊥ (λ link. row.stamp ≤ link.head)) (sym (slice_get-get_or links row.node d below))
-    (omega arith)
-
 -- the state of a core is that of a store
-pub store-of : (kept : StoreView) (marks : HeadsView) → HaveHeads kept.links marks → marks.top ≡ kept.top
-    → IsConsistent marks kept.snapshots kept.rows → IsSound kept.start kept.links kept.top kept.horizon kept.rows
+pub store-of : (kept : StoreView) → IsConsistent (marks_of kept.links kept.top) kept.snapshots kept.rows
+    → IsSound kept.start kept.links kept.top kept.horizon kept.rows
     → IsRegister (record { snapshots = kept.snapshots; opened = kept.opened }) → IsStore kept
-store-of kept marks have top consistent sound register =
-    let same : marks ≡ marks_of kept.links kept.top = have.same ∙ ap (marks_of kept.links) top in
-    let consistent' : IsConsistent (marks_of kept.links kept.top) kept.snapshots kept.rows =
-    subst (λ m. IsConsistent m kept.snapshots kept.rows) same consistent in
-    record {
-      nodes = sound.nodes;
-      stamps = sound.stamps;
-      last = sound.last;
-      top = sound.top;
-      register = register;
-      opened = consistent'.opened;
-      horizon = sound.horizon;
-      row_set = consistent'.row_set;
-      under = All-weaker (IsUnder (marks_of kept.links kept.top).heads) (IsUnderHead kept.links)
-          (λ row under. under-from kept.links kept.top kept.start row sound.nodes under) kept.rows consistent'.stored;
-      limits = sound.limits;
-    }
+store-of kept consistent sound register = record {
+  nodes = sound.nodes;
+  stamps = sound.stamps;
+  last = sound.last;
+  top = sound.top;
+  register = register;
+  opened = consistent.opened;
+  horizon = sound.horizon;
+  row_set = consistent.row_set;
+  under = All-weaker (IsUnder kept.links) (IsUnderHead kept.links) (under-from kept.links) kept.rows consistent.stored;
+  limits = sound.limits;
+}
 
 -- and that, with its rows in order, is a checkpoint
 pub store-checkpoint : (kept copy : StoreView) → IsStore kept → IsCheckpointOf kept copy → IsCheckpoint copy

@@ -22,7 +22,7 @@ use Rattle.hlc_columns.specs.Answers.{AreNext, in_part, part_end}
 use Rattle.hlc_columns.specs.Table.{columns_in}
 use Rattle.hlc_witness.specs.Certificate.{row_cmp, RowsAscend}
 use Rattle.hlc_witness.specs.Cost.{IsInLimits, AreInLimits}
-use Rattle.hlc_checkpoint.specs.Lent.{IsWritable, IsListOf, AreListOf}
+use Rattle.hlc_checkpoint.specs.Lent.{IsWritable, AreListOf}
 
 -- the row at a position of a column
 pub row-lent : (key : List ℕ) (cells : List Cell) (place : ℕ) (version : ℕ × ℕ) (value : Option (List ℕ))

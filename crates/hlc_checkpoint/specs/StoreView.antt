@@ -1,9 +1,9 @@
 -- The state of a core, and the properties that a checkpoint and a core share.
-use Rattle.std.specs.Prelude.{◌≡◌, ℕ, ◌<◌, ◌≤◌, List, [], ◌∷◌, length, map, max, true, All}
+use Rattle.std.specs.Prelude.{◌≡◌, ℕ, ◌<◌, ◌≤◌, List, [], ◌∷◌, length, max, true, All}
 use Rattle.hlc_rows.specs.declared.row.Row.{Row}
 use Rattle.hlc_intake.specs.IntakeView.{IntakeView}
 use Rattle.hlc_heads.specs.declared.heads.TheConstants.{MOST_NODES, MOST_NUMBERS}
-use Rattle.hlc_heads.specs.Heads.{HeadsView, a_head, head_at, floor_of}
+use Rattle.hlc_heads.specs.Heads.{HeadsView, link_at, floor_of}
 use Rattle.hlc_snapshot.specs.declared.snapshot.Snapshot.{Snapshot}
 use Rattle.hlc_rows.specs.Rows.{IsRowSet}
 use Rattle.hlc_witness.specs.Cost.{AreInLimits}
@@ -23,9 +23,9 @@ pub record StoreView : Type 0 where
 abbrev pub nodes : StoreView → ℕ
 nodes kept = kept.start
 
--- the heads of links, and this greatest stamp
+-- these links, and this greatest stamp
 abbrev pub marks_of : List IntakeView → ℕ → HeadsView
-marks_of links top = record { heads = map (λ link. a_head link.head link.retired) links; top = top }
+marks_of links top = record { links = links; top = top }
 
 -- the state with these rows, at this horizon
 abbrev pub with_rows_left : StoreView → List Row → ℕ → StoreView
@@ -34,12 +34,6 @@ with_rows_left kept rows horizon = record kept { horizon = horizon; rows = rows 
 -- the state with no snapshot open
 abbrev pub without_snapshots : StoreView → StoreView
 without_snapshots kept = record kept { snapshots = [] }
-
--- there is a link, there are no more links than node numbers, and the heads are theirs
-pub record HaveHeads (links : List IntakeView) (marks : HeadsView) : Type 0 where
-  pub some : 0 < length links
-  pub few : length links ≤ MOST_NUMBERS
-  pub same : marks ≡ marks_of links marks.top
 
 -- there were 1 to 64 nodes at the start, and there is a link of each of them and of each that joined, no more in all
 -- than node numbers
@@ -76,4 +70,4 @@ pub record IsSound (start : ℕ) (links : List IntakeView) (most low : ℕ) (row
 pub record IsConsistent (marks : HeadsView) (snapshots : List Snapshot) (rows : List Row) : Type 0 where
   pub opened : All (λ snapshot. snapshot.stamp ≤ floor_of marks) snapshots
   pub row_set : IsRowSet rows
-  pub stored : All (λ row. (row.node < length marks.heads) × (row.stamp ≤ (head_at marks.heads row.node).stamp)) rows
+  pub stored : All (λ row. (row.node < length marks.links) × (row.stamp ≤ (link_at marks.links row.node).head)) rows

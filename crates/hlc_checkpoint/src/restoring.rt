@@ -1,34 +1,13 @@
-//! The heads and the table of a store, made from a checkpoint's parts.
-ghost use Rattle.std.specs.Prelude.{◌≡◌, ◌<◌, ◌≤◌, ◌++◌, ◌∷◌, [], IfOk, OnOk, length};
+//! The table of a store, made from a checkpoint's rows.
+ghost use Rattle.std.specs.Prelude.{◌++◌, ◌∷◌, [], IfOk, OnOk};
 ghost use Rattle.hlc_columns.specs.Table.{HasNoVersion};
 ghost use Rattle.std.specs.List.Sorted.{IsPermutation};
-ghost use Rattle.hlc_heads.specs.declared.heads.TheConstants.{MOST_NUMBERS};
 ghost use Rattle.hlc_witness.specs.Certificate.{RowsAscend};
-ghost use Rattle.hlc_checkpoint.specs.StoreView.{marks_of};
 
-use hlc_clock::Stamp;
 use hlc_columns::Table;
-use hlc_heads::{Head, Heads};
-use hlc_intake::Intake;
 use hlc_rows::Row;
 use hlc_values::NoMemory;
 use std::alloc::Global;
-
-/// Makes the heads of some links, 1 to 1,024 of them, with this greatest head. It may run out of memory.
-pub fn heads_of(alloc: Global, links: &[Intake], top: Stamp) -> Result<Heads, NoMemory>
-    requires some { 0 < length links.now }
-    requires few { length links.now ≤ MOST_NUMBERS }
-    ensures { IfOk result (λ heads. heads ≡ marks_of links.now top) }
-{
-    let mut heads = Vec::new(alloc);
-    for link in links {
-        heads.push(Head {
-            stamp: link.head(),
-            retired: link.retired(),
-        })?;
-    }
-    Ok(Heads::resuming(heads, top))
-}
 
 /// Makes a table of copies of some rows, which ascend by key, stamp and node. A key is looked up for its first row
 /// only. It may run out of memory.

@@ -1,4 +1,4 @@
--- A state that represents a past, with its rows in order, is a checkpoint.
+-- A state that represents a past has its floor, and with its rows in order is a checkpoint.
 use Rattle.std.proofs.Common.{◌≡◌, ℕ, ◌+◌, ◌<◌, ◌≤◌, List, [], ◌∷◌, ◌++◌, length, max, get_or}
 use Rattle.std.proofs.Common.{true, false, Some, None, Option, refl, ap, sym, ◌∙◌, subst, inl, inr, arith}
 use Rattle.std.specs.Prelude.{All, Contains, MatchOption}
@@ -9,7 +9,9 @@ use Rattle.std.proofs.lemmas.List.{length-append}
 use Rattle.std.proofs.lemmas.List.Elements.{All-nil, All-weaker, All-push, All-contains, All-contains_itself}
 use Rattle.std.proofs.lemmas.List.Quantifiers.{all_pairs_push}
 use Rattle.hlc_intake.specs.IntakeView.{IntakeView}
+use Rattle.hlc_heads.specs.Heads.{no_link, link_at}
 use Rattle.hlc_heads.specs.declared.heads.TheConstants.{MOST_NODES, MOST_NUMBERS}
+use Rattle.hlc_heads.proofs.LowLemmas.{low-same}
 use Rattle.hlc_snapshot.specs.declared.snapshot.Snapshot.{Snapshot}
 use Rattle.hlc_snapshot.specs.declared.registry.TheConstants.{MOST_OPEN}
 use Rattle.hlc_snapshot.specs.declared.fault.SnapshotFault.{SnapshotFault}
@@ -31,7 +33,7 @@ use Rattle.hlc_core.proofs.PastLemmas.{count-other, retired-other, fresh, accept
 use Rattle.hlc_core.proofs.PastLemmas.{inside-row, below_head, writes-limits, open-low, open-below, open-above}
 use Rattle.hlc_core.proofs.PastLemmas.{open-room, horizon-low}
 use Rattle.hlc_core.proofs.Moved.{represents-moved}
-use Rattle.hlc_core.proofs.Sound.{floor-in, greatest-ge, greatest-le}
+use Rattle.hlc_core.proofs.Sound.{greatest-ge, greatest-le}
 
 -- the nodes at the start keep their numbers
 numbered-from : (nodes : ℕ) (past : List Step) → nodes ≤ numbered nodes past
@@ -254,6 +256,15 @@ link-head : (kept : StoreView) (past : List Step) → Represents kept past → (
     → (get_or kept.links k d).head ≡ head k past
 link-head kept past h k d lt = ap (λ (link : IntakeView). link.head) (link-is kept past h k d lt)
 
+-- the floor of a state is that of the past which it represents
+pub floor-in : (kept : StoreView) (past : List Step) → Represents kept past → floor_in kept ≡ floor (nodes kept) past
+floor-in kept past h =
+    low-same (λ k. (link_at kept.links k).head) (λ k. head k past) (λ k. (link_at kept.links k).retired)
+    (λ k. retired k past) (length kept.links) (numbered (nodes kept) past) kept.top (top past) h.many h.top
+    (λ k within.
+    let is = link-is kept past h k no_link (let many = h.many in omega (arith, within, many)) in
+    (ap (λ (link : IntakeView). link.head) is, ap (λ (link : IntakeView). link.retired) is))
+
 pub checkpoint-sound : (kept : StoreView) (past : List Step) → Represents kept past → 0 < nodes kept
     → nodes kept ≤ MOST_NODES → RowsAscend kept.rows → IsCheckpoint kept
 checkpoint-sound kept past h some few ascend =
@@ -262,7 +273,7 @@ checkpoint-sound kept past h some few ascend =
     let bounded = numbered-few (nodes kept) past few h.legal in
     let has : HasNodes kept.start kept.links =
     record { some = some; few = few; linked = omega (arith, from); bounded = omega (arith, bounded) } in
-    let at : floor_in kept ≡ floor (nodes kept) past = floor-in kept past has h in
+    let at : floor_in kept ≡ floor (nodes kept) past = floor-in kept past h in
     let most = top-at (nodes kept) past some h.legal in
     let within : most.0 < length kept.links = (let w : most.0 < numbered (nodes kept) past = most.1 in omega arith) in
     let d : IntakeView = record { next = 0; head = 0; retired = true } in
@@ -308,8 +319,3 @@ pub copy-represents : (kept copy : StoreView) (past : List Step) → Represents 
     → Represents copy past
 copy-represents kept copy past h is =
     subst (λ k. Represents k past) (sym is.same) (represents-moved kept past copy.rows h is.rows)
-
--- the floor of a checkpoint is that of the past which it represents
-pub checkpoint-floor : (kept : StoreView) (past : List Step) → IsCheckpoint kept → Represents kept past
-    → floor_in kept ≡ floor (nodes kept) past
-checkpoint-floor kept past is h = floor-in kept past is.nodes h

@@ -1,6 +1,6 @@
 -- The invariant of a core, for any past that it represents: no open snapshot is above the floor, which never falls, the
 -- rows are a row set, and none is above the head of its node.
-use Rattle.std.proofs.Common.{◌≡◌, ℕ, ◌+◌, ◌<◌, ◌≤◌, List, [], ◌∷◌, ◌++◌, length, max, Bool, true, false, refl, ap}
+use Rattle.std.proofs.Common.{◌≡◌, ℕ, ◌+◌, ◌<◌, ◌≤◌, List, [], ◌∷◌, ◌++◌, length, max, Bool, false, refl, ap}
 use Rattle.std.proofs.Common.{sym, ◌∙◌, subst, inl, inr, arith, length-set, length-append, get_or-set_other}
 use Rattle.std.proofs.lemmas.Grind.{get_or-set_at}
 use Rattle.std.proofs.lemmas.List.{get_or_append_left}
@@ -18,22 +18,21 @@ use Rattle.hlc_rows.specs.Rows.{IsRowSet}
 use Rattle.hlc_snapshot.specs.declared.snapshot.Snapshot.{Snapshot}
 use Rattle.hlc_snapshot.specs.declared.fault.NoSnapshot.{NoSnapshot}
 use Rattle.hlc_snapshot.specs.RegistryView.{RegistryView, closed, stamp_in, without}
-use Rattle.hlc_heads.specs.declared.heads.Head.{Head}
 use Rattle.hlc_heads.specs.Low.{low}
-use Rattle.hlc_heads.proofs.LowLemmas.{low-rises, low-joins, floor-is}
-use Rattle.hlc_heads.specs.Heads.{IsFloor, HeadsView, a_head, head_at, marked, joined, floor_of}
+use Rattle.hlc_heads.proofs.LowLemmas.{low-rises, low-joins}
+use Rattle.hlc_heads.specs.Heads.{HeadsView, a_link, no_link, link_at, advanced, joined, floor_of}
 use Rattle.hlc_core.specs.Past.{body_rows}
 use Rattle.hlc_intake.specs.IntakeView.{IntakeView}
-use Rattle.hlc_core.specs.StoreView.{marks_of, HaveHeads, IsConsistent}
+use Rattle.hlc_core.specs.StoreView.{IsConsistent}
 use Rattle.hlc_checkpoint.proofs.CheckpointLemmas.{IsUnder}
 use Rattle.hlc_core.proofs.PastLemmas.{body_rows-are, row_set-body}
 
--- the stamp of a node's head, and whether the node has retired
-abbrev stamp_at : List Head → ℕ → ℕ
-stamp_at heads k = (head_at heads k).stamp
+-- the head of a node, and whether it has retired
+abbrev head_at : List IntakeView → ℕ → ℕ
+head_at links k = (link_at links k).head
 
-abbrev retired_at : List Head → ℕ → Bool
-retired_at heads k = (head_at heads k).retired
+abbrev retired_at : List IntakeView → ℕ → Bool
+retired_at links k = (link_at links k).retired
 
 abbrev AreBelow : ℕ → Snapshot → Type 0
 AreBelow floor snapshot = snapshot.stamp ≤ floor
@@ -41,76 +40,77 @@ AreBelow floor snapshot = snapshot.stamp ≤ floor
 pub consistent-new : (marks : HeadsView) → IsConsistent marks [] []
 consistent-new marks = record { opened = All-nil _; row_set = tt; stored = All-nil _ }
 
-set-at : (heads : List Head) (node : ℕ) (x : Head) → node < length heads → head_at (slice_set heads node x) node ≡ x
-set-at heads node x within = get_or-set_at heads node node x (a_head 0 true) refl within
+set-at : (links : List IntakeView) (node : ℕ) (x : IntakeView) → node < length links
+    → link_at (slice_set links node x) node ≡ x
+set-at links node x within = get_or-set_at links node node x no_link refl within
 
-set-other : (heads : List Head) (node k : ℕ) (x : Head) → (k ≡ node → ⊥)
-    → head_at (slice_set heads node x) k ≡ head_at heads k
-set-other heads node k x other = get_or-set_other heads node k x (a_head 0 true) other
+set-other : (links : List IntakeView) (node k : ℕ) (x : IntakeView) → (k ≡ node → ⊥)
+    → link_at (slice_set links node x) k ≡ link_at links k
+set-other links node k x other = get_or-set_other links node k x no_link other
 
--- the floor does not fall when a head rises
-pub floor-marked : (marks : HeadsView) (node stamp : ℕ) (last : Bool) → node < length marks.heads
-    → (head_at marks.heads node).retired ≡ false → (head_at marks.heads node).stamp < stamp
-    → floor_of marks ≤ floor_of (marked marks node stamp last)
-floor-marked marks node stamp last within here up =
-    let x : Head = a_head stamp last in
-    let new : List Head = slice_set marks.heads node x in
-    let len : length new ≡ length marks.heads = length-set marks.heads node x in
-    let rises : floor_of marks ≤ low (stamp_at new) (retired_at new) (length marks.heads) (max marks.top stamp) =
-    low-rises (stamp_at marks.heads) (stamp_at new) (retired_at marks.heads) (retired_at new) (length marks.heads)
-    marks.top
-    (max marks.top stamp) node stamp within here up (ap (λ (x : Head). x.stamp) (set-at marks.heads node x within))
+-- the floor does not fall when a link advances
+pub floor-advanced : (marks : HeadsView) (node : ℕ) (link : IntakeView) → node < length marks.links
+    → (link_at marks.links node).retired ≡ false → (link_at marks.links node).head < link.head
+    → floor_of marks ≤ floor_of (advanced marks node link)
+floor-advanced marks node link within here up =
+    let new : List IntakeView = slice_set marks.links node link in
+    let len : length new ≡ length marks.links = length-set marks.links node link in
+    let rises : floor_of marks ≤ low (head_at new) (retired_at new) (length marks.links) (max marks.top link.head) =
+    low-rises (head_at marks.links) (head_at new) (retired_at marks.links) (retired_at new) (length marks.links)
+    marks.top (max marks.top link.head) node link.head within here up
+    (ap (λ (x : IntakeView). x.head) (set-at marks.links node link within))
     (λ k other. (
-      ap (λ (x : Head). x.stamp) (set-other marks.heads node k x other),
-      ap (λ (x : Head). x.retired) (set-other marks.heads node k x other),
+      ap (λ (x : IntakeView). x.head) (set-other marks.links node k link other),
+      ap (λ (x : IntakeView). x.retired) (set-other marks.links node k link other),
     ))
     (omega arith) in
-    subst (λ n. floor_of marks ≤ low (stamp_at new) (retired_at new) n (max marks.top stamp)) (sym len) rises
+    subst (λ n. floor_of marks ≤ low (head_at new) (retired_at new) n (max marks.top link.head)) (sym len) rises
 
 -- nor when a node joins that is not below it
 pub floor-joined : (marks : HeadsView) (start : ℕ) → floor_of marks ≤ start
     → floor_of marks ≤ floor_of (joined marks start)
 floor-joined marks start up =
-    let x : Head = a_head start false in
-    let new : List Head = marks.heads ++ x ∷ [] in
-    let len : length new ≡ length marks.heads + 1 = length-append marks.heads (x ∷ []) in
-    let at : stamp_at new (length marks.heads) ≡ start =
-    ap (λ (y : Head). y.stamp) (get_or-append_seam marks.heads x [] (a_head 0 true)) in
-    let joins : floor_of marks ≤ low (stamp_at new) (retired_at new) (length marks.heads + 1) (max marks.top start) =
-    low-joins (stamp_at marks.heads) (stamp_at new) (retired_at marks.heads) (retired_at new) (length marks.heads)
+    let x : IntakeView = a_link 0 start false in
+    let new : List IntakeView = marks.links ++ x ∷ [] in
+    let len : length new ≡ length marks.links + 1 = length-append marks.links (x ∷ []) in
+    let at : head_at new (length marks.links) ≡ start =
+    ap (λ (y : IntakeView). y.head) (get_or-append_seam marks.links x [] no_link) in
+    let joins : floor_of marks ≤ low (head_at new) (retired_at new) (length marks.links + 1) (max marks.top start) =
+    low-joins (head_at marks.links) (head_at new) (retired_at marks.links) (retired_at new) (length marks.links)
     marks.top
     (max marks.top start) (omega arith) (omega arith)
     (λ k within. (
-      ap (λ (y : Head). y.stamp) (get_or_append_left marks.heads (x ∷ []) (a_head 0 true) k within),
-      ap (λ (y : Head). y.retired) (get_or_append_left marks.heads (x ∷ []) (a_head 0 true) k within),
+      ap (λ (y : IntakeView). y.head) (get_or_append_left marks.links (x ∷ []) no_link k within),
+      ap (λ (y : IntakeView). y.retired) (get_or_append_left marks.links (x ∷ []) no_link k within),
     )) in
-    subst (λ n. floor_of marks ≤ low (stamp_at new) (retired_at new) n (max marks.top start)) (sym len) joins
+    subst (λ n. floor_of marks ≤ low (head_at new) (retired_at new) n (max marks.top start)) (sym len) joins
 
--- a row that was not above its head is not above it after a head rises
-under-raised : (heads : List Head) (node stamp : ℕ) (last : Bool) (row : Row) → node < length heads
-    → (head_at heads node).stamp < stamp → IsUnder heads row → IsUnder (slice_set heads node (a_head stamp last)) row
-under-raised heads node stamp last row within up under =
-    let x : Head = a_head stamp last in
-    let l : length (slice_set heads node x) ≡ length heads = length-set heads node x in
-    let n : row.node < length heads = under.0 in
-    let s : row.stamp ≤ stamp_at heads row.node = under.1 in
+-- a row that was not above its head is not above it after a link advances
+under-advanced : (links : List IntakeView) (node : ℕ) (link : IntakeView) (row : Row) → node < length links
+    → (link_at links node).head < link.head → IsUnder links row → IsUnder (slice_set links node link) row
+under-advanced links node link row within up under =
+    let l : length (slice_set links node link) ≡ length links = length-set links node link in
+    let n : row.node < length links = under.0 in
+    let s : row.stamp ≤ head_at links row.node = under.1 in
     elim (cases_eq row.node node) [
       | inl same ↦
-          let e : stamp_at (slice_set heads node x) row.node ≡ stamp =
-          ap (stamp_at (slice_set heads node x)) same ∙ ap (λ (y : Head). y.stamp) (set-at heads node x within) in
-          let f : stamp_at heads row.node ≡ stamp_at heads node = ap (stamp_at heads) same in
+          let e : head_at (slice_set links node link) row.node ≡ link.head =
+          ap (head_at (slice_set links node link)) same
+          ∙ ap (λ (y : IntakeView). y.head) (set-at links node link within) in
+          let f : head_at links row.node ≡ head_at links node = ap (head_at links) same in
           (omega arith, omega arith)
-      | inr other ↦ let e : stamp_at (slice_set heads node x) row.node ≡ stamp_at heads row.node =
-          ap (λ (y : Head). y.stamp) (set-other heads node row.node x other) in (omega arith, omega arith)
+      | inr other ↦ let e : head_at (slice_set links node link) row.node ≡ head_at links row.node =
+          ap (λ (y : IntakeView). y.head) (set-other links node row.node link other) in (omega arith, omega arith)
     ]
 
-under-joined : (heads : List Head) (x : Head) (row : Row) → IsUnder heads row → IsUnder (heads ++ x ∷ []) row
-under-joined heads x row under =
-    let l : length (heads ++ x ∷ []) ≡ length heads + 1 = length-append heads (x ∷ []) in
-    let n : row.node < length heads = under.0 in
-    let s : row.stamp ≤ stamp_at heads row.node = under.1 in
-    let e : stamp_at (heads ++ x ∷ []) row.node ≡ stamp_at heads row.node =
-    ap (λ (y : Head). y.stamp) (get_or_append_left heads (x ∷ []) (a_head 0 true) row.node n) in
+under-joined : (links : List IntakeView) (x : IntakeView) (row : Row) → IsUnder links row
+    → IsUnder (links ++ x ∷ []) row
+under-joined links x row under =
+    let l : length (links ++ x ∷ []) ≡ length links + 1 = length-append links (x ∷ []) in
+    let n : row.node < length links = under.0 in
+    let s : row.stamp ≤ head_at links row.node = under.1 in
+    let e : head_at (links ++ x ∷ []) row.node ≡ head_at links row.node =
+    ap (λ (y : IntakeView). y.head) (get_or_append_left links (x ∷ []) no_link row.node n) in
     (omega arith, omega arith)
 
 under-all : (P : Row → Type 0) (rows : List Row) (node stamp : ℕ) (body : Body) → All P rows
@@ -126,34 +126,33 @@ raised-all : (floor high : ℕ) (snapshots : List Snapshot) → floor ≤ high �
 raised-all floor high snapshots up all' = All-weaker (AreBelow floor) (AreBelow high)
     (λ snapshot below. (let b : snapshot.stamp ≤ floor = below in omega arith)) snapshots all'
 
--- an item above its node's head is accepted: the head is raised, and its rows are stored
-pub consistent-accept : (marks : HeadsView) (snapshots : List Snapshot) (rows : List Row) (node stamp : ℕ) (body : Body)
-    (last : Bool) → IsConsistent marks snapshots rows → node < length marks.heads
-    → (head_at marks.heads node).retired ≡ false → (head_at marks.heads node).stamp < stamp
+-- an item above its node's head is accepted: its link advances, and its rows are stored
+pub consistent-accept : (marks : HeadsView) (snapshots : List Snapshot) (rows : List Row) (node : ℕ) (link : IntakeView)
+    (body : Body) → IsConsistent marks snapshots rows → node < length marks.links
+    → (link_at marks.links node).retired ≡ false → (link_at marks.links node).head < link.head
     → body_refusal body ≡ None
-    → IsConsistent (marked marks node stamp last) snapshots (rows ++ body_rows node stamp body)
-consistent-accept marks snapshots rows node stamp body last h within here up good =
-    let heads : List Head = marks.heads in
-    let x : Head = a_head stamp last in
-    let new : List Head = slice_set heads node x in
-    let l : length new ≡ length heads = length-set heads node x in
-    let e : stamp_at new node ≡ stamp = ap (λ (y : Head). y.stamp) (set-at heads node x within) in
+    → IsConsistent (advanced marks node link) snapshots (rows ++ body_rows node link.head body)
+consistent-accept marks snapshots rows node link body h within here up good =
+    let links : List IntakeView = marks.links in
+    let new : List IntakeView = slice_set links node link in
+    let l : length new ≡ length links = length-set links node link in
+    let e : head_at new node ≡ link.head = ap (λ (y : IntakeView). y.head) (set-at links node link within) in
     record {
-      opened = raised-all (floor_of marks) (floor_of (marked marks node stamp last)) snapshots
-          (floor-marked marks node stamp last within here up) h.opened;
-      row_set = row_set-body node stamp body rows good
+      opened = raised-all (floor_of marks) (floor_of (advanced marks node link)) snapshots
+          (floor-advanced marks node link within here up) h.opened;
+      row_set = row_set-body node link.head body rows good
           (λ row other m k same.
-          let are : (row.node ≡ node) × (row.stamp ≡ stamp) = body_rows-are node stamp body row m in
-          let under : IsUnder heads other = All-contains (IsUnder heads) rows other h.stored k in
-          let below : other.stamp ≤ stamp_at heads other.node = under.1 in
-          let at : stamp_at heads other.node ≡ stamp_at heads node = ap (stamp_at heads) (same.node ∙ are.0) in
+          let are : (row.node ≡ node) × (row.stamp ≡ link.head) = body_rows-are node link.head body row m in
+          let under : IsUnder links other = All-contains (IsUnder links) rows other h.stored k in
+          let below : other.stamp ≤ head_at links other.node = under.1 in
+          let at : head_at links other.node ≡ head_at links node = ap (head_at links) (same.node ∙ are.0) in
           omega (arith, same.stamp, are.1))
           h.row_set;
-      stored = under-all (IsUnder new) rows node stamp body
-          (All-weaker (IsUnder heads) (IsUnder new)
-          (λ row under. under-raised heads node stamp last row within up under) rows h.stored)
+      stored = under-all (IsUnder new) rows node link.head body
+          (All-weaker (IsUnder links) (IsUnder new)
+          (λ row under. under-advanced links node link row within up under) rows h.stored)
           (λ row of at.
-          let f : stamp_at new row.node ≡ stamp_at new node = ap (stamp_at new) of in
+          let f : head_at new row.node ≡ head_at new node = ap (head_at new) of in
           (omega (arith, of), omega (arith, at)));
     }
 
@@ -163,17 +162,16 @@ pub consistent-joined : (marks : HeadsView) (snapshots : List Snapshot) (rows : 
 consistent-joined marks snapshots rows start h up = record {
   opened = raised-all (floor_of marks) (floor_of (joined marks start)) snapshots (floor-joined marks start up) h.opened;
   row_set = h.row_set;
-  stored = All-weaker (IsUnder marks.heads) (IsUnder (marks.heads ++ a_head start false ∷ []))
-      (λ row under. under-joined marks.heads (a_head start false) row under) rows h.stored;
+  stored = All-weaker (IsUnder marks.links) (IsUnder (marks.links ++ a_link 0 start false ∷ []))
+      (λ row under. under-joined marks.links (a_link 0 start false) row under) rows h.stored;
 }
 
 -- a snapshot that is not above the floor is opened
-pub consistent-open : (marks : HeadsView) (snapshots : List Snapshot) (rows : List Row) (id stamp floor : ℕ)
-    → IsConsistent marks snapshots rows → IsFloor marks floor → stamp ≤ floor
+pub consistent-open : (marks : HeadsView) (snapshots : List Snapshot) (rows : List Row) (id stamp : ℕ)
+    → IsConsistent marks snapshots rows → stamp ≤ floor_of marks
     → IsConsistent marks (snapshots ++ record { id = id; stamp = stamp } ∷ []) rows
-consistent-open marks snapshots rows id stamp floor h is le = record {
-  opened = All-push (AreBelow (floor_of marks)) snapshots (record { id = id; stamp = stamp }) h.opened
-      (let e = floor-is marks floor is in omega (arith, e));
+consistent-open marks snapshots rows id stamp h le = record {
+  opened = All-push (AreBelow (floor_of marks)) snapshots (record { id = id; stamp = stamp }) h.opened le;
   row_set = h.row_set;
   stored = h.stored;
 }
@@ -195,15 +193,9 @@ pub consistent-fewer : (marks : HeadsView) (snapshots : List Snapshot) (rows few
 consistent-fewer marks snapshots rows fewer h apart within = record {
   opened = h.opened;
   row_set = apart;
-  stored = All-weaker (Contains fewer) (IsUnder marks.heads)
-      (λ row m. All-contains (IsUnder marks.heads) rows row h.stored (within row m)) fewer (All-contains_itself fewer);
+  stored = All-weaker (Contains fewer) (IsUnder marks.links)
+      (λ row m. All-contains (IsUnder marks.links) rows row h.stored (within row m)) fewer (All-contains_itself fewer);
 }
-
--- no open snapshot is above the floor
-pub consistent-low : (marks : HeadsView) (snapshots : List Snapshot) (rows : List Row) (floor : ℕ)
-    → IsConsistent marks snapshots rows → IsFloor marks floor → All (λ snapshot. snapshot.stamp ≤ floor) snapshots
-consistent-low marks snapshots rows floor h is =
-    raised-all (floor_of marks) floor snapshots (let e = floor-is marks floor is in omega (arith, e)) h.opened
 
 pub consistent-close_result : (marks : HeadsView) (rows : List Row) (old new : RegistryView) (id : ℕ)
     (result : Result ℕ NoSnapshot)
@@ -215,11 +207,6 @@ consistent-close_result marks rows old new id (Ok stamp) h ok err =
     (consistent-close marks old.snapshots rows id h)
 consistent-close_result marks rows old new id (Err fault) h ok err =
     subst (λ register. IsConsistent marks register.snapshots rows) (sym err.1) h
-
--- the floor of the links' heads is the floor
-pub floor-of : (links : List IntakeView) (marks : HeadsView) (floor : ℕ) → HaveHeads links marks
-    → IsFloor (marks_of links marks.top) floor → IsFloor marks floor
-floor-of links marks floor h is = subst (λ m. IsFloor m floor) (sym h.same) is
 
 -- a stamp that is not greater than another is at or below it
 pub not_gt-le : (a b : ℕ) → is_gt (nat_cmp a b) ≡ false → a ≤ b

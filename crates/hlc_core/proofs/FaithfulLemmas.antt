@@ -3,16 +3,15 @@
 -- stamp, so a snapshot shows all or none of them; each change forces a row and its bytes; and a core that represents a
 -- vacuum was left with the fewest rows.
 use Rattle.std.proofs.Common.{◌≡◌, ℕ, ◌≤◌, List, [], ◌∷◌, ◌++◌, length, Option, Some, None, refl, ap, sym, ◌∙◌, subst}
-use Rattle.std.proofs.Common.{arith, inl, inr}
+use Rattle.std.proofs.Common.{arith}
 use Rattle.std.specs.Prelude.{Contains}
-use Rattle.std.proofs.lemmas.Bool.{cases_lt}
 use Rattle.hlc_rows.specs.declared.row.Row.{Row}
 use Rattle.hlc_rows.specs.Rows.{answer, newest, IsNoLater}
-use Rattle.hlc_rows.proofs.NewestLemmas.{newest_is_greatest, no_newest_no_row, no_later_stamp}
+use Rattle.hlc_rows.proofs.NewestLemmas.{newest_is_greatest, no_newest_no_row}
 use Rattle.hlc_witness.specs.Cost.{changes_cost, rows_cost}
 use Rattle.hlc_witness.proofs.ChangeLemmas.{changes_force_rows}
 use Rattle.hlc_witness.proofs.CostLemmas.{changes_force_bytes}
-use Rattle.hlc_core.specs.Past.{Step, floor, stamp_of, item_rows, writes, IsLegal}
+use Rattle.hlc_core.specs.Past.{Step, floor, stamp_of, writes, IsLegal}
 use Rattle.hlc_draft.specs.declared.report.Report.{Report}
 use Rattle.hlc_core.specs.Stored.{IsReport, LeavesFewest}
 use Rattle.hlc_core.specs.StoreView.{StoreView, nodes, Represents}

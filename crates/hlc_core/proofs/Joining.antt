@@ -1,20 +1,24 @@
 -- A node whose join is not refused joins: the core represents one more join.
 use Rattle.std.proofs.Common.{◌≡◌, ℕ, ◌+◌, ◌<◌, ◌≤◌, List, [], ◌∷◌, ◌++◌, length, max}
-use Rattle.std.proofs.Common.{false, Some, None, ap, sym, ◌∙◌, inl, inr}
+use Rattle.std.proofs.Common.{false, Some, None, refl, ap, sym, ◌∙◌, inl, inr}
 use Rattle.std.proofs.Common.{arith, length-append}
-use Rattle.std.specs.Prelude.{slice_get}
-use Rattle.std.proofs.lemmas.Bool.{cond-true, cond-false, le-leb, lt-leb, le-ltb, cases_lt}
+use Rattle.std.specs.Prelude.{slice_get, Err, ⊤}
+use Rattle.std.proofs.lemmas.Bool.{cond-true, cond-false, le-leb, lt-leb, le-ltb, lt-ltb, cases_lt}
 use Rattle.std.proofs.lemmas.Bool.{cases_eq}
 use Rattle.hlc_intake.specs.IntakeView.{IntakeView}
 use Rattle.hlc_heads.specs.declared.heads.TheConstants.{MOST_NUMBERS}
 use Rattle.hlc_events.specs.declared.fault.CoreFault.TheVariants.{Join}
-use Rattle.hlc_heads.specs.declared.heads.JoinFault.TheVariants.{TooManyNodes}
+use Rattle.hlc_heads.specs.declared.heads.JoinFault.{JoinFault}
+use Rattle.hlc_heads.specs.declared.heads.JoinFault.TheVariants.{TooManyNodes, BelowFloor, NoMemory as NoRoom}
 use Rattle.hlc_core.specs.Past.{Step, Joined, numbered, count, head, retired, floor}
 use Rattle.hlc_core.specs.Past.{join_refusal, join_at_refusal}
 use Rattle.hlc_core.specs.StoreView.{StoreView, nodes, Represents}
 use Rattle.hlc_core.proofs.PastLemmas.{fresh, head-joined}
 use Rattle.hlc_core.proofs.PastLemmas.{head-joined_other}
-use Rattle.hlc_core.proofs.Links.{a_link, get-append_left, get-push}
+use Rattle.hlc_heads.specs.Heads.{HeadsView, JoinsAt, a_link, floor_of}
+use Rattle.hlc_events.specs.Faults.{of_join}
+use Rattle.hlc_core.specs.Calls.{IsRefusal}
+use Rattle.hlc_core.proofs.Links.{get-append_left, get-push}
 
 abbrev pub with_link : StoreView → ℕ → StoreView
 with_link kept start = record {
@@ -78,6 +82,22 @@ joins-at_none nodes past start none up =
       | inr full ↦ absurd (let e : Some (Join TooManyNodes) ≡ None =
           sym (cond-true _ _ _ (le-leb MOST_NUMBERS (numbered nodes past) full)) ∙ none in cc)
     ]
+
+-- and a refusal of the heads is the expected one
+pub refused : (nodes : ℕ) (past : List Step) (old new : HeadsView) (start : ℕ) (fault : JoinFault)
+    → length old.links ≡ numbered nodes past → floor_of old ≡ floor nodes past → JoinsAt old new start (Err fault)
+    → IsRefusal (join_at_refusal nodes past start) ⊤ (of_join fault)
+refused nodes past old new start TooManyNodes many at h =
+    inl (cond-true _ _ _ (le-leb MOST_NUMBERS (numbered nodes past) (omega (arith, many, h.0))))
+refused nodes past old new start (BelowFloor low) many at h =
+    inl (cond-false _ _ _ (lt-leb MOST_NUMBERS (numbered nodes past) (omega (arith, many, h.0)))
+    ∙ cond-true _ _ _ (lt-ltb start (floor nodes past) (omega (arith, at, h.1, h.2)))
+    ∙ ap (λ f. Some (Join (BelowFloor f))) (sym (h.1 ∙ at)))
+refused nodes past old new start NoRoom many at h = inr (
+  joins-at_none nodes past start (joins-none nodes past (length old.links) h.0 many) (omega (arith, at, h.1)),
+  refl,
+  tt,
+)
 
 -- a pair is its parts
 pub both : (made : ℕ × ℕ) (x y : ℕ) → made.0 ≡ x → made.1 ≡ y → made ≡ (x, y)

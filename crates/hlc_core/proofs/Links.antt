@@ -1,43 +1,28 @@
--- Each link of a core follows the items that it accepted, and the heads follow the links.
-use Rattle.std.proofs.Common.{◌≡◌, ℕ, ◌+◌, ◌<◌, ◌≤◌, List, [], ◌∷◌, ◌++◌, length, max, get_or, Bool}
-use Rattle.std.proofs.Common.{true, false, Some, None, Option, Ok, Err, Result, refl, ap, sym, ◌∙◌, subst, inl, inr}
+-- Each link of a core follows the items that it accepted.
+use Rattle.std.proofs.Common.{◌≡◌, ℕ, ◌+◌, ◌<◌, List, [], ◌∷◌, ◌++◌, length, max, get_or}
+use Rattle.std.proofs.Common.{false, Some, None, Option, Ok, Err, Result, refl, ap, sym, ◌∙◌, subst, inl, inr}
 use Rattle.std.proofs.Common.{arith, length-set, length-append, get_or-set_other}
 use Rattle.std.proofs.lemmas.Grind.{get_or-set_at}
 use Rattle.std.specs.Prelude.{◌==◌, slice_get, slice_set, MatchOption, MatchResult}
 use Rattle.std.proofs.lemmas.Option.{slice_get-get_or, slice_get_past}
 use Rattle.std.proofs.lemmas.Bool.{cond-true, cond-false, eq-eqb, ne_eqb, le-leb, cases_lt}
 use Rattle.std.proofs.lemmas.Bool.{cases_eq}
-use Rattle.std.proofs.lemmas.List.{map-set, map-append, get_or_append_left}
+use Rattle.std.proofs.lemmas.List.{get_or_append_left}
 use Rattle.std.proofs.Math.Seq.{get_or-append_seam}
 use Rattle.hlc_node.specs.declared.item.Item.{Item}
 use Rattle.hlc_node.specs.Items.{body_refusal, retires}
-use Rattle.hlc_heads.proofs.LowLemmas.{low-is, low-one, floor-is}
 use Rattle.hlc_intake.specs.IntakeView.{IntakeView}
-use Rattle.hlc_heads.specs.Heads.{HeadsView, IsFloor, a_head, head_at, marked as raised, joined as grown, floor_of}
-use Rattle.hlc_heads.specs.declared.heads.TheConstants.{MOST_NUMBERS}
-use Rattle.hlc_heads.specs.declared.heads.Head.{Head}
+use Rattle.hlc_heads.specs.Heads.{a_link, no_link}
 use Rattle.hlc_events.specs.declared.fault.CoreFault.{CoreFault}
 use Rattle.hlc_events.specs.declared.fault.CoreFault.TheVariants.{NoNode}
-use Rattle.hlc_core.specs.Past.{Step, Took, numbered, count, head, retired, top, floor}
+use Rattle.hlc_core.specs.Past.{Step, Took, numbered, count, head, retired}
 use Rattle.hlc_core.specs.Past.{item_rows, link_refusal, item_refusal}
-use Rattle.hlc_core.specs.StoreView.{StoreView, nodes, HaveHeads, Represents}
-use Rattle.hlc_checkpoint.proofs.CheckpointLemmas.{heads-length, head-of}
+use Rattle.hlc_core.specs.StoreView.{StoreView, nodes, Represents}
 use Rattle.hlc_core.proofs.PastLemmas.{admissible, on_link, retired-same, retired-other}
-
-abbrev pub a_link : ℕ → ℕ → Bool → IntakeView
-a_link next head has_retired = record { next = next; head = head; retired = has_retired }
-
--- the default where there is no link
-abbrev no_link : IntakeView
-no_link = a_link 0 0 true
 
 -- the link of a node, from the past
 abbrev link_of : ℕ → List Step → IntakeView
 link_of n past = a_link (count n past) (head n past) (retired n past)
-
--- a link's head
-abbrev pub head_of : IntakeView → Head
-head_of link = a_head link.head link.retired
 
 pub get-append_left : (xs ys : List IntakeView) (i : ℕ) → i < length xs → slice_get (xs ++ ys) i ≡ slice_get xs i
 get-append_left xs ys i h =
@@ -133,34 +118,6 @@ fault-expected kept past item fault h looked =
           ∙ (let same : NoNode ≡ fault = cc in ap Some same)
     ]
 
--- the heads rise with the link
-pub heads-set : (links : List IntakeView) (marks : HeadsView) (n : ℕ) (link : IntakeView) → HaveHeads links marks
-    → HaveHeads (slice_set links n link) (raised marks n link.head link.retired)
-heads-set links marks n link h =
-    let l : length (slice_set links n link) ≡ length links = length-set links n link in
-    let some : 0 < length links = h.some in
-    let few : length links ≤ MOST_NUMBERS = h.few in
-    record {
-      some = omega arith;
-      few = omega arith;
-      same = ap (λ (xs : List Head). record { heads = xs; top = max marks.top link.head })
-          (ap (λ (m : HeadsView). slice_set m.heads n (head_of link)) h.same ∙ sym (map-set head_of links n link));
-    }
-
--- one more link has one more head
-pub heads-joined : (links : List IntakeView) (marks : HeadsView) (start : ℕ) → HaveHeads links marks
-    → length links < MOST_NUMBERS → HaveHeads (links ++ a_link 0 start false ∷ []) (grown marks start)
-heads-joined links marks start h few =
-    let l : length (links ++ a_link 0 start false ∷ []) ≡ length links + 1 =
-    length-append links (a_link 0 start false ∷ []) in
-    record {
-      some = omega arith;
-      few = omega arith;
-      same = ap (λ (xs : List Head). record { heads = xs; top = max marks.top start })
-          (ap (λ (m : HeadsView). m.heads ++ a_head start false ∷ []) h.same
-          ∙ sym (map-append head_of links (a_link 0 start false ∷ [])));
-    }
-
 pub links-took : (links : List IntakeView) (past : List Step) (item : Item) (number : ℕ)
     → number ≡ count item.node past → item.node < length links
     → ((n : ℕ) → n < length links → slice_get links n ≡ Some (link_of n past))
@@ -201,49 +158,3 @@ after_item kept item = record {
   horizon = kept.horizon;
   rows = kept.rows ++ item_rows item;
 }
-
--- the floor of the stored heads is the floor of the past
-pub floor-from : (kept : StoreView) (past : List Step) (marks : HeadsView) (value : ℕ) → HaveHeads kept.links marks
-    → marks.top ≡ kept.top → Represents kept past → IsFloor marks value → value ≡ floor (nodes kept) past
-floor-from kept past marks value have topmost h is =
-    let len : length marks.heads ≡ numbered (nodes kept) past = heads-length kept.links marks have ∙ h.many in
-    let each : (n : ℕ) → n < numbered (nodes kept) past
-    → head_at marks.heads n ≡ a_head (head n past) (retired n past) =
-    λ n within.
-    let inside' : n < length kept.links = (let m = h.many in omega (arith, m)) in
-    let e : Some (get_or kept.links n no_link) ≡ Some (link_of n past) =
-    sym (slice_get-get_or kept.links n no_link inside') ∙ h.links n inside' in
-    let f : get_or kept.links n no_link ≡ link_of n past = cc in
-    head-of kept.links marks n have inside' ∙ ap head_of f in
-    let at : value ≡ floor_of marks = floor-is marks value is in
-    let low' = low-is (λ k. (head_at marks.heads k).stamp) (λ k. (head_at marks.heads k).retired)
-    (length marks.heads) marks.top in
-    low-one (λ n. head n past) (λ n. retired n past) (numbered (nodes kept) past) (top past) value
-    (floor (nodes kept) past)
-    (record {
-      least = λ k lt here.
-          (let e = each k lt in
-          let s : (head_at marks.heads k).stamp ≡ head k past = ap (λ (x : Head). x.stamp) e in
-          let r : (head_at marks.heads k).retired ≡ false = ap (λ (x : Head). x.retired) e ∙ here in
-          let g : floor_of marks ≤ (head_at marks.heads k).stamp = low'.least k (omega (arith, len, lt)) r in
-          omega arith);
-      is =
-          elim low'.is [
-            | inl one ↦
-                let lt : one.0 < numbered (nodes kept) past =
-                (let l : one.0 < length marks.heads = one.1 in omega arith) in
-                let e = each one.0 lt in
-                inl (
-                  one.0,
-                  lt,
-                  sym (ap (λ (x : Head). x.retired) e) ∙ one.2,
-                  sym (ap (λ (x : Head). x.stamp) e) ∙ one.3 ∙ sym at,
-                )
-            | inr none ↦
-                inr (
-                  λ k lt. sym (ap (λ (x : Head). x.retired) (each k lt)) ∙ none.0 k (omega (arith, len, lt)),
-                  at ∙ none.1 ∙ topmost ∙ h.top,
-                )
-          ];
-    })
-    (low-is (λ n. head n past) (λ n. retired n past) (numbered (nodes kept) past) (top past))

@@ -1,6 +1,6 @@
 -- A node's link follows from its items and its start, so it is alike in all replicas, as are the floor and the rows. Of
 -- replicas that lag both can go on until they are replicas, and no answer up to the floor of either changes on the way.
-use Rattle.std.proofs.Common.{◌≡◌, ℕ, zero, suc, ◌+◌, ◌<◌, ◌≤◌, List, [], ◌∷◌, length, Contains, None, Bool, false}
+use Rattle.std.proofs.Common.{◌≡◌, ℕ, ◌+◌, ◌<◌, ◌≤◌, List, [], ◌∷◌, length, Contains, None, Bool, false}
 use Rattle.std.proofs.Common.{◌⊎◌, ◌++◌, refl, ap, sym, ◌∙◌, subst, inl, inr, arith}
 use Rattle.std.specs.Prelude.{◌==◌, if◌then◌else◌, Option, Some, nat_le, nat_lt}
 use Rattle.std.proofs.lemmas.Bool.{cond-true, cond-false, eq-eqb, ne_eqb, cases_eq}
@@ -10,7 +10,7 @@ use Rattle.hlc_rows.specs.declared.row.Row.{Row}
 use Rattle.hlc_node.specs.declared.item.Item.{Item}
 use Rattle.hlc_node.specs.Items.{retires}
 use Rattle.hlc_rows.specs.Rows.{answer}
-use Rattle.hlc_heads.specs.Low.{least_left, or_else, low}
+use Rattle.hlc_heads.proofs.LowLemmas.{low-same}
 use Rattle.hlc_snapshot.specs.RegistryView.{stamps}
 use Rattle.hlc_draft.proofs.PartLemmas.{same_rows}
 use Rattle.hlc_heads.specs.declared.heads.TheConstants.{MOST_NUMBERS}
@@ -165,13 +165,6 @@ refusals-agree nodes past other item legal legal' joins items =
       head-agrees nodes past other item.node legal legal' joins items,
     ) refl
 
-least-agrees : (f g : ℕ → ℕ) (has_retired left : ℕ → Bool) (n : ℕ) → ((k : ℕ) → f k ≡ g k)
-    → ((k : ℕ) → has_retired k ≡ left k)
-    → least_left f has_retired n ≡ least_left g left n
-least-agrees f g has_retired left zero same away = refl
-least-agrees f g has_retired left (suc n) same away =
-    rw (same n, away n, least-agrees f g has_retired left n same away) refl
-
 top-le : (nodes : ℕ) (past other : List Step) → 0 < nodes → IsLegal nodes past → IsLegal nodes other
     → ((n : ℕ) → head n past ≡ head n other) → top past ≤ top other
 top-le nodes past other some legal legal' same =
@@ -189,11 +182,9 @@ floors-agree nodes past other some legal legal' are =
     let a : top past ≤ top other = top-le nodes past other some legal legal' heads in
     let b : top other ≤ top past = top-le nodes other past some legal' legal (λ n. sym (heads n)) in
     let tops : top past ≡ top other = omega arith in
-    ap (λ n. low (λ k. head k past) (λ k. retired k past) n (top past)) (numbered-same nodes past other are.joins)
-    ∙ ap (λ o. or_else o (top past))
-    (least-agrees (λ k. head k past) (λ k. head k other) (λ k. retired k past) (λ k. retired k other)
-    (numbered nodes other) heads (λ k. retired-agrees past other k (are.items k)))
-    ∙ ap (λ t. low (λ k. head k other) (λ k. retired k other) (numbered nodes other) t) tops
+    low-same (λ k. head k past) (λ k. head k other) (λ k. retired k past) (λ k. retired k other) (numbered nodes past)
+    (numbered nodes other) (top past) (top other) (numbered-same nodes past other are.joins) tops
+    (λ k within. (heads k, retired-agrees past other k (are.items k)))
 
 -- why no node joins at a start, from the number of assigned node numbers and the floor
 abbrev refusal_of : ℕ → ℕ → ℕ → Option CoreFault

@@ -23,7 +23,8 @@ use Rattle.hlc_snapshot.specs.RegistryView.{stamps}
 use Rattle.hlc_core.proofs.PastLemmas.{admissible, on_link, inside}
 use Rattle.hlc_core.proofs.PastLemmas.{above-horizon, vacuumed-low, writes-row_set, body_rows-are}
 use Rattle.hlc_core.proofs.BatchLemmas.{row_set-front}
-use Rattle.hlc_core.proofs.Links.{a_link, links-took, after_item}
+use Rattle.hlc_heads.specs.Heads.{a_link}
+use Rattle.hlc_core.proofs.Links.{links-took, after_item}
 
 -- rows above the horizon are stored with the others
 rows-more : (stored all more : List Row) (horizon : ℕ) (opened : List ℕ) → RowsRepresent stored all horizon opened

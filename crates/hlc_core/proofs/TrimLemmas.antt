@@ -22,12 +22,12 @@ use Rattle.hlc_vacuum.specs.Part.{IsPartVacuum}
 use Rattle.hlc_vacuum.proofs.RepresentingLemmas.{vacuums_compose, vacuums_are_certified}
 use Rattle.hlc_core.specs.Past.{Step, Trimmed, floor, horizon, vacuumed, trimmed, open_snapshots, writes, vacuum_refusal}
 use Rattle.hlc_core.specs.Stored.{AreVacuumPoints}
-use Rattle.hlc_core.specs.StoreView.{StoreView, nodes, with_rows_left, HasNodes, Represents}
+use Rattle.hlc_core.specs.StoreView.{StoreView, nodes, with_rows_left, Represents}
 use Rattle.hlc_core.specs.Checkpoint.{floor_in}
 use Rattle.hlc_core.specs.PlanAt.{IsPartPlanAt}
 use Rattle.hlc_core.specs.Parts.{rows_of_keys, Trims, VacuumsPart}
 use Rattle.hlc_core.proofs.PastLemmas.{vacuum-above, vacuum-none, writes-limits}
-use Rattle.hlc_core.proofs.Sound.{floor-in}
+use Rattle.hlc_core.proofs.CheckpointLemmas.{floor-in}
 use Rattle.hlc_core.proofs.PartLemmas.{represent-of_keys, represent-parts}
 use Rattle.hlc_core.proofs.VacuumLemmas.{fewer-open, more-open, low-open}
 
@@ -122,12 +122,12 @@ trims kept at past rows is_of report h none are apart others made at_stamp numbe
 
 -- what was planned for a part at a stamp from the horizon to the floor, and carried out, is part of a vacuum to it
 pub part-trims : (kept : StoreView) (at : ℕ) (past : List Step) (after : List ℕ) (most : ℕ) (part : PartPlan)
-    (rows : List Row) → HasNodes kept.start kept.links → Represents kept past → at ≤ floor_in kept → kept.horizon ≤ at
+    (rows : List Row) → Represents kept past → at ≤ floor_in kept → kept.horizon ≤ at
     → IsPartPlanAt kept at after most part
     → IsPartVacuum kept.rows rows (in_part after part.end) (report_of part.plan)
     → VacuumsPart kept (with_rows_left kept rows at) at after most past (Ok (report_of part.plan, part.end))
-part-trims kept at past after most part rows has h low high planned made =
-    let floor-is = floor-in kept past has h in
+part-trims kept at past after most part rows h low high planned made =
+    let floor-is = floor-in kept past h in
     let below : at ≤ floor (nodes kept) past = omega (arith, low, floor-is) in
     let above : horizon past ≤ at = (let e = h.horizon in omega (arith, high, e)) in
     let none = vacuum-none (nodes kept) past at below above in

@@ -8,7 +8,7 @@ use Rattle.hlc_core.specs.Past.{IsLegal}
 use Rattle.hlc_core.specs.Stored.{IsStoredCount}
 pub use Rattle.hlc_checkpoint.specs.StoreView.{StoreView, nodes, marks_of, with_rows_left, without_snapshots}
 pub use Rattle.hlc_checkpoint.specs.StoreView.{greatest_head}
-pub use Rattle.hlc_checkpoint.specs.StoreView.{HaveHeads, HasNodes, HasStamps, HasLastItem, IsSound, IsConsistent}
+pub use Rattle.hlc_checkpoint.specs.StoreView.{HasNodes, HasStamps, HasLastItem, IsSound, IsConsistent}
 
 -- the links of all nodes after a past, by number
 pub record AreLinks (nodes : ℕ) (past : List Step) (links : List IntakeView) : Type 0 where

@@ -1,12 +1,9 @@
 //! How an item is admitted by the intake of its node's link.
-ghost use Rattle.std.specs.Prelude.{◌≡◌, ◌+◌, ◌<◌, false, length, Some, None, Err, MatchOption, MatchResult, slice_get};
+ghost use Rattle.std.specs.Prelude.{◌≡◌, ◌+◌, Some, None, Err, MatchOption, MatchResult, slice_get};
 ghost use Rattle.hlc_node.specs.Items.{retires};
-ghost use Rattle.hlc_heads.specs.Heads.{head_at, marked};
 ghost use Rattle.hlc_core.specs.Past.{link_refusal};
 
-use hlc_clock::Stamp;
 use hlc_events::CoreFault;
-use hlc_heads::{Accepted, Heads};
 use hlc_intake::Intake;
 use hlc_node::ItemRef;
 
@@ -28,20 +25,5 @@ pub fn admitted(intakes: &[Intake], item: &ItemRef<'_>) -> Result<Intake, CoreFa
     match item.body_fault() {
         Some(fault) => Err(CoreFault::Body(fault)),
         None => Ok(intake),
-    }
-}
-
-/// Raises the node's head to this stamp, which may be that of its last item.
-pub fn rise(heads: &mut Heads, node: u16, stamp: Stamp, last: bool) -> Accepted
-    requires node { node < length heads.old.heads }
-    requires open { (head_at heads.old.heads node).retired ≡ false }
-    requires rising { (head_at heads.old.heads node).stamp < stamp }
-    ensures marked { heads.new ≡ marked heads.old node stamp last }
-    ensures accepted { result ≡ record { node = node; stamp = stamp; retires = last } }
-{
-    if last {
-        heads.retire(node, stamp)
-    } else {
-        heads.raise(node, stamp)
     }
 }

@@ -186,8 +186,8 @@ joins-in links start from to (Some low) out h = (
 )
 
 -- when a node joins in a range, the range's least head is the lower of the earlier one and the start
-joins-here : (links : List IntakeView) (start from to least : ℕ) (found : Option ℕ) → from ≤ length links → length links < to
-    → IsLower found start least → IsLeastIn links from to found
+joins-here : (links : List IntakeView) (start from to least : ℕ) (found : Option ℕ) → from ≤ length links
+    → length links < to → IsLower found start least → IsLeastIn links from to found
     → IsLeastIn (links ++ a_link 0 start false ∷ []) from to (Some least)
 joins-here links start from to least None after before is h =
     let l : length (links ++ a_link 0 start false ∷ []) ≡ length links + 1 =

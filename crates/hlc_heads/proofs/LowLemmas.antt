@@ -1,5 +1,5 @@
 -- The least value over those that have not retired is the one of the definition. It does not fall when one of them
--- rises, nor when one is added that is not below it.
+-- rises, nor when one is added that is not below it, and is the same for the same values.
 use Rattle.std.proofs.Common.{◌≡◌, ℕ, zero, suc, ◌+◌, ◌<◌, ◌≤◌, true, false, Bool, Some}
 use Rattle.std.proofs.Common.{None, Option, refl, ap, sym}
 use Rattle.std.proofs.Common.{◌∙◌, ◌⊎◌, subst, inl, inr, arith, length}
@@ -188,6 +188,19 @@ low-stays f g has_retired left n top next k within here at others =
           ]
       | inr none ↦ absurd (let e : false ≡ true = sym here ∙ none.0 k within in cc)
     ]
+
+least-same : (f g : ℕ → ℕ) (has_retired left : ℕ → Bool) (n : ℕ)
+    → ((k : ℕ) → k < n → (f k ≡ g k) × (has_retired k ≡ left k)) → least_left f has_retired n ≡ least_left g left n
+least-same f g has_retired left zero same = refl
+least-same f g has_retired left (suc n) same =
+    let here = same n (omega arith) in
+    rw (here.0, here.1, least-same f g has_retired left n (λ k lt. same k (omega arith))) refl
+
+-- the same values have the same least one
+pub low-same : (f g : ℕ → ℕ) (has_retired left : ℕ → Bool) (n m top next : ℕ) → n ≡ m → top ≡ next
+    → ((k : ℕ) → k < m → (f k ≡ g k) × (has_retired k ≡ left k)) → low f has_retired n top ≡ low g left m next
+low-same f g has_retired left n m top next many tops same =
+    rw (many, tops) (ap (λ o. or_else o next) (least-same f g has_retired left m same))
 
 -- the floor is the one that the function computes
 pub floor-is : (marks : HeadsView) (floor : ℕ) → IsFloor marks floor → floor ≡ floor_of marks

@@ -18,9 +18,8 @@ invariant_of-self c =
     (sym c.self.view_is) c.requires.plan.2 in
     let made = c.apply_part-made.ensures.vacuumed c.requires.plan.0 c.requires.plan.1 planned.made in
     let low = rw (← c.self.view_is) at c.requires.low in (
-      c.self.invariant.0,
-      consistent-fewer _ _ _ _ c.self.invariant.1 made.row_set made.within,
-      sound-vacuum _ _ _ _ _ _ _ c.self.invariant.2 low made.within,
+      consistent-fewer _ _ _ _ c.self.invariant.0 made.row_set made.within,
+      sound-vacuum _ _ _ _ _ _ _ c.self.invariant.1 low made.within,
     )
 
 pub returns-clause-vacuums : goal.returns-clause-vacuums
@@ -30,6 +29,6 @@ returns-clause-vacuums c = λ past after most h plan.
     c.apply_part-made.ensures.report (c.apply_part-made.ensures.vacuumed after most planned.made) in
     rw (← c.self.view_is)
     (rw (c.apply_part-made.ensures.report, c.apply_part-made.ensures.end)
-    (part-trims _ c.args.at past after most c.args.part c.apply_part-made.new.table c.self.invariant.2.nodes
+    (part-trims _ c.args.at past after most c.args.part c.apply_part-made.new.table
     (rw (← c.self.view_is) at h) (rw (← c.self.view_is) at c.requires.low) (rw (← c.self.view_is) at c.requires.high)
     planned made))

@@ -24,16 +24,15 @@ invariant_of-self c =
     let made = c.apply_part_tally-made.ensures.vacuumed c.requires.tally.0 c.requires.tally.1 of.plan of.planned.made
     of.is in
     let low = rw (← c.self.view_is) at c.requires.low in (
-      c.self.invariant.0,
-      consistent-fewer _ _ _ _ c.self.invariant.1 made.row_set made.within,
-      sound-vacuum _ _ _ _ _ _ _ c.self.invariant.2 low made.within,
+      consistent-fewer _ _ _ _ c.self.invariant.0 made.row_set made.within,
+      sound-vacuum _ _ _ _ _ _ _ c.self.invariant.1 low made.within,
     )
 
 pub returns-clause-vacuums : goal.returns-clause-vacuums
 returns-clause-vacuums c = λ past after most h tally.
     let of = subst (λ kept. IsPartTallyAt kept c.args.at after most c.args.part) (sym c.self.view_is) tally in
     let made = part-trims _ c.args.at past after most (with_plan c.args.part of.plan)
-    c.apply_part_tally-made.new.table c.self.invariant.2.nodes (rw (← c.self.view_is) at h)
+    c.apply_part_tally-made.new.table (rw (← c.self.view_is) at h)
     (rw (← c.self.view_is) at c.requires.low) (rw (← c.self.view_is) at c.requires.high) of.planned
     (c.apply_part_tally-made.ensures.vacuumed after most of.plan of.planned.made of.is) in
     rw (← c.self.view_is)

@@ -15,7 +15,8 @@ use Rattle.hlc_clock.proofs.PointLemmas.{points-last}
 use Rattle.hlc_core.proofs.PastLemmas.{vacuum-none}
 use Rattle.hlc_core.proofs.VacuumLemmas.{vacuums}
 use Rattle.hlc_core.proofs.Consistent.{consistent-fewer}
-use Rattle.hlc_core.proofs.Sound.{sound-vacuum, floor-in}
+use Rattle.hlc_core.proofs.CheckpointLemmas.{floor-in}
+use Rattle.hlc_core.proofs.Sound.{sound-vacuum}
 use Rattle.hlc_core.proofs.store.Core.carry_out_tally.Goals as goal
 use Rattle.hlc_core.proofs.store.Core.carry_out_tally.Goals.{After-apply_tally-numbers}
 
@@ -43,9 +44,8 @@ invariant_of-self c =
     let tally = c.requires.tally in
     let made = subst (λ (kept : StoreView). IsPlanOf tally.plan kept.rows) (sym c.self.view_is) tally.planned.made in
     let fewer = left ((goal.at.invariant_of-self c).After-apply_tally-numbers) tally.plan made tally.is in (
-      c.self.invariant.0,
-      consistent-fewer _ _ _ _ c.self.invariant.1 fewer.row_set fewer.within,
-      sound-vacuum _ _ _ _ _ _ _ c.self.invariant.2 low fewer.within,
+      consistent-fewer _ _ _ _ c.self.invariant.0 fewer.row_set fewer.within,
+      sound-vacuum _ _ _ _ _ _ _ c.self.invariant.1 low fewer.within,
     )
 
 pub returns-clause-vacuums : goal.returns-clause-vacuums
@@ -60,7 +60,7 @@ returns-clause-vacuums c = λ past plan h plans is.
     c.apply_tally-numbers.ensures.dropped in
     let bytes = subst (λ (numbers : Numbers). numbers.bytes ≡ rows_cost (rows_to numbers.floor new)) numbers
     c.apply_tally-numbers.ensures.bytes in
-    let floor-is = floor-in _ past c.self.invariant.2.nodes h' in
+    let floor-is = floor-in _ past h' in
     let below = rw (← c.self.view_is) at c.requires.low in
     let above = rw (← c.self.view_is) at c.requires.high in
     let low : c.args.at ≤ floor c.self.inside.start past = omega (arith, below, floor-is) in

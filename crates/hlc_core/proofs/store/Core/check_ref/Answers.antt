@@ -5,11 +5,11 @@ use Rattle.hlc_core.proofs.store.Core.check_ref.Goals as goal
 pub returns-in-Err : goal.returns-in-Err
 returns-in-Err c = λ past h.
     let h' = rw (← c.self.view_is) at h in
-    let looked = rw c.as_slice.ensures.value at c.in-Err.ensures in
+    let looked = rw c.links.ensures at c.in-Err.ensures in
     rw (← c.self.view_is) (fault-expected _ past c.args.item.now c.in-Err.refusal h' looked)
 
 pub returns-in-Ok : goal.returns-in-Ok
 returns-in-Ok c = λ past h.
     let h' = rw (← c.self.view_is) at h in
-    let looked = rw c.as_slice.ensures.value at c.in-Ok.ensures in
+    let looked = rw c.links.ensures at c.in-Ok.ensures in
     rw (← c.self.view_is) (admitted-expected _ past c.args.item.now c.in-Ok.field-0 h' looked)

@@ -1,46 +1,37 @@
--- There is one more link and one more head, at the start, so the core represents the join too.
-use Rattle.std.proofs.Common.{◌<◌, ◌≤◌, ◌∙◌, length, subst, arith}
-use Rattle.hlc_heads.specs.declared.heads.TheConstants.{MOST_NUMBERS}
-use Rattle.hlc_heads.specs.Heads.{floor_of}
+-- There is one more link, at the start, so the core represents the join too.
+use Rattle.std.proofs.Common.{◌≤◌, ◌∙◌, arith}
+use Rattle.std.proofs.lemmas.Result.{err_from_is_err_and}
 use Rattle.hlc_core.specs.Past.{floor}
-use Rattle.hlc_checkpoint.proofs.CheckpointLemmas.{heads-length}
-use Rattle.hlc_core.proofs.Links.{heads-joined}
-use Rattle.hlc_core.proofs.Joining.{joins, joins-none, joins-at_none}
+use Rattle.hlc_core.proofs.CheckpointLemmas.{floor-in}
+use Rattle.hlc_core.proofs.Joining.{joins, joins-none, joins-at_none, refused}
 use Rattle.hlc_core.proofs.Consistent.{consistent-joined}
-use Rattle.hlc_core.proofs.Sound.{sound-joined, floor-in}
+use Rattle.hlc_core.proofs.Sound.{sound-joined}
 use Rattle.hlc_core.proofs.store.Core.join_at.Goals as goal
 
 pub invariant_of-self-2 : goal.invariant_of-self-2
 invariant_of-self-2 c =
-    let few : length c.self.inside.intakes.items < MOST_NUMBERS =
-    (let len = heads-length _ _ c.self.invariant.0 in
-    let f : length c.self.inside.heads.heads < MOST_NUMBERS = c.in_ok-node.ensures.0 in omega (arith, len)) in
-    rw (
-      c.push_reserved.ensures.items,
-      c.in_ok-try_reserve.ensures.items,
-      c.starting_at.ensures,
-      c.in_ok-node.ensures.3,
-    ) (
-      heads-joined _ _ c.args.start c.self.invariant.0 few,
-      consistent-joined _ _ _ _ c.self.invariant.1 c.in_ok-node.ensures.1,
-      sound-joined _ _ c.self.inside.heads _ _ _ c.self.invariant.2 c.self.invariant.0 few c.in_ok-node.ensures.1,
+    let made = c.in_ok-join_at.ensures in
+    rw made.3 (
+      consistent-joined _ _ _ _ c.self.invariant.0 made.1,
+      sound-joined _ c.self.inside.heads _ _ _ c.self.invariant.1 made.0 made.1,
     )
+
+pub returns-in_err-join_at-clause-represents : goal.returns-in_err-join_at-clause-represents
+returns-in_err-join_at-clause-represents c = λ past h.
+    let h' = rw (← c.self.view_is) at h in
+    let p = err_from_is_err_and c.from_residual.result c.from_residual.ensures.1 in
+    rw (← c.self.view_is, p.1, p.2)
+    (refused _ past _ c.join_at.new.self c.args.start c.in_err-join_at.field-0.0 h'.many (floor-in _ past h')
+    c.in_err-join_at.ensures)
 
 pub returns-clause-represents : goal.returns-clause-represents
 returns-clause-represents c = λ past h.
     let h' = rw (← c.self.view_is) at h in
-    let len = heads-length _ _ c.self.invariant.0 ∙ h'.many in
-    let is = c.in_ok-node.ensures.2 ∙ len in
-    let few : length c.self.inside.heads.heads < MOST_NUMBERS = c.in_ok-node.ensures.0 in
-    let none = joins-none _ past _ few len in
-    let at = floor-in _ past c.self.invariant.2.nodes h' in
-    let low = subst (λ marks. floor_of marks ≤ c.args.start) c.self.invariant.0.same c.in_ok-node.ensures.1 in
+    let made = c.in_ok-join_at.ensures in
+    let is = made.2 ∙ h'.many in
+    let none = joins-none _ past _ made.0 h'.many in
+    let at = floor-in _ past h' in
+    let low = made.1 in
     let up : floor c.self.inside.start past ≤ c.args.start = omega (arith, low, at) in
-    rw (
-      ← c.self.view_is,
-      c.push_reserved.ensures.items,
-      c.in_ok-try_reserve.ensures.items,
-      c.starting_at.ensures,
-      c.in_ok-node.ensures.3,
-    )
-    (joins-at_none _ past c.args.start none up, is, joins _ past c.in_ok-node.node c.args.start h' none is up)
+    rw (← c.self.view_is, made.3)
+    (joins-at_none _ past c.args.start none up, is, joins _ past c.in_ok-join_at.field-0 c.args.start h' none is up)
