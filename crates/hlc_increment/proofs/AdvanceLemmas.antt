@@ -36,7 +36,7 @@ use Rattle.hlc_core.specs.StoreView.{StoreView, nodes, with_rows_left, Represent
 use Rattle.hlc_core.specs.Checkpoint.{IsCheckpoint, floor_in}
 use Rattle.hlc_core.proofs.PastLemmas.{above_floor, body_rows-are, open-above, vacuum-above, vacuumed-low}
 use Rattle.hlc_core.proofs.StayLemmas.{answers-stay, floor-never_falls}
-use Rattle.hlc_core.proofs.CheckpointLemmas.{checkpoint-floor, copy-represents}
+use Rattle.hlc_core.proofs.CheckpointLemmas.{copy-represents, floor-in}
 use Rattle.hlc_increment.specs.declared.advancing.AdvanceFault.{AdvanceFault}
 use Rattle.hlc_increment.specs.declared.advancing.AdvanceFault.TheVariants as faults
 use Rattle.hlc_increment.specs.Increment.{IncrementView, IsIncrementOf, IsAdvanced, IsReason, without_drops}
@@ -429,7 +429,7 @@ fits-unless_above older newer increment past more h is g one of is' faults.NotLa
       horizon = (let before = h.horizon in let after = g.horizon in omega (arith, before, after, rose, at));
     }))
 fits-unless_above older newer increment past more h is g one of is' (faults.AboveFloor f) reason =
-    inr (let same : floor_in older ≡ floor (nodes older) past = checkpoint-floor older past is h in
+    inr (let same : floor_in older ≡ floor (nodes older) past = floor-in older past h in
     omega (arith, same, reason.0, reason.1))
 fits-unless_above older newer increment past more h is g one of is' (faults.BelowHorizon f) reason =
     absurd (let at : increment.state.horizon ≡ newer.horizon =

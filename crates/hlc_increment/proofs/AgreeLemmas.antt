@@ -1,12 +1,12 @@
 -- A past in which vacuums dropped nothing agrees with the past of the vacuums in all but the number of stored rows, and
 -- is legal where that is.
-use Rattle.std.proofs.Common.{◌≡◌, ℕ, zero, suc, ◌+◌, ◌≤◌, List, [], ◌∷◌, ◌++◌, Bool, refl, ap, sym, ◌∙◌}
+use Rattle.std.proofs.Common.{◌≡◌, ℕ, ◌+◌, ◌≤◌, List, [], ◌∷◌, ◌++◌, refl, ap, sym, ◌∙◌}
 use Rattle.std.proofs.Common.{subst, arith}
 use Rattle.std.specs.Prelude.{if◌then◌else◌, ◌==◌, max}
 use Rattle.hlc_node.specs.declared.item.Item.{Item}
 use Rattle.hlc_node.specs.Items.{retires}
 use Rattle.hlc_snapshot.specs.RegistryView.{without}
-use Rattle.hlc_heads.specs.Low.{least_left, or_else, low}
+use Rattle.hlc_heads.proofs.LowLemmas.{low-same}
 use Rattle.hlc_core.specs.Past.{Step, Took, Opened, Closed, Vacuumed, Trimmed, Joined, numbered, count, head, retired}
 use Rattle.hlc_core.specs.Past.{top, floor, horizon, opened, open_snapshots, writes, item_rows, IsLegal, item_refusal}
 use Rattle.hlc_core.specs.Past.{open_refusal, vacuum_refusal, trimmed, vacuumed}
@@ -26,22 +26,12 @@ pub record Agree (nodes : ℕ) (past other : List Step) : Type 0 where
   pub snapshots : open_snapshots past ≡ open_snapshots other
   pub rows : writes past ≡ writes other
 
-least-agrees : (f g : ℕ → ℕ) (has_retired left : ℕ → Bool) (n : ℕ) → ((k : ℕ) → f k ≡ g k)
-    → ((k : ℕ) → has_retired k ≡ left k)
-    → least_left f has_retired n ≡ least_left g left n
-least-agrees f g has_retired left zero same away = refl
-least-agrees f g has_retired left (suc n) same away =
-    rw (same n, away n, least-agrees f g has_retired left n same away) refl
-
 -- so their floors are the same
 pub floors-agree : (nodes : ℕ) (past other : List Step) → Agree nodes past other
     → floor nodes past ≡ floor nodes other
 floors-agree nodes past other are =
-    ap (λ n. low (λ k. head k past) (λ k. retired k past) n (top past)) are.numbers
-    ∙ ap (λ o. or_else o (top past))
-    (least-agrees (λ k. head k past) (λ k. head k other) (λ k. retired k past) (λ k. retired k other)
-    (numbered nodes other) are.heads are.away)
-    ∙ ap (λ t. low (λ k. head k other) (λ k. retired k other) (numbered nodes other) t) are.tops
+    low-same (λ k. head k past) (λ k. head k other) (λ k. retired k past) (λ k. retired k other) (numbered nodes past)
+    (numbered nodes other) (top past) (top other) are.numbers are.tops (λ k within. (are.heads k, are.away k))
 
 agree-took : (nodes : ℕ) (past other : List Step) (item : Item) → Agree nodes past other
     → Agree nodes (Took item ∷ past) (Took item ∷ other)

@@ -6,7 +6,7 @@ use Rattle.std.specs.Prelude.{not, ◌==◌, if◌then◌else◌}
 use Rattle.std.proofs.lemmas.List.Elements.{filter-append}
 use Rattle.hlc_rows.specs.declared.row.Row.{Row}
 use Rattle.hlc_rows.specs.Rows.{answer}
-use Rattle.hlc_heads.specs.Low.{or_else, low}
+use Rattle.hlc_heads.proofs.LowLemmas.{low-same}
 use Rattle.hlc_snapshot.specs.declared.snapshot.Snapshot.{Snapshot}
 use Rattle.hlc_snapshot.specs.RegistryView.{stamps, without}
 use Rattle.hlc_vacuum.specs.Representing.{RowsRepresent, count_above}
@@ -20,7 +20,6 @@ use Rattle.hlc_split.specs.Split.{past_in, RepresentsPart}
 use Rattle.hlc_split.specs.OwnPast.{IsOwnPast, began, took, opened, closed, joined, vacuumed, trimmed}
 use Rattle.hlc_split.proofs.SamePast.{numbered-in, count-in, head-in, retired-in, retires-in, top-in, horizon-in}
 use Rattle.hlc_split.proofs.SamePast.{opened-in, snapshots-in, vacuumed-in, trimmed-in, last-in, writes-in, floor-in, body_rows-in}
-use Rattle.hlc_split.proofs.SamePast.{least-agrees}
 use Rattle.hlc_split.proofs.LegalPast.{legal-in}
 use Rattle.hlc_split.proofs.PartRows.{positive, all-above, fewer}
 use Rattle.hlc_split.proofs.Merging.{merged, filter-all}
@@ -140,11 +139,8 @@ horizon-up is_of n (trimmed {past} {own} at dropped before) legal =
 same-floor : (is_of : List ℕ → Bool) (n : ℕ) (past own : List Step) → HasWhole is_of past own
     → floor n own ≡ floor n past
 same-floor is_of n past own h =
-    ap (λ k. low (λ i. head i own) (λ i. retired i own) k (top own)) (h.many n)
-    ∙ ap (λ o. or_else o (top own))
-    (least-agrees (λ i. head i own) (λ i. head i past) (λ i. retired i own) (λ i. retired i past) (numbered n past)
-    h.heads h.ends)
-    ∙ ap (λ t. low (λ i. head i past) (λ i. retired i past) (numbered n past) t) h.tops
+    low-same (λ i. head i own) (λ i. head i past) (λ i. retired i own) (λ i. retired i past) (numbered n own)
+    (numbered n past) (top own) (top past) (h.many n) h.tops (λ i within. (h.heads i, h.ends i))
 
 -- the rows of a part at a horizon, against the writes of its keys
 pub own-rows : (is_of : List ℕ → Bool) (part : StoreView) (past own : List Step) (at : ℕ) → HasWhole is_of past own

@@ -4,7 +4,7 @@ ghost use Rattle.std.specs.Prelude.{List, None, Some, true};
 ghost use Rattle.std.specs.Prelude.{length, false, IsTrue, IfOk, IfSome, IsErr, OnOk, count_by, nat_le};
 ghost use Rattle.std.specs.List.Sorted.{IsPermutation};
 ghost use Rattle.hlc_clock.specs.Points.{PointsAscend};
-ghost use Rattle.hlc_heads.specs.Heads.{head_at};
+ghost use Rattle.hlc_heads.specs.Heads.{link_at};
 ghost use Rattle.hlc_node.specs.Items.{body_refusal};
 ghost use Rattle.hlc_rows.specs.Rows.{IsRowSet};
 ghost use Rattle.hlc_rows.specs.declared.row.Row.{Row as ARow};
@@ -67,9 +67,9 @@ pub(crate) fn admit_twice(intake: &mut Intake, number: u64, stamp: Stamp) -> Res
 
 /// Returns whether every node has come so far that no item at or below this stamp is still to come.
 pub(crate) fn is_complete(heads: &Heads, stamp: Stamp) -> bool
-    ensures { result ≡ true → (k : ℕ) → k < length heads.now.heads
-        → (head_at heads.now.heads k).retired ≡ false
-        → stamp ≤ (head_at heads.now.heads k).stamp }
+    ensures { result ≡ true → (k : ℕ) → k < length heads.now.links
+        → (link_at heads.now.links k).retired ≡ false
+        → stamp ≤ (link_at heads.now.links k).head }
 {
     stamp <= heads.floor()
 }

@@ -1,7 +1,7 @@
 -- What the older checkpoint becomes represents the past of the newer store, but that its vacuums dropped nothing.
 use Rattle.std.proofs.Common.{◌≤◌, refl, subst, rules}
 use Rattle.std.proofs.lemmas.Grind.{common_steps}
-use Rattle.hlc_core.proofs.CheckpointLemmas.{checkpoint-floor}
+use Rattle.hlc_core.proofs.CheckpointLemmas.{floor-in}
 use Rattle.hlc_increment.specs.Increment.{AreFitting, IsAdvanced}
 use Rattle.hlc_increment.proofs.AdvanceLemmas.{advanced-represents, fits-unless_above}
 use Rattle.hlc_increment.proofs.advancing.advance.Goals as goal
@@ -11,7 +11,7 @@ returns-clause-represents c = λ past more newer h g one of.
     let fit : AreFitting c.args.older c.args.increment = c.in_default.ensures.none refl in
     let is : IsAdvanced c.args.older c.args.increment c.of.result = search (rules, common_steps) in
     advanced-represents c.args.older newer c.of.result c.args.increment past more h g one of
-    (subst (λ f. c.args.increment.since ≤ f) (checkpoint-floor c.args.older past fit.sound h) fit.low) is
+    (subst (λ f. c.args.increment.since ≤ f) (floor-in c.args.older past h) fit.low) is
 
 pub returns-in-Some-clause-only : goal.returns-in-Some-clause-only
 returns-in-Some-clause-only c = λ past more newer h is g one of is'.
