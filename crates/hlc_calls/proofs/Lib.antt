@@ -1,4 +1,4 @@
-pub mod Batches
+pub mod Entered
 pub mod Certificates
 pub mod Refusals
 pub mod Holders

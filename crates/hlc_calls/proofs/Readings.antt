@@ -7,7 +7,7 @@ use Rattle.std.proofs.lemmas.Grind.{flat_map-append}
 use Rattle.hlc_rows.specs.declared.row.Row.{Row}
 use Rattle.hlc_rows.specs.Rows.{answer}
 use Rattle.hlc_calls.specs.declared.read_all.Place.{Place}
-use Rattle.hlc_calls.specs.Batch.{piece}
+use Rattle.hlc_calls.specs.Entries.{piece}
 use Rattle.hlc_range_calls.specs.Listing.{with_bytes}
 use Rattle.hlc_calls.specs.ReadAll.{answer_bytes, answer_at, answers_at, IsLeftOut, ReturnsAnswers, ReturnsAll}
 use Rattle.hlc_range_calls.proofs.ByteLemmas.{put_both}

@@ -1,5 +1,5 @@
 pub mod Answers
-pub mod Batch
+pub mod Entries
 pub mod Certified
 pub mod Outcome
 pub mod Output

@@ -2,11 +2,11 @@
 //! 100. What else it has to say is in a word or in bytes.
 #![tactic(auto)]
 
-pub mod batch;
 pub mod certify;
 pub mod check;
 pub mod codes;
 pub mod digest;
+pub mod entries;
 pub mod items;
 pub mod log;
 pub mod open_store;

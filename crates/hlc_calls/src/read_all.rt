@@ -6,7 +6,7 @@ ghost use Rattle.hlc_core.specs.StoreView.{Represents};
 ghost use Rattle.hlc_range_calls.specs.Listing.{with_bytes};
 ghost use Rattle.hlc_calls.specs.ReadAll.{answer_at, answer_bytes, IsLeftOut, ReturnsAll, ReturnsAnswers};
 
-use crate::batch::piece_of;
+use crate::entries::piece_of;
 use hlc_core::{Core, View};
 use hlc_range_calls::list::{put, put_sized};
 

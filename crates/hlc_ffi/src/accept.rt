@@ -4,12 +4,12 @@ ghost use Rattle.hlc_node.specs.declared.item.Body.TheVariants.{Write as a_write
 ghost use Rattle.hlc_node.specs.declared.item.Body.TheVariants.{Retire as a_retire, Batch as a_batch};
 ghost use Rattle.hlc_node.specs.Items.{an_item};
 ghost use Rattle.hlc_calls.specs.Answers.{ReturnsJoined, ReturnsJoinedAt};
-ghost use Rattle.hlc_calls.specs.Batch.{AreEntered};
+ghost use Rattle.hlc_calls.specs.Entries.{AreEntered};
 ghost use Rattle.hlc_node_calls.specs.Batches.{batch_in};
 ghost use Rattle.hlc_ffi.specs.Handle.{OnStorePast, nodes_in_handle, IsAccepting, IsChecking, IsGivenBack};
 
 use crate::handle::{of_core, on_core};
-use hlc_calls::batch::{Entry, enter_all};
+use hlc_calls::entries::{Entry, enter_all};
 use hlc_calls::{items, open_store};
 use hlc_core::{Core, ItemRef, Stamp};
 use hlc_handle::{Reader, Slot, Store};

@@ -1,7 +1,7 @@
 -- The next entry was accepted too.
 use Rattle.std.proofs.Common.{rules, ◌∙◌}
-use Rattle.hlc_calls.proofs.Batches.{entered_next}
-use Rattle.hlc_calls.proofs.batch.enter_all.Goals as goal
+use Rattle.hlc_calls.proofs.Entered.{entered_next}
+use Rattle.hlc_calls.proofs.entries.enter_all.Goals as goal
 
 pub loop-index-preserved : goal.loop-index-preserved
 loop-index-preserved c = record {

@@ -2,8 +2,8 @@
 use Rattle.std.proofs.Common.{◌≡◌, ◌≤◌, ◌-◌, List, length}
 use Rattle.hlc_core.specs.Past.{Step}
 use Rattle.hlc_core.specs.StoreView.{nodes, Represents}
-use Rattle.hlc_calls.specs.Batch.{entered}
-use Rattle.hlc_calls.proofs.batch.enter_all.Given as goal
+use Rattle.hlc_calls.specs.Entries.{entered}
+use Rattle.hlc_calls.proofs.entries.enter_all.Given as goal
 
 abbrev pub invariant-loop-index : goal.invariant-loop-index
 invariant-loop-index l = record {

@@ -21,9 +21,9 @@ use Rattle.hlc_rows.specs.Faults.{body_code}
 use Rattle.hlc_rows.specs.declared.limits.BodyFault.{BodyFault}
 use Rattle.hlc_core.specs.Past.{Step, Took}
 use Rattle.hlc_core.specs.StoreView.{StoreView, Represents}
-use Rattle.hlc_calls.specs.declared.batch.Entry.{Entry}
+use Rattle.hlc_calls.specs.declared.entries.Entry.{Entry}
 use Rattle.hlc_calls.specs.Outcome.{IsAnswered, answer_code}
-use Rattle.hlc_calls.specs.Batch.{item_of, is_within, took, entered, IsEntered}
+use Rattle.hlc_calls.specs.Entries.{item_of, is_within, took, entered, IsEntered}
 
 link_above : (fault : LinkFault) → 0 < link_code fault
 link_above Retired = lit< tt

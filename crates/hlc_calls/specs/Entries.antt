@@ -5,7 +5,7 @@ use Rattle.hlc_node.specs.declared.item.Item.{Item}
 use Rattle.hlc_node.specs.declared.item.Body.TheVariants.{Write}
 use Rattle.hlc_core.specs.Past.{Step, Took}
 use Rattle.hlc_core.specs.StoreView.{StoreView, Represents}
-use Rattle.hlc_calls.specs.declared.batch.Entry.{Entry}
+use Rattle.hlc_calls.specs.declared.entries.Entry.{Entry}
 use Rattle.hlc_calls.specs.Answers.{ReturnsAccepted}
 use Rattle.hlc_node.specs.Items.{an_item}
 

@@ -2,7 +2,7 @@
 ghost use Rattle.std.specs.Prelude.{◌≡◌, ◌≢◌, List, true, false, MatchOption, option_copied};
 ghost use Rattle.hlc_core.specs.Past.{Step};
 ghost use Rattle.hlc_core.specs.StoreView.{nodes, Represents};
-ghost use Rattle.hlc_calls.specs.Batch.{piece, lies, value_of, is_within, IsEntered, AreEntered};
+ghost use Rattle.hlc_calls.specs.Entries.{piece, lies, value_of, is_within, IsEntered, AreEntered};
 
 use crate::items;
 use hlc_core::{Core, ItemRef, Stamp};
@@ -67,7 +67,7 @@ fn enter(core: &mut Core, entry: &Entry, bytes: &[u8], returned: &mut u64) -> u3
 
 /// Accepts the items of entries in turn, until one is refused. Returns 0, or the answer for the refused one, and how
 /// many were accepted.
-#[tactic(auto, using(crate::proofs::Batches::entered_next))]
+#[tactic(auto, using(crate::proofs::Entered::entered_next))]
 pub fn enter_all(
     core: &mut Core,
     entries: &[Entry],
