@@ -31,251 +31,181 @@ pub(crate) struct Seats<'a> {
     ghost passes_of: { PassesOf board.now passes.items } by { passes_prop board.now passes.items },
 }
 
-/// Starts all threads of a storm. The vacuum has the last of the callers, the readers come before it, and the feeders
-/// first.
-pub(crate) fn start_all<
+/// What all threads of a storm share.
+#[derive(Drop)]
+pub(crate) struct Crew<'a, L: Ledger, F, D, V, R> {
+    pub(crate) rt: &'a R,
+    pub(crate) alloc: Global,
+    pub(crate) shared: &'a Shared<L>,
+    pub(crate) keys: &'a [Bytes],
+    pub(crate) plan: StormPlan,
+    pub(crate) gates: &'a StormGates<F, D, V>,
+}
+
+impl<
     's,
-    E,
     L: Ledger + Send + Sync + 's,
     F: Gate + Sync + 's,
     D: Gate + Sync + 's,
     V: Gate + Sync + 's,
     R: Threads + Wait + Sync + 's,
->(
-    scope: &Scope<'s, E>,
-    rt: &'s R,
-    alloc: Global,
-    shared: &'s Shared<L>,
-    callers: Vec<Caller<L>>,
-    seats: Seats<'s>,
-    keys: &'s [Bytes],
-    plan: StormPlan,
-    gates: &'s StormGates<F, D, V>,
-) -> Started<L>
-    ensures feeders { result.out_of_memory ≡ false
-        → length result.feeders.items ≡ length seats.entry.feeders.items }
-    ensures readers { result.out_of_memory ≡ false
-        → length result.readers.items ≡ length seats.entry.passes.items }
-{
-    let mut callers = callers;
-    let Seats {
-        board,
-        feeders,
-        passes,
-    } = seats;
-    let vacuum = start_vacuum(scope, rt, alloc, shared, callers.pop(), &gates.vacuum);
-    let (readers, reader_out_of_memory) = start_readers(
-        scope,
-        rt,
-        alloc,
-        shared,
-        &mut callers,
-        board,
-        passes,
-        keys,
-        &gates.readers,
-    );
-    let (writers, feeders, node_out_of_memory) = start_nodes(
-        scope,
-        rt,
-        alloc,
-        shared,
-        &mut callers,
-        board,
-        feeders,
-        plan,
-        &gates.feeders,
-    );
-    Started {
-        writers,
-        feeders,
-        readers,
-        vacuum,
-        out_of_memory: reader_out_of_memory || node_out_of_memory,
-    }
-}
-
-/// Starts the worker of the vacuum, if there is a caller for it.
-fn start_vacuum<
-    's,
-    E,
-    L: Ledger + Send + Sync + 's,
-    G: Gate + Sync + 's,
-    R: Threads + Wait + Sync + 's,
->(
-    scope: &Scope<'s, E>,
-    rt: &'s R,
-    alloc: Global,
-    shared: &'s Shared<L>,
-    caller: Option<Caller<L>>,
-    gate: &'s G,
-) -> Worker<L> {
-    let caller = caller?;
-    scope
-        .spawn(move || vacuum_rows(rt, alloc, shared, caller, gate))
-        .ok()
-}
-
-/// Starts a reader for each pass, the last one first, each with the last of the callers that are left. Returns also
-/// whether there was no memory to put one of them into the list.
-fn start_readers<
-    's,
-    E,
-    L: Ledger + Send + Sync + 's,
-    G: Gate + Sync + 's,
-    R: Threads + Wait + Sync + 's,
->(
-    scope: &Scope<'s, E>,
-    rt: &'s R,
-    alloc: Global,
-    shared: &'s Shared<L>,
-    callers: &mut Vec<Caller<L>>,
-    board: &'s Board,
-    passes: Vec<FloorPass>,
-    keys: &'s [Bytes],
-    gate: &'s G,
-) -> (Vec<Worker<L>>, bool)
-    requires { PassesOf board.now passes.items }
-    ensures { result.1 ≡ false → length result.0.items ≡ length passes.items }
-{
-    let mut passes = passes;
-    let mut readers = Vec::new(alloc);
-    let mut out_of_memory = false;
-    for _place in 0..passes.len() {
-        let Some(pass) = passes.pop() else {
-            break;
-        };
-        let reader = start_reader(
+> Crew<'s, L, F, D, V, R> {
+    /// Starts all threads of a storm. The vacuum has the last of the callers, the readers come before it, and the
+    /// feeders first.
+    pub(crate) fn start_all<E>(
+        &self,
+        scope: &Scope<'s, E>,
+        callers: Vec<Caller<L>>,
+        seats: Seats<'s>,
+    ) -> Started<L>
+        ensures feeders { result.out_of_memory ≡ false
+            → length result.feeders.items ≡ length seats.entry.feeders.items }
+        ensures readers { result.out_of_memory ≡ false
+            → length result.readers.items ≡ length seats.entry.passes.items }
+    {
+        let mut callers = callers;
+        let Seats {
+            board,
+            feeders,
+            passes,
+        } = seats;
+        let vacuum = self.start_vacuum(scope, callers.pop());
+        let (readers, reader_out_of_memory) = self.start_readers(
             scope,
-            rt,
-            alloc,
-            shared,
-            callers.pop(),
+            &mut callers,
+            board,
+            passes,
+        );
+        let (writers, feeders, node_out_of_memory) = self.start_nodes(
+            scope,
+            &mut callers,
+            board,
+            feeders,
+        );
+        Started {
+            writers,
+            feeders,
+            readers,
+            vacuum,
+            out_of_memory: reader_out_of_memory || node_out_of_memory,
+        }
+    }
+
+    /// Starts the worker of the vacuum, if there is a caller for it.
+    fn start_vacuum<E>(&self, scope: &Scope<'s, E>, caller: Option<Caller<L>>) -> Worker<L> {
+        let caller = caller?;
+        let (rt, alloc, shared, gate) = (self.rt, self.alloc, self.shared, &self.gates.vacuum);
+        scope
+            .spawn(move || vacuum_rows(rt, alloc, shared, caller, gate))
+            .ok()
+    }
+
+    /// Starts a reader for each pass, the last one first, each with the last of the callers that are left. Returns also
+    /// whether there was no memory to put one of them into the list.
+    fn start_readers<E>(
+        &self,
+        scope: &Scope<'s, E>,
+        callers: &mut Vec<Caller<L>>,
+        board: &'s Board,
+        passes: Vec<FloorPass>,
+    ) -> (Vec<Worker<L>>, bool)
+        requires { PassesOf board.now passes.items }
+        ensures { result.1 ≡ false → length result.0.items ≡ length passes.items }
+    {
+        let mut passes = passes;
+        let mut readers = Vec::new(self.alloc);
+        let mut out_of_memory = false;
+        for _place in 0..passes.len() {
+            let Some(pass) = passes.pop() else {
+                break;
+            };
+            let reader = self.start_reader(scope, callers.pop(), board, pass);
+            out_of_memory = is_one_lost(&mut readers, reader, out_of_memory);
+        }
+        (readers, out_of_memory)
+    }
+
+    /// Starts a reader, if there is a caller for it.
+    fn start_reader<E>(
+        &self,
+        scope: &Scope<'s, E>,
+        caller: Option<Caller<L>>,
+        board: &'s Board,
+        pass: FloorPass,
+    ) -> Worker<L>
+        requires { pass.board ≡ board.now }
+    {
+        let caller = caller?;
+        let looking = Looking {
+            caller,
             board,
             pass,
-            keys,
-            gate,
-        );
-        out_of_memory = is_one_lost(&mut readers, reader, out_of_memory);
-    }
-    (readers, out_of_memory)
-}
-
-/// Starts a reader, if there is a caller for it.
-fn start_reader<
-    's,
-    E,
-    L: Ledger + Send + Sync + 's,
-    G: Gate + Sync + 's,
-    R: Threads + Wait + Sync + 's,
->(
-    scope: &Scope<'s, E>,
-    rt: &'s R,
-    alloc: Global,
-    shared: &'s Shared<L>,
-    caller: Option<Caller<L>>,
-    board: &'s Board,
-    pass: FloorPass,
-    keys: &'s [Bytes],
-    gate: &'s G,
-) -> Worker<L>
-    requires { pass.board ≡ board.now }
-{
-    let caller = caller?;
-    let looking = Looking {
-        caller,
-        board,
-        pass,
-    };
-    scope
-        .spawn(move || read_keys(rt, alloc, shared, looking, keys, gate))
-        .ok()
-}
-
-/// Starts a writer and a feeder for each node, the last one first, each feeder with the last of the callers that are
-/// left. Returns also whether there was no memory to put one of them into its list.
-fn start_nodes<
-    's,
-    E,
-    L: Ledger + Send + Sync + 's,
-    G: Gate + Sync + 's,
-    R: Threads + Wait + Sync + 's,
->(
-    scope: &Scope<'s, E>,
-    rt: &'s R,
-    alloc: Global,
-    shared: &'s Shared<L>,
-    callers: &mut Vec<Caller<L>>,
-    board: &'s Board,
-    feeders: Vec<Feeder>,
-    plan: StormPlan,
-    gate: &'s G,
-) -> (Vec<Writer>, Vec<Worker<L>>, bool)
-    requires { FeedersOf board.now feeders.items }
-    ensures { result.2 ≡ false → length result.1.items ≡ length feeders.items }
-{
-    let mut feeders = feeders;
-    let mut writers = Vec::new(alloc);
-    let mut workers = Vec::new(alloc);
-    let mut out_of_memory = false;
-    for _place in 0..feeders.len() {
-        let Some(feeder) = feeders.pop() else {
-            break;
         };
-        let (writer, worker) = start_node(
-            scope,
-            rt,
-            alloc,
-            shared,
-            callers.pop(),
+        let (rt, alloc, shared, gate) = (self.rt, self.alloc, self.shared, &self.gates.readers);
+        let keys = self.keys;
+        scope
+            .spawn(move || read_keys(rt, alloc, shared, looking, keys, gate))
+            .ok()
+    }
+
+    /// Starts a writer and a feeder for each node, the last one first, each feeder with the last of the callers that
+    /// are left. Returns also whether there was no memory to put one of them into its list.
+    fn start_nodes<E>(
+        &self,
+        scope: &Scope<'s, E>,
+        callers: &mut Vec<Caller<L>>,
+        board: &'s Board,
+        feeders: Vec<Feeder>,
+    ) -> (Vec<Writer>, Vec<Worker<L>>, bool)
+        requires { FeedersOf board.now feeders.items }
+        ensures { result.2 ≡ false → length result.1.items ≡ length feeders.items }
+    {
+        let mut feeders = feeders;
+        let mut writers = Vec::new(self.alloc);
+        let mut workers = Vec::new(self.alloc);
+        let mut out_of_memory = false;
+        for _place in 0..feeders.len() {
+            let Some(feeder) = feeders.pop() else {
+                break;
+            };
+            let (writer, worker) = self.start_node(scope, callers.pop(), board, feeder);
+            out_of_memory = is_one_lost(&mut writers, writer, out_of_memory);
+            out_of_memory = is_one_lost(&mut workers, worker, out_of_memory);
+        }
+        (writers, workers, out_of_memory)
+    }
+
+    /// Starts the writer and the feeder of a node, with a new link between them, if there is memory for that and a
+    /// caller.
+    fn start_node<E>(
+        &self,
+        scope: &Scope<'s, E>,
+        caller: Option<Caller<L>>,
+        board: &'s Board,
+        feeder: Feeder,
+    ) -> (Writer, Worker<L>)
+        requires { feeder.board ≡ board.now }
+    {
+        let (rt, alloc, shared, gate) = (self.rt, self.alloc, self.shared, &self.gates.feeders);
+        let plan = self.plan;
+        let (Some(caller), Ok((sender, receiver))) = (caller, link(rt, alloc, CAPACITY)) else {
+            return (None, None);
+        };
+        let node = feeder.node();
+        let feeding = Feeding {
+            caller,
+            link: receiver,
             board,
             feeder,
-            plan,
-            gate,
-        );
-        out_of_memory = is_one_lost(&mut writers, writer, out_of_memory);
-        out_of_memory = is_one_lost(&mut workers, worker, out_of_memory);
+        };
+        let writer = scope
+            .spawn(move || write_link(rt, alloc, sender, node, plan))
+            .ok();
+        let worker = scope
+            .spawn(move || feed_link(rt, alloc, shared, feeding, gate).0)
+            .ok();
+        (writer, worker)
     }
-    (writers, workers, out_of_memory)
-}
-
-/// Starts the writer and the feeder of a node, with a new link between them, if there is memory for that and a caller.
-fn start_node<
-    's,
-    E,
-    L: Ledger + Send + Sync + 's,
-    G: Gate + Sync + 's,
-    R: Threads + Wait + Sync + 's,
->(
-    scope: &Scope<'s, E>,
-    rt: &'s R,
-    alloc: Global,
-    shared: &'s Shared<L>,
-    caller: Option<Caller<L>>,
-    board: &'s Board,
-    feeder: Feeder,
-    plan: StormPlan,
-    gate: &'s G,
-) -> (Writer, Worker<L>)
-    requires { feeder.board ≡ board.now }
-{
-    let (Some(caller), Ok((sender, receiver))) = (caller, link(rt, alloc, CAPACITY)) else {
-        return (None, None);
-    };
-    let node = feeder.node();
-    let feeding = Feeding {
-        caller,
-        link: receiver,
-        board,
-        feeder,
-    };
-    let writer = scope
-        .spawn(move || write_link(rt, alloc, sender, node, plan))
-        .ok();
-    let worker = scope
-        .spawn(move || feed_link(rt, alloc, shared, feeding, gate).0)
-        .ok();
-    (writer, worker)
 }
 
 /// Puts a thread into its list. Returns whether a thread was lost before, or this one is lost because it ran out of

@@ -5,9 +5,8 @@ ghost use Rattle.hlc_storm_report.specs.Found.{MayRefuse, MayReport};
 
 use crate::gates::StormGates;
 use crate::joining::join_all;
-use crate::starting::{Seats, start_all};
+use crate::starting::{Crew, Seats};
 use crate::writing::all_keys;
-use hlc_core::Bytes;
 use hlc_floor::Board;
 use hlc_server::{Caller, Guarded, Shared, settle_guarded};
 use hlc_storm_report::{Lists, StormFault, StormPlan, StormReport, new_store, report_of};
@@ -130,20 +129,22 @@ fn work_of<
 {
     let keys = all_keys(alloc, &plan)?;
     match Board::new(alloc, plan.nodes, plan.readers as usize) {
-        Ok((board, feeders, passes)) => run_all(
-            rt,
-            alloc,
-            shared,
-            callers,
-            Seats {
+        Ok((board, feeders, passes)) => {
+            let crew = Crew {
+                rt,
+                alloc,
+                shared,
+                keys: keys.as_slice(),
+                plan,
+                gates,
+            };
+            let seats = Seats {
                 board: &board,
                 feeders,
                 passes,
-            },
-            keys.as_slice(),
-            plan,
-            gates,
-        ),
+            };
+            run_all(&crew, callers, seats)
+        }
         Err(_) => Err(StormFault::NoMemory),
     }
 }
@@ -158,14 +159,9 @@ fn run_all<
     V: Gate + Sync,
     R: Threads + Wait + Sync,
 >(
-    rt: &R,
-    alloc: Global,
-    shared: &Shared<L>,
+    crew: &Crew<'_, L, F, D, V, R>,
     callers: Vec<Caller<L>>,
     seats: Seats<'_>,
-    keys: &[Bytes],
-    plan: StormPlan,
-    gates: &StormGates<F, D, V>,
 ) -> Result<Lists<L>, StormFault>
     ensures lists { IfOk result
         (λ lists. length lists.items
@@ -174,15 +170,15 @@ fn run_all<
 {
     thread::scope(
         thread::scope_env(),
-        rt,
+        crew.rt,
         |scope| -> Result<Lists<L>, StormFault>
             ensures lists { IfOk result
                 (λ lists. length lists.items
                 ≡ length seats.entry.feeders.items + length seats.entry.passes.items + 1) }
             ensures faults { IfErr result MayRefuse }
         {
-            let started = start_all(scope, rt, alloc, shared, callers, seats, keys, plan, gates);
-            join_all(rt, alloc, started)
+            let started = crew.start_all(scope, callers, seats);
+            join_all(crew.rt, crew.alloc, started)
         },
     )
 }

@@ -3,7 +3,7 @@ use Rattle.std.proofs.Common.{List, subst, arith}
 use Rattle.hlc_floor.specs.Views.{FeederView, FeedersOf}
 use Rattle.hlc_floor.proofs.PlaceLemmas.{feeders_last}
 use Rattle.hlc_storm.proofs.Lengths.{last_off}
-use Rattle.hlc_storm.proofs.starting.start_nodes.Goals as goal
+use Rattle.hlc_storm.proofs.starting.Crew.start_nodes.Goals as goal
 
 pub start_node-writer-requires-after_bounds : goal.start_node-writer-requires-after_bounds
 start_node-writer-requires-after_bounds g c κs within =

@@ -2,7 +2,7 @@
 -- the list.
 use Rattle.std.proofs.Common.{◌≡◌, ◌+◌, false, length}
 use Rattle.hlc_floor.specs.Views.{FeedersOf}
-use Rattle.hlc_storm.proofs.starting.start_nodes.Given as goal
+use Rattle.hlc_storm.proofs.starting.Crew.start_nodes.Given as goal
 
 abbrev pub invariant-loop-place : goal.invariant-loop-place
 invariant-loop-place g l = record {

@@ -2,7 +2,7 @@
 -- the list.
 use Rattle.std.proofs.Common.{◌≡◌, ◌+◌, false, length}
 use Rattle.hlc_floor.specs.Views.{PassesOf}
-use Rattle.hlc_storm.proofs.starting.start_readers.Given as goal
+use Rattle.hlc_storm.proofs.starting.Crew.start_readers.Given as goal
 
 abbrev pub invariant-loop-place : goal.invariant-loop-place
 invariant-loop-place g l = record {

@@ -3,7 +3,7 @@ use Rattle.std.proofs.Common.{List, subst, arith}
 use Rattle.hlc_floor.specs.Views.{FloorPassView, PassesOf}
 use Rattle.hlc_floor.proofs.PlaceLemmas.{passes_last}
 use Rattle.hlc_storm.proofs.Lengths.{last_off}
-use Rattle.hlc_storm.proofs.starting.start_readers.Goals as goal
+use Rattle.hlc_storm.proofs.starting.Crew.start_readers.Goals as goal
 
 pub start_reader-reader-requires-after_bounds : goal.start_reader-reader-requires-after_bounds
 start_reader-reader-requires-after_bounds g c κs within =
