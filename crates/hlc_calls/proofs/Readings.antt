@@ -8,9 +8,9 @@ use Rattle.hlc_rows.specs.declared.row.Row.{Row}
 use Rattle.hlc_rows.specs.Rows.{answer}
 use Rattle.hlc_calls.specs.declared.read_all.Place.{Place}
 use Rattle.hlc_calls.specs.Entries.{piece}
-use Rattle.hlc_range_calls.specs.Listing.{with_bytes}
+use Rattle.hlc_wire.specs.Placing.{with_bytes}
 use Rattle.hlc_calls.specs.ReadAll.{answer_bytes, answer_at, answers_at, IsLeftOut, ReturnsAnswers, ReturnsAll}
-use Rattle.hlc_range_calls.proofs.ByteLemmas.{put_both}
+use Rattle.hlc_wire.proofs.PlacingLemmas.{put_both}
 use Rattle.hlc_range_calls.proofs.ScanLemmas.{length-put}
 
 -- the answers of the first places are at the start of the buffer

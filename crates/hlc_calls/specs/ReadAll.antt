@@ -7,7 +7,7 @@ use Rattle.hlc_rows.specs.declared.row.Row.{Row}
 use Rattle.hlc_rows.specs.Rows.{answer}
 use Rattle.hlc_calls.specs.declared.read_all.Place.{Place}
 use Rattle.hlc_calls.specs.Entries.{piece, lies}
-use Rattle.hlc_range_calls.specs.Listing.{with_bytes}
+use Rattle.hlc_wire.specs.Placing.{with_bytes}
 pub use Rattle.hlc_range_calls.specs.Listing.{answer_bytes}
 
 -- the answer of the key at a place, as bytes

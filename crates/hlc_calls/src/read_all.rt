@@ -3,12 +3,13 @@ ghost use Rattle.std.specs.Prelude.{◌≡◌, ◌≤◌, ◌<◌, ◌+◌, List
 ghost use Rattle.std.specs.Prelude.{option_copied, MatchOption, MatchResult};
 ghost use Rattle.hlc_core.specs.Past.{Step, stamp_of, writes};
 ghost use Rattle.hlc_core.specs.StoreView.{Represents};
-ghost use Rattle.hlc_range_calls.specs.Listing.{with_bytes};
+ghost use Rattle.hlc_wire.specs.Placing.{with_bytes};
 ghost use Rattle.hlc_calls.specs.ReadAll.{answer_at, answer_bytes, IsLeftOut, ReturnsAll, ReturnsAnswers};
 
 use crate::entries::piece_of;
 use hlc_core::{Core, View};
-use hlc_range_calls::list::{put, put_sized};
+use hlc_range_calls::list::put_sized;
+use hlc_wire::put_bytes;
 
 /// The place of a key among some bytes.
 #[repr(C)]
@@ -32,13 +33,13 @@ fn put_answer(out: &mut [u8], at: usize, value: Option<&[u8]>) -> Option<usize>
             if room == 0 {
                 return None;
             }
-            Some(put(out, at, &[0]))
+            Some(put_bytes(out, at, &[0]))
         }
         Some(value) => {
             if room < 9 || room - 9 < value.len() {
                 return None;
             }
-            let start = put(out, at, &[1]);
+            let start = put_bytes(out, at, &[1]);
             Some(put_sized(out, start, value))
         }
     }

@@ -1,12 +1,11 @@
 -- The bytes of a listing, pair by pair, and where they lie in a buffer.
-use Rattle.std.proofs.Common.{◌≡◌, ℕ, ◌+◌, ◌≤◌, ◌∙◌, sym, ap, ap₂, List, ◌∷◌, ◌++◌, take, drop}
-use Rattle.std.proofs.Common.{length, Some, None, flat_map}
-use Rattle.std.proofs.Common.{◌<◌, leb, false, true≢false, inl, inr}
-use Rattle.std.proofs.Common.{arith, length-append}
-use Rattle.std.proofs.lemmas.List.{append_assoc, length-take, take-append-le, take_all, drop-drop}
+use Rattle.std.proofs.Common.{◌≡◌, ℕ, ◌+◌, ◌<◌, ◌≤◌, ◌∙◌, sym, ap, List, ◌∷◌, ◌++◌, length, Some, None, flat_map}
+use Rattle.std.proofs.Common.{leb, false, true≢false, inl, inr, arith, length-append}
+use Rattle.std.proofs.lemmas.List.{append_assoc}
 use Rattle.std.proofs.lemmas.Bool.{cases_Bool, le-leb, leb-true}
-use Rattle.std.proofs.Math.Seq.{drop-append-add}
-use Rattle.hlc_range_calls.specs.Listing.{sized, answer_bytes, pair_bytes, listing_bytes, with_bytes}
+use Rattle.hlc_wire.specs.Placing.{with_bytes}
+use Rattle.hlc_wire.proofs.PlacingLemmas.{put_both}
+use Rattle.hlc_range_calls.specs.Listing.{sized, answer_bytes, pair_bytes, listing_bytes}
 use Rattle.hlc_range_calls.specs.Changes.{change_bytes}
 
 -- a key and a value take their bytes, and 16
@@ -20,36 +19,6 @@ pair_length pair =
 pub listing_length : (pair : List ℕ × List ℕ) (pairs : List (List ℕ × List ℕ))
     → length (listing_bytes (pair ∷ pairs)) ≡ length (pair_bytes pair) + length (listing_bytes pairs)
 listing_length pair pairs = length-append (pair_bytes pair) (listing_bytes pairs)
-
--- bytes that are put after others are put together with them
-pub with_both : (a : ℕ) (u v xs : List ℕ) → a + (length u + length v) ≤ length xs
-    → with_bytes (a + length u) v (with_bytes a u xs) ≡ with_bytes a (u ++ v) xs
-with_both a u v xs fits =
-    let front : length (take a xs) ≡ a = omega (arith, length-take a xs) in
-    let len : length (take a xs ++ u) ≡ a + length u = omega (arith, length-append (take a xs) u, front) in
-    let mid : with_bytes a u xs ≡ (take a xs ++ u) ++ drop (a + length u) xs =
-    sym (append_assoc (take a xs) u (drop (a + length u) xs)) in
-    let first : take (a + length u) (with_bytes a u xs) ≡ take a xs ++ u =
-    ap (λ (ys : List ℕ). take (a + length u) ys) mid
-    ∙ take-append-le (a + length u) (take a xs ++ u) (drop (a + length u) xs) (omega (arith, len))
-    ∙ take_all (a + length u) (take a xs ++ u) (omega (arith, len)) in
-    let rest : drop (a + length u + length v) (with_bytes a u xs) ≡ drop (a + length (u ++ v)) xs =
-    ap (λ (ys : List ℕ). drop (a + length u + length v) ys) mid
-    ∙ ap (λ (n : ℕ). drop (n + length v) ((take a xs ++ u) ++ drop (a + length u) xs)) (sym len)
-    ∙ drop-append-add (take a xs ++ u) (drop (a + length u) xs) (length v)
-    ∙ drop-drop (length v) (a + length u) xs
-    ∙ ap (λ (n : ℕ). drop n xs) (omega (arith, length-append u v)) in
-    ap₂ (λ (x y : List ℕ). x ++ (v ++ y)) first rest
-    ∙ append_assoc (take a xs) u (v ++ drop (a + length (u ++ v)) xs)
-    ∙ ap (λ (z : List ℕ). take a xs ++ z) (sym (append_assoc u v (drop (a + length (u ++ v)) xs)))
-
--- the same by the buffers
-pub put_both : (a b : ℕ) (u v old between new : List ℕ) → between ≡ with_bytes a u old
-    → b ≡ a + length u → new ≡ with_bytes b v between → a + length (u ++ v) ≤ length old
-    → new ≡ with_bytes a (u ++ v) old
-put_both a b u v old between new one at two fits =
-    two ∙ ap₂ (λ (n : ℕ) (ys : List ℕ). with_bytes n v ys) at one
-    ∙ with_both a u v old (omega (arith, fits, length-append u v))
 
 -- a key and an answer take their bytes, and 9, or 17 where there is a value
 pub none_length : (key : List ℕ) → length (change_bytes (key, None)) ≡ 9 + length key
@@ -81,20 +50,6 @@ no_le x y lt =
       | inl u ↦ absurd (let le = leb-true x y u in omega (arith, le, lt))
       | inr g ↦ sym g
     ]
-
--- three are put, one after another
-pub put_three : (a b d : ℕ) (u v z old one two new : List ℕ) → one ≡ with_bytes a u old → b ≡ a + length u
-    → two ≡ with_bytes b v one → d ≡ b + length v → new ≡ with_bytes d z two
-    → a + length (u ++ (v ++ z)) ≤ length old → new ≡ with_bytes a (u ++ (v ++ z)) old
-put_three a b d u v z old one two new first at second then third fits =
-    let all = length-append u (v ++ z) in
-    let tail = length-append v z in
-    let front = length-append u v in
-    let whole = length-append (u ++ v) z in
-    put_both a d (u ++ v) z old two new
-    (put_both a b u v old one two first at second (omega (arith, fits, all, tail, front)))
-    (omega (arith, at, then, front)) third (omega (arith, fits, all, tail, front, whole))
-    ∙ ap (λ (bs : List ℕ). with_bytes a bs old) (append_assoc u v z)
 
 -- one item more is put
 pub put_next : {X : Type 0} (part : X → List ℕ) (all left next : List X) (item : X) (before old out new : List ℕ)

@@ -12,7 +12,8 @@ use Rattle.hlc_columns.specs.Answers.{AreAnswers}
 use Rattle.hlc_core.specs.declared.listing.Pair.{Pair}
 use Rattle.hlc_core.specs.Listing.{IsListing}
 use Rattle.hlc_core.proofs.ListingLemmas.{one-listing}
-use Rattle.hlc_range_calls.specs.Listing.{narrowed, listing_bytes, with_bytes, ReturnsPairs, ReturnsListing}
+use Rattle.hlc_wire.specs.Placing.{with_bytes}
+use Rattle.hlc_range_calls.specs.Listing.{narrowed, listing_bytes, ReturnsPairs, ReturnsListing}
 
 abbrev of_pair : Pair → List ℕ × List ℕ
 of_pair pair = (pair.key, pair.value)

@@ -8,7 +8,8 @@ use Rattle.hlc_rows.specs.declared.row.Row.{Row}
 use Rattle.hlc_column.specs.Cells.{Cell}
 use Rattle.hlc_column.specs.Versions.{IsNewer, AreVersions}
 use Rattle.hlc_core.specs.StoreView.{StoreView}
-use Rattle.hlc_range_calls.specs.Listing.{answer_bytes, narrowed, with_bytes, IsCopied}
+use Rattle.hlc_wire.specs.Placing.{with_bytes}
+use Rattle.hlc_range_calls.specs.Listing.{answer_bytes, narrowed, IsCopied}
 use Rattle.hlc_range_calls.specs.Scan.{parts_bytes}
 use Rattle.hlc_range_calls.specs.Versions.{version_bytes, AreRead}
 

@@ -7,10 +7,12 @@ use Rattle.std.proofs.lemmas.Grind.{flat_map-append}
 use Rattle.hlc_rows.specs.declared.row.Row.{Row}
 use Rattle.hlc_rows.specs.Rows.{answer}
 use Rattle.hlc_columns.specs.Answers.{AreAnswers, AreAnswersBack, IsBetween}
-use Rattle.hlc_range_calls.specs.Listing.{narrowed, pair_bytes, with_bytes}
+use Rattle.hlc_wire.specs.Placing.{with_bytes}
+use Rattle.hlc_range_calls.specs.Listing.{narrowed, pair_bytes}
 use Rattle.hlc_range_calls.specs.Scan.{end_of, part_bytes, parts_bytes, ReturnsFitting, ReturnsScan, ReturnsCount}
 use Rattle.hlc_range_calls.specs.Scan.{ReturnsScanBack}
-use Rattle.hlc_range_calls.proofs.ByteLemmas.{pair_length, put_both}
+use Rattle.hlc_wire.proofs.PlacingLemmas.{put_both}
+use Rattle.hlc_range_calls.proofs.ByteLemmas.{pair_length}
 use Rattle.hlc_range_calls.proofs.PairLemmas.{same_answers}
 
 abbrev Pair : Type 0

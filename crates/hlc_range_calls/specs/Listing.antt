@@ -1,5 +1,5 @@
 -- How a listing is returned: for each pair the key and then the value, each preceded by the number of its bytes.
-use Rattle.std.specs.Prelude.{◌≡◌, ℕ, ◌+◌, ◌<◌, ◌≤◌, List, [], ◌∷◌, ◌++◌, length, take, drop, min, Option, Some, None}
+use Rattle.std.specs.Prelude.{◌≡◌, ℕ, ◌+◌, ◌<◌, ◌≤◌, List, [], ◌∷◌, ◌++◌, length, drop, min, Option, Some, None}
 use Rattle.std.specs.Int.{to_le_bytes, w64}
 use Rattle.std.specs.List.{flat_map}
 use Rattle.hlc_rows.specs.declared.row.Row.{Row}
@@ -30,10 +30,6 @@ answer_bytes (Some value) = 1 ∷ sized value
 -- the bytes of all pairs in their order
 abbrev pub listing_bytes : List (List ℕ × List ℕ) → List ℕ
 listing_bytes pairs = flat_map pair_bytes pairs
-
--- a buffer with these bytes from a place on
-abbrev pub with_bytes : ℕ → List ℕ → List ℕ → List ℕ
-with_bytes at bytes old = take at old ++ (bytes ++ drop (at + length bytes) old)
 
 -- the pairs are returned: how many bytes they take, and the bytes, if they fit
 abbrev pub ReturnsPairs : List (List ℕ × List ℕ) → ℕ → List ℕ → List ℕ → Type 0

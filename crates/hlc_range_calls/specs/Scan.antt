@@ -5,7 +5,8 @@ use Rattle.std.specs.Prelude.{Bool, true, false}
 use Rattle.std.specs.List.{flat_map}
 use Rattle.hlc_rows.specs.declared.row.Row.{Row}
 use Rattle.hlc_columns.specs.Answers.{AreAnswers, AreAnswersBack, IsBetween}
-use Rattle.hlc_range_calls.specs.Listing.{narrowed, sized, pair_bytes, with_bytes}
+use Rattle.hlc_wire.specs.Placing.{with_bytes}
+use Rattle.hlc_range_calls.specs.Listing.{narrowed, sized, pair_bytes}
 
 -- the end of a range: no bytes represent none
 abbrev pub end_of : List ℕ → Option (List ℕ)

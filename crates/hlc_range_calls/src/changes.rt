@@ -2,7 +2,7 @@
 ghost use Rattle.std.specs.Prelude.{◌≡◌, ◌≤◌, ◌+◌, List, length, nat_le, option_copied};
 ghost use Rattle.hlc_core.specs.Past.{Step, stamp_of, writes};
 ghost use Rattle.hlc_core.specs.StoreView.{Represents};
-ghost use Rattle.hlc_range_calls.specs.Listing.{with_bytes};
+ghost use Rattle.hlc_wire.specs.Placing.{with_bytes};
 ghost use Rattle.hlc_range_calls.specs.Scan.{ReturnsFitting};
 ghost use Rattle.hlc_range_calls.specs.Changes.{change_bytes, ReturnsChanges};
 

@@ -2,11 +2,12 @@
 ghost use Rattle.std.specs.Prelude.{◌≡◌, ◌≢◌, ◌≤◌, ◌+◌, ◌*◌, List, length, MatchOption, IfSome, option_copied, true};
 ghost use Rattle.hlc_core.specs.Past.{Step, stamp_of, writes};
 ghost use Rattle.hlc_core.specs.StoreView.{Represents};
-ghost use Rattle.hlc_range_calls.specs.Listing.{sized, answer_bytes, pair_bytes, listing_bytes, with_bytes};
-ghost use Rattle.hlc_range_calls.specs.Listing.{ReturnsListing};
+ghost use Rattle.hlc_wire.specs.Placing.{with_bytes};
+ghost use Rattle.hlc_range_calls.specs.Listing.{sized, answer_bytes, pair_bytes, listing_bytes, ReturnsListing};
 
 use hlc_columns::Sizes;
 use hlc_core::{Answers, Core};
+use hlc_wire::put_bytes;
 
 /// Returns how many bytes the pairs take, or none where 64 bits do not hold the number.
 #[tactic(auto, using(crate::proofs::ByteLemmas::listing_length, crate::proofs::ByteLemmas::pair_length))]
@@ -24,25 +25,14 @@ fn listing_len(answers: Answers<'_>) -> Option<usize>
     Some(len)
 }
 
-/// Writes bytes to a place of a buffer, and returns the place after them. They must fit there.
-pub fn put(out: &mut [u8], at: usize, bytes: &[u8]) -> usize
-    requires { at + length bytes.now ≤ length out.now }
-    ensures end { result ≡ at + length bytes.now }
-    ensures put { out.new ≡ with_bytes at bytes.now out.old }
-{
-    let end = at + bytes.len();
-    out[at..end].copy_from_slice(bytes);
-    end
-}
-
-/// Writes bytes, preceded by their number, in the same way.
+/// Writes bytes, preceded by their number, to a place of a buffer, and returns the place after them.
 pub fn put_sized(out: &mut [u8], at: usize, bytes: &[u8]) -> usize
     requires { at + length (sized bytes.now) ≤ length out.now }
     ensures end { result ≡ at + length (sized bytes.now) }
     ensures put { out.new ≡ with_bytes at (sized bytes.now) out.old }
 {
-    let start = put(out, at, &(bytes.len() as u64).to_le_bytes());
-    put(out, start, bytes)
+    let start = put_bytes(out, at, &(bytes.len() as u64).to_le_bytes());
+    put_bytes(out, start, bytes)
 }
 
 /// Writes a key and its value in the same way.
@@ -62,9 +52,9 @@ pub fn put_answer(out: &mut [u8], at: usize, value: Option<&[u8]>) -> usize
     ensures put { out.new ≡ with_bytes at (answer_bytes (option_copied value.entry)) out.old }
 {
     match value {
-        None => put(out, at, &[0]),
+        None => put_bytes(out, at, &[0]),
         Some(value) => {
-            let start = put(out, at, &[1]);
+            let start = put_bytes(out, at, &[1]);
             put_sized(out, start, value)
         }
     }

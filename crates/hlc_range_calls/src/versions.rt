@@ -1,12 +1,14 @@
 //! The stored rows of a key, as bytes.
 ghost use Rattle.std.specs.Prelude.{◌≡◌, ◌≤◌, ◌+◌, length, option_copied};
 ghost use Rattle.hlc_column.specs.Versions.{version_read};
-ghost use Rattle.hlc_range_calls.specs.Listing.{answer_bytes, narrowed, with_bytes};
+ghost use Rattle.hlc_wire.specs.Placing.{with_bytes};
+ghost use Rattle.hlc_range_calls.specs.Listing.{answer_bytes, narrowed};
 ghost use Rattle.hlc_range_calls.specs.Scan.{parts_bytes};
 ghost use Rattle.hlc_range_calls.specs.Versions.{version_bytes, ReturnsVersions};
 
-use crate::list::{put, put_answer};
+use crate::list::put_answer;
 use hlc_core::{Core, Stamp, Versions};
+use hlc_wire::put_bytes;
 
 /// Writes a version to a place of a buffer, and returns the place after it.
 fn put_version(out: &mut [u8], at: usize, stamp: Stamp, node: u16, value: Option<&[u8]>) -> usize
@@ -14,8 +16,8 @@ fn put_version(out: &mut [u8], at: usize, stamp: Stamp, node: u16, value: Option
     ensures end { result ≡ at + length (version_bytes (version_read (stamp, node, value.entry))) }
     ensures put { out.new ≡ with_bytes at (version_bytes (version_read (stamp, node, value.entry))) out.old }
 {
-    let middle = put(out, at, &stamp.bits().to_le_bytes());
-    let start = put(out, middle, &node.to_le_bytes());
+    let middle = put_bytes(out, at, &stamp.bits().to_le_bytes());
+    let start = put_bytes(out, middle, &node.to_le_bytes());
     put_answer(out, start, value)
 }
 

@@ -1,7 +1,7 @@
 -- The key, and the answer after it.
 use Rattle.std.specs.Prelude.{option_copied}
 use Rattle.hlc_range_calls.specs.Listing.{sized, answer_bytes}
-use Rattle.hlc_range_calls.proofs.ByteLemmas.{put_both}
+use Rattle.hlc_wire.proofs.PlacingLemmas.{put_both}
 use Rattle.hlc_range_calls.proofs.changes.put_change.Goals as goal
 
 pub returns-clause-put : goal.returns-clause-put

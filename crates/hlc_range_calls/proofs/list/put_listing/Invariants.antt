@@ -1,6 +1,7 @@
 -- The bytes of the pairs so far are at the start of the buffer.
 use Rattle.std.proofs.Common.{◌≡◌, ◌++◌, ℕ, List, length}
-use Rattle.hlc_range_calls.specs.Listing.{listing_bytes, with_bytes}
+use Rattle.hlc_wire.specs.Placing.{with_bytes}
+use Rattle.hlc_range_calls.specs.Listing.{listing_bytes}
 use Rattle.hlc_range_calls.proofs.list.put_listing.Given as goal
 
 abbrev pub invariant-loop-key : goal.invariant-loop-key

@@ -1,6 +1,6 @@
 -- The key, and the value after it.
 use Rattle.hlc_range_calls.specs.Listing.{sized}
-use Rattle.hlc_range_calls.proofs.ByteLemmas.{put_both}
+use Rattle.hlc_wire.proofs.PlacingLemmas.{put_both}
 use Rattle.hlc_range_calls.proofs.list.put_pair.Goals as goal
 
 pub returns-clause-put : goal.returns-clause-put
