@@ -69,14 +69,7 @@ impl<'a> View<'a> {
         self.table.answers_between(self.stamp, from, to)
     }
 
-    /// Returns an iterator of the keys that have a value against byte order, the last first, with that value.
-    pub fn iter_back(&self) -> AnswersBack<'a>
-        ensures { AreAnswersBack self.now.rows self.now.stamp (λ key. Unit {0}) result }
-    {
-        self.table.answers_back(self.stamp, &[], None)
-    }
-
-    /// Returns the same for the keys that are not below `from`, and below `to`, if there is one.
+    /// Returns the same against byte order, the last key first.
     pub fn range_back(&self, from: &'a [u8], to: Option<&[u8]>) -> AnswersBack<'a>
         ensures { AreAnswersBack self.now.rows self.now.stamp
             (IsBetween from.now (option_copied to.entry)) result }

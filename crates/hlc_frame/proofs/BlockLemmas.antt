@@ -10,7 +10,7 @@ use Rattle.hlc_frame.specs.declared.front.Front.{Front}
 use Rattle.hlc_frame.specs.declared.rest.RestReader.{RestReader}
 use Rattle.hlc_frame.specs.declared.reader.FrameReader.{FrameReader}
 use Rattle.hlc_frame.specs.Opening.{front_at}
-use Rattle.hlc_frame.specs.Reading.{HasRead, HasReadRest, GoesOn, body_after, body_so_far, promised, length_so_far}
+use Rattle.hlc_frame.specs.Reading.{HasRead, HasReadRest, GoesOn, body_after, body_so_far}
 use Rattle.hlc_frame.proofs.ListLemmas.{take_again, drop_again}
 use Rattle.hlc_frame.proofs.FrontLemmas.{front_ok, front_cut, with_rest}
 
@@ -26,15 +26,6 @@ Ready (Err fault) (Some rest) front so_far tail after = ⊥
 pub body_cut : (fed : List ℕ) → body_so_far fed ≡ body_after (front_at (take 20 fed) >>= with_rest (drop 20 fed))
 unfolding body_so_far
 body_cut fed = ap body_after (front_cut fed)
-
-promised_rest : (read : Result (Front × List ℕ) WireFault) (rest : List ℕ)
-    → promised read ≡ promised (read >>= with_rest rest)
-promised_rest (Ok found) rest = refl
-promised_rest (Err fault) rest = refl
-
-pub length_cut : (fed : List ℕ) → promised (front_at (take 20 fed)) ≡ length_so_far fed
-unfolding length_so_far
-length_cut fed = promised_rest (front_at (take 20 fed)) (drop 20 fed) ∙ sym (ap promised (front_cut fed))
 
 -- ---- if there was no front
 

@@ -18,15 +18,6 @@ body_after (Err fault) = []
 unfoldable pub body_so_far : List ℕ → List ℕ
 body_so_far fed = body_after (front_at fed)
 
--- the length that a front promises
-abbrev pub promised : Result (Front × List ℕ) WireFault → Option ℕ
-promised (Ok front) = Some front.0.len
-promised (Err fault) = None
-
--- the length of the body, once these bytes contain a front
-unfoldable pub length_so_far : List ℕ → Option ℕ
-length_so_far fed = promised (front_at fed)
-
 -- the word of the frame, or the first fault
 abbrev pub word_of : List ℕ → Result ℕ WireFault
 word_of fed = opened fed >>= λ frame. Ok frame.0

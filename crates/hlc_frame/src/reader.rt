@@ -1,7 +1,7 @@
 //! A frame, read in blocks of any size.
-ghost use Rattle.std.specs.Prelude.{◌≡◌, ◌++◌, List, ℕ, [], take};
+ghost use Rattle.std.specs.Prelude.{◌≡◌, ◌++◌, List, ℕ, []};
 ghost use Rattle.hlc_frame.specs.Opening.{front_at};
-ghost use Rattle.hlc_frame.specs.Reading.{HasRead, GoesOn, body_so_far, length_so_far, word_of};
+ghost use Rattle.hlc_frame.specs.Reading.{HasRead, GoesOn, body_so_far, word_of};
 
 use crate::front::{FRONT_BYTES, front_at};
 use crate::rest::{RestReader, fill};
@@ -44,19 +44,6 @@ impl FrameReader {
         match &mut self.rest {
             None => &[],
             Some(reader) => reader.feed(rest),
-        }
-    }
-
-    /// Returns the length of the body, as it is in the front, once the front has come.
-    ///
-    /// None before that, and if the version is not 1. It is not verified yet: a damaged front may
-    /// have any length.
-    pub fn length(&self) -> Option<u64>
-        ensures { (fed : List ℕ) → HasRead self.now fed → result ≡ length_so_far fed }
-    {
-        match front_at(self.front.as_slice()) {
-            Err(_) => None,
-            Ok((front, _)) => Some(front.len),
         }
     }
 

@@ -9,11 +9,3 @@ pub trait Filled {
     fn is_filled(&self) -> bool
         ensures { result ≡ is_filled self.now };
 }
-
-impl<T: Filled> Filled for Box<T> {
-    ghost is_filled = { λ boxed. T.is_filled boxed.value };
-
-    fn is_filled(&self) -> bool {
-        (**self).is_filled()
-    }
-}

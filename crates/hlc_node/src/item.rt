@@ -1,6 +1,6 @@
 //! Items, which a node sends over its link, and messages to other nodes.
 ghost use Rattle.std.specs.Prelude.{◌≡◌};
-ghost use Rattle.hlc_node.specs.Items.{body_refusal, retires, IsShort};
+ghost use Rattle.hlc_node.specs.Items.{body_refusal, IsShort};
 
 use crate::item_ref::ItemRef;
 use hlc_clock::Stamp;
@@ -90,13 +90,6 @@ impl Item {
             Body::Retire => ItemRef::retire(*node, *number, *stamp),
         }
     }
-}
-
-/// Returns whether an item with this body is its node's last one.
-pub fn retires(body: &Body) -> bool
-    ensures { result ≡ retires body.now }
-{
-    matches!(body, Body::Retire)
 }
 
 /// Returns the first reason to refuse this body.

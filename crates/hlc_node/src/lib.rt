@@ -14,6 +14,6 @@ pub use hlc_rows::{
     write_fault,
 };
 pub use hlc_values::Listed;
-pub use item::{Body, Item, Message, body_fault, retires};
+pub use item::{Body, Item, Message, body_fault};
 pub use item_ref::{Content, ItemRef};
 pub use node::{NodeCore, NodeFault, RefusedBatch, RefusedWrite};

@@ -11,7 +11,7 @@ use Rattle.std.proofs.lemmas.Nat.{from_be_bytes-to_be_bytes_2, from_be_bytes-to_
 use Rattle.hlc_wire.specs.declared.fault.WireFault.{WireFault}
 use Rattle.hlc_wire.specs.declared.fault.WireFault.TheVariants.{Short, Trailing}
 use Rattle.hlc_wire.specs.Spelling.{flag_bytes, key_bytes, value_bytes, KeyFits, ValueFits}
-use Rattle.hlc_wire.specs.Reading.{◌>>=◌, byte_at, number_at, bytes_at, flag_at, key_at, value_at, whole}
+use Rattle.hlc_wire.specs.Reading.{◌>>=◌, number_at, bytes_at, flag_at, key_at, value_at, whole}
 
 abbrev pub IsBytes : List ℕ → Type 0
 IsBytes bytes = (i : ℕ) → get_or bytes i 0 < 256
@@ -178,19 +178,6 @@ bytes_reader n = record {
   takes = bytes_takes n;
   again = λ text rest len. subst (λ (k : ℕ). bytes_at k (text ++ rest) ≡ Ok (text, rest)) len (bytes_again text rest);
 }
-
--- ---- a byte
-
-byte_takes : (bytes : List ℕ) (x : ℕ × List ℕ) → IsBytes bytes → byte_at bytes ≡ Ok x
-    → Takes bytes (x.0 ∷ []) x.1 × (x.0 < 256)
-byte_takes [] x fits e = absurd cc
-byte_takes (b ∷ bytes) x fits e =
-    let small : b < 256 = fits 0 in
-    subst (λ (y : ℕ × List ℕ). Takes (b ∷ bytes) (y.0 ∷ []) y.1 × (y.0 < 256)) (ok_is (b, bytes) x e)
-    (record { parts = refl; rest_fits = IsBytes-rest b bytes fits }, small)
-
-pub byte_reader : IsReader byte_at (λ b. b ∷ []) (λ b. b < 256)
-byte_reader = record { takes = byte_takes; again = λ b rest lt. refl }
 
 -- ---- yes or no
 

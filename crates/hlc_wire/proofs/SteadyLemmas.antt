@@ -10,7 +10,7 @@ use Rattle.hlc_node.specs.Items.{an_item}
 use Rattle.hlc_node.specs.declared.item.Body.TheVariants.{Write, Batch, Report, Retire}
 use Rattle.hlc_wire.specs.declared.fault.WireFault.{WireFault}
 use Rattle.hlc_wire.specs.declared.fault.WireFault.TheVariants.{Short, Version, Kind, EmptyKey, Flag, Trailing, Damaged}
-use Rattle.hlc_wire.specs.Reading.{◌>>=◌, byte_at, number_at, bytes_at, flag_at, key_at, value_at, body_at}
+use Rattle.hlc_wire.specs.Reading.{◌>>=◌, number_at, bytes_at, flag_at, key_at, value_at, body_at}
 use Rattle.hlc_wire.specs.Reading.{write_at, writes_at, batch_at}
 use Rattle.hlc_wire.specs.Reading.{item_rest_at, item_at, message_rest_at, message_at}
 use Rattle.hlc_wire.proofs.FieldLemmas.{bind_ok, guard_ok, done, ok_is, IsReader}
@@ -121,12 +121,6 @@ steady_short {A = A} read spell Fits steady is a front back fits parts some =
     ]
 
 -- ---- fields
-
-byte_each : (b : ℕ) → IsSteady (λ (rest : List ℕ). byte_at (b ∷ rest))
-byte_each b = steady_done b
-
-pub byte_steady : IsSteady byte_at
-byte_steady = steady_head byte_at refl byte_each
 
 guard_err : {A : Type 0} (b : Bool) (d f : WireFault) (x : A) → cond b (Err d) (Ok x) ≡ Err f → f ≡ d
 guard_err true d f x e = cc

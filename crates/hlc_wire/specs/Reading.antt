@@ -29,11 +29,6 @@ Gives view (Err e) read = Fails e read
 
 -- Each field is a value and the bytes after it.
 
--- a byte
-abbrev pub byte_at : List ℕ → Result (ℕ × List ℕ) WireFault
-byte_at [] = Err Short
-byte_at (b ∷ rest) = Ok (b, rest)
-
 -- a number in this many bytes
 abbrev pub number_at : Width → List ℕ → Result (ℕ × List ℕ) WireFault
 number_at w bytes =

@@ -4,23 +4,12 @@ ghost use Rattle.std.specs.Prelude.{◌≡◌, ◌++◌, option_copied, IfOk, On
 ghost use Rattle.std.specs.Int.{w16, w32, w64};
 ghost use Rattle.hlc_rows.specs.Limits.{IsShortValue};
 ghost use Rattle.hlc_wire.specs.Spelling.{flag_bytes, key_bytes, value_bytes, KeyFits, ValueFits};
-ghost use Rattle.hlc_wire.specs.Reading.{Gives, byte_at, bytes_at, number_at, flag_at, key_at, value_at};
+ghost use Rattle.hlc_wire.specs.Reading.{Gives, bytes_at, number_at, flag_at, key_at, value_at};
 
 use crate::fault::{DecodeError, WireFault};
 use hlc_node::Bytes;
 use hlc_values::NoMemory;
 use std::alloc::{AllocError, Global};
-
-/// Reads the first byte. `Short` if there is none.
-pub fn byte_at(bytes: &[u8]) -> Result<(u8, &[u8]), DecodeError>
-    ensures read { Gives (λ x. (x.0, x.1.now)) result (byte_at bytes.now) }
-    ensures memory { ¬ IsErrOf result DecodeError.NoMemory }
-{
-    match bytes {
-        [] => Err(DecodeError::Fault(WireFault::Short)),
-        [byte, rest @ ..] => Ok((*byte, rest)),
-    }
-}
 
 /// Reads the number in the first two bytes. `Short` if there are fewer.
 pub fn u16_at(bytes: &[u8]) -> Result<(u16, &[u8]), DecodeError>
