@@ -1,5 +1,5 @@
-//! Where the next keys of a batch are in an index.
-use hlc_column::Rows;
+//! Where the keys of a batch are in an index, looked up before the rows are added.
+use crate::rows::Rows;
 use hlc_index::Index;
 use hlc_rows::Writes;
 
@@ -11,15 +11,15 @@ const FEW: usize = 4;
 
 /// Guesses where the keys of the next writes are. A guess may be wrong: rows of keys that are new move others.
 #[derive(Debug, Drop)]
-pub(crate) struct Ahead {
+pub struct Ahead {
     places: [(usize, usize); AHEAD],
     /// How many of them were asked for.
     used: usize,
 }
 
 impl Ahead {
-    /// Returns guesses for a batch of so many writes. Those for a few writes are all wrong, and cost nothing.
-    pub(crate) fn new(count: usize) -> Ahead {
+    /// Returns guesses for a batch with this number of writes. Those for a few writes are all wrong, and cost nothing.
+    pub fn new(count: usize) -> Ahead {
         Ahead {
             places: [(usize::MAX, 0); AHEAD],
             used: if count < FEW { 0 } else { AHEAD },
@@ -29,7 +29,7 @@ impl Ahead {
     /// Returns a guess for the key of a write, after which these come. If no guess is left, it looks up the keys of the
     /// next writes first, and fetches their columns from memory: none of these reads waits for the one before it.
     #[inline]
-    pub(crate) fn next(
+    pub fn next(
         &mut self,
         columns: &Index<Rows>,
         key: &[u8],
