@@ -1,6 +1,6 @@
 -- The words in which the contracts of a store speak.
 pub use Rattle.hlc_core.specs.Past.{Step, Took, Joined, Opened, Closed, Vacuumed, numbered, count, head, floor, horizon}
-pub use Rattle.hlc_core.specs.Past.{Trimmed, vacuumed, trimmed}
+pub use Rattle.hlc_core.specs.Past.{PartVacuumed, vacuumed, part_dropped}
 pub use Rattle.hlc_core.specs.Past.{opened, open_snapshots, writes, stamp_of, item_refusal, join_refusal, open_refusal}
 pub use Rattle.hlc_core.specs.Past.{join_at_refusal, room_refusal, vacuum_refusal, IsLegal}
 pub use Rattle.hlc_core.specs.Replicas.{items_of, joins_of, AreReplicas, CanMeet}
@@ -8,7 +8,7 @@ pub use Rattle.hlc_core.specs.StoreView.{StoreView, nodes, Represents}
 pub use Rattle.hlc_core.specs.Calls.{IsWrite, IsRefusal, IsListed, AreRowsTo, AreSizes, AreVersions, Vacuums}
 pub use Rattle.hlc_core.specs.Certified.{Certifies, IsCertified, AreNotFewest}
 pub use Rattle.hlc_core.specs.Differences.{AreDifferences, Compares, patched}
-pub use Rattle.hlc_core.specs.Parts.{rows_of_keys, IsPartReport, Trims, EndsAt, VacuumsPart}
+pub use Rattle.hlc_core.specs.Parts.{rows_of_keys, IsPartReport, VacuumsKeys, EndsAt, VacuumsPart}
 pub use Rattle.hlc_core.specs.Stored.{AreVacuumPoints, IsReport}
 pub use Rattle.hlc_passes.specs.Pass.{Part, ArePass, left_by, together, report_of}
 pub use Rattle.hlc_events.specs.Faults.{core_code, core_word, certificate_fault_code, certificate_fault_word}

@@ -5,6 +5,6 @@ pub use hlc_saved::{
     StoreWriter, copy_by_bytes, decode_checkpoint, encode_checkpoint, resume, save,
 };
 pub use hlc_wire::{
-    DecodeError, EncodeError, MESSAGE_BYTES, MOST_BATCH_BYTES, MOST_ITEM_BYTES, WireFault,
+    DecodeError, EncodeError, MAX_BATCH_BYTES, MAX_ITEM_BYTES, MESSAGE_BYTES, WireFault,
     decode_item, decode_message, encode_item, encode_message,
 };

@@ -16,11 +16,12 @@ pub use hlc_clock::{ClockFault, ReadingTooLarge};
 pub use hlc_core::{
     Accepted, Answers, AnswersBack, Body, BodyFault, Bytes, CertificateFault, Changes, Checkpoint,
     Core, CoreEvent, CoreFault, CoreReply, Item, ItemRef, JoinFault, LinkFault, Listing, NoMemory,
-    NoNode, NoSnapshot, Numbers, Pair, Points, Report, RestoreFault, Row, Sizes, Snapshot,
-    SnapshotFault, Stamp, Versions, View, Witness, Witnesses, answers_stay, differences_lead_on,
+    NoNode, NoSnapshot, Numbers, Pair, Points, ReadView, Report, RestoreFault, Row, Sizes,
+    Snapshot, SnapshotFault, Stamp, Versions, Witness, Witnesses, answers_stay,
+    differences_lead_on,
 };
 pub use hlc_node::{
-    Content, Listed, MOST_WRITES, Message, NodeCore, NodeFault, RefusedBatch, RefusedWrite, Write,
+    Content, Listed, MAX_WRITES, Message, NodeCore, NodeFault, RefusedBatch, RefusedWrite, Write,
     Writes, Written, batch_fault,
 };
 pub use hlc_passes::{parts_are_a_vacuum, vacuums_leave_a_certificate};

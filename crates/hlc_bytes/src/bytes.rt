@@ -8,7 +8,7 @@ ghost use Rattle.std.specs.Slice.Iter.{iter_rest, iter_steps};
 ghost use Rattle.std.specs.Str.{bytes_eq};
 ghost use Rattle.hlc_bytes.specs.Storage.{bytes_of};
 
-use crate::short::{MOST_SHORT_BYTES, Short};
+use crate::short::{MAX_SHORT_BYTES, Short};
 use hlc_values::NoMemory;
 use std::alloc::{AllocFailed, Global};
 use std::fmt::{Debug, Formatter, Write};
@@ -50,7 +50,7 @@ impl Bytes {
         ensures bytes { IfOk result (λ copy. copy ≡ bytes.now) }
         ensures short { length bytes.now ≤ 30 → IsOk result }
     {
-        if bytes.len() <= MOST_SHORT_BYTES {
+        if bytes.len() <= MAX_SHORT_BYTES {
             return Ok(Bytes {
                 storage: Storage::Here(Short::of(bytes)),
             });

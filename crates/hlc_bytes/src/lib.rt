@@ -8,4 +8,4 @@ mod short;
 
 pub use bytes::{Bytes, value_slice};
 pub use mark::ValueOrMark;
-pub use short::{MOST_SHORT_BYTES, most_short_bytes_are_30};
+pub use short::{MAX_SHORT_BYTES, max_short_bytes_are_30};

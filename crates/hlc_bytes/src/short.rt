@@ -4,18 +4,18 @@ ghost use Rattle.std.specs.Prelude.{◌≡◌, ◌≤◌, length, IsOk};
 use std::marker::Model;
 
 /// The maximum number of bytes that are stored in place, without a heap allocation.
-pub const MOST_SHORT_BYTES: usize = 30;
+pub const MAX_SHORT_BYTES: usize = 30;
 
 /// At most 30 bytes are stored in place.
-pub fn most_short_bytes_are_30()
-    ensures { MOST_SHORT_BYTES ≡ 30 }
+pub fn max_short_bytes_are_30()
+    ensures { MAX_SHORT_BYTES ≡ 30 }
 {}
 
 /// At most 30 bytes, in place. In contracts it is the list of them.
 #[derive(Drop)]
 pub(crate) struct Short {
     len: u8,
-    bytes: [u8; MOST_SHORT_BYTES],
+    bytes: [u8; MAX_SHORT_BYTES],
 }
 
 impl Model for Short {
@@ -39,7 +39,7 @@ impl Short {
         ensures { result ≡ items.now }
     {
         let len = items.len();
-        let mut bytes = [0; MOST_SHORT_BYTES];
+        let mut bytes = [0; MAX_SHORT_BYTES];
         bytes[..len].copy_from_slice(items);
         Short {
             len: len as u8,

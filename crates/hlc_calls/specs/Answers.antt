@@ -14,7 +14,7 @@ use Rattle.hlc_core.specs.Past.{Step, Took, Opened, Closed, Joined, numbered, fl
 use Rattle.hlc_core.specs.Past.{item_refusal, join_refusal, join_at_refusal, open_refusal, room_refusal, vacuum_refusal}
 use Rattle.hlc_core.specs.StoreView.{StoreView, nodes, Represents}
 use Rattle.hlc_core.specs.Calls.{IsWrite, AreSizes, Vacuums}
-use Rattle.hlc_core.specs.Parts.{EndsAt, Trims}
+use Rattle.hlc_core.specs.Parts.{EndsAt, VacuumsKeys}
 use Rattle.hlc_calls.specs.Outcome.{IsAnswered}
 pub use Rattle.hlc_range_calls.specs.Listing.{IsCopied, narrowed}
 
@@ -120,7 +120,7 @@ abbrev pub ReturnsPart
     → ℕ → ℕ → ℕ → ℕ → ℕ → Bool → List ℕ → List ℕ → Type 0
 ReturnsPart old new at after most past floor kept bytes dropped len more before out =
     (report : Report) × (end : Option (List ℕ)) × EndsAt old after most end
-    × Trims old new at past (in_part after end) report × AreNumbers (numbers_of report) floor kept bytes dropped
+    × VacuumsKeys old new at past (in_part after end) report × AreNumbers (numbers_of report) floor kept bytes dropped
     × ReturnsEnd end len more before out
 
 -- the same, or it was refused

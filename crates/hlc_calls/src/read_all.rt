@@ -7,7 +7,7 @@ ghost use Rattle.hlc_wire.specs.Placing.{with_bytes};
 ghost use Rattle.hlc_calls.specs.ReadAll.{answer_at, answer_bytes, IsLeftOut, ReturnsAll, ReturnsAnswers};
 
 use crate::entries::piece_of;
-use hlc_core::{Core, View};
+use hlc_core::{Core, ReadView};
 use hlc_range_calls::list::put_sized;
 use hlc_wire::put_bytes;
 
@@ -48,7 +48,7 @@ fn put_answer(out: &mut [u8], at: usize, value: Option<&[u8]>) -> Option<usize>
 /// Writes the answer of the key at a place among the bytes. Returns the place after it; or 103 where the bytes do not
 /// contain the key, or 104 where the answer does not fit.
 fn put_key(
-    view: &View<'_>,
+    view: &ReadView<'_>,
     place: &Place,
     bytes: &[u8],
     out: &mut [u8],
@@ -72,7 +72,7 @@ fn put_key(
 /// Writes the answers of keys in turn to the start of a buffer, and how many bytes and answers it wrote. Returns 0, or
 /// why the next key is left out.
 fn put_answers(
-    view: &View<'_>,
+    view: &ReadView<'_>,
     places: &[Place],
     bytes: &[u8],
     out: &mut [u8],

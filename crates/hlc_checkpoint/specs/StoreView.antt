@@ -2,7 +2,7 @@
 use Rattle.std.specs.Prelude.{◌≡◌, ℕ, ◌<◌, ◌≤◌, List, [], ◌∷◌, length, max, true, All}
 use Rattle.hlc_rows.specs.declared.row.Row.{Row}
 use Rattle.hlc_intake.specs.IntakeView.{IntakeView}
-use Rattle.hlc_heads.specs.declared.heads.TheConstants.{MOST_NODES, MOST_NUMBERS}
+use Rattle.hlc_heads.specs.declared.heads.TheConstants.{MAX_INITIAL_NODES, MAX_NODES}
 use Rattle.hlc_heads.specs.Heads.{HeadsView, link_at, floor_of}
 use Rattle.hlc_snapshot.specs.declared.snapshot.Snapshot.{Snapshot}
 use Rattle.hlc_rows.specs.Rows.{IsRowSet}
@@ -39,9 +39,9 @@ without_snapshots kept = record kept { snapshots = [] }
 -- than node numbers
 pub record HasNodes (start : ℕ) (links : List IntakeView) : Type 0 where
   pub some : 0 < start
-  pub few : start ≤ MOST_NODES
+  pub few : start ≤ MAX_INITIAL_NODES
   pub linked : start ≤ length links
-  pub bounded : length links ≤ MOST_NUMBERS
+  pub bounded : length links ≤ MAX_NODES
 
 -- each item has a stamp of its own above 0.0, so there are no more items than the word of the head
 abbrev pub HasStamps : IntakeView → Type 0

@@ -10,7 +10,7 @@ ghost use Rattle.hlc_checkpoint.specs.Checkpoint.{IsUnderHead, floor_in};
 ghost use Rattle.hlc_checkpoint.specs.Growing.{with_rows};
 
 use hlc_clock::Stamp;
-use hlc_heads::{MOST_NODES, MOST_NUMBERS};
+use hlc_heads::{MAX_INITIAL_NODES, MAX_NODES};
 use hlc_intake::Intake;
 use hlc_rows::Row;
 use hlc_snapshot::{Snapshot, is_register};
@@ -351,7 +351,7 @@ fn are_nodes(start: u16, links: &[Intake]) -> bool
     ensures { IsTrue result ↔ HasNodes start links.now }
 {
     let many = links.len();
-    start > 0 && start <= MOST_NODES && start as usize <= many && many <= MOST_NUMBERS as usize
+    start > 0 && start <= MAX_INITIAL_NODES && start as usize <= many && many <= MAX_NODES as usize
 }
 
 /// Returns whether no link's next number is above the word of its head.

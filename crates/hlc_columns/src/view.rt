@@ -12,12 +12,12 @@ use std::marker::Model;
 
 /// A table as readers at one stamp see it. No call needs memory. In contracts it is the rows and the stamp.
 #[derive(Debug, Drop)]
-pub struct View<'a> {
+pub struct ReadView<'a> {
     table: &'a Table,
     stamp: Stamp,
 }
 
-impl<'a> Model for View<'a> {
+impl<'a> Model for ReadView<'a> {
     ghost use Rattle.hlc_columns.specs.View.{Seen};
 
     ghost Value = { Seen };
@@ -25,12 +25,12 @@ impl<'a> Model for View<'a> {
     ghost view = { λ view. record { rows = view.table.now; stamp = view.stamp } };
 }
 
-impl<'a> View<'a> {
+impl<'a> ReadView<'a> {
     /// Returns a view of a table at a stamp.
-    pub fn new(table: &'a Table, stamp: Stamp) -> View<'a>
+    pub fn new(table: &'a Table, stamp: Stamp) -> ReadView<'a>
         ensures { result ≡ record { rows = table.now; stamp = stamp } }
     {
-        View { table, stamp }
+        ReadView { table, stamp }
     }
 
     /// Returns the stamp.

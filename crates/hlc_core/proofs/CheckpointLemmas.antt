@@ -10,16 +10,17 @@ use Rattle.std.proofs.lemmas.List.Elements.{All-nil, All-weaker, All-push, All-c
 use Rattle.std.proofs.lemmas.List.Quantifiers.{all_pairs_push}
 use Rattle.hlc_intake.specs.IntakeView.{IntakeView}
 use Rattle.hlc_heads.specs.Heads.{no_link, link_at}
-use Rattle.hlc_heads.specs.declared.heads.TheConstants.{MOST_NODES, MOST_NUMBERS}
+use Rattle.hlc_heads.specs.declared.heads.TheConstants.{MAX_INITIAL_NODES, MAX_NODES}
 use Rattle.hlc_heads.proofs.LowLemmas.{low-same}
 use Rattle.hlc_snapshot.specs.declared.snapshot.Snapshot.{Snapshot}
-use Rattle.hlc_snapshot.specs.declared.registry.TheConstants.{MOST_OPEN}
+use Rattle.hlc_snapshot.specs.declared.registry.TheConstants.{MAX_OPEN_SNAPSHOTS}
 use Rattle.hlc_snapshot.specs.declared.fault.SnapshotFault.{SnapshotFault}
 use Rattle.hlc_snapshot.specs.RegistryView.{RegistryView, IsRegister, opened_at, room_refusal as room_in}
 use Rattle.hlc_snapshot.proofs.RegisterLemmas.{closed-is_register}
 use Rattle.hlc_witness.specs.Certificate.{RowsAscend}
 use Rattle.hlc_witness.specs.Cost.{IsInLimits}
-use Rattle.hlc_core.specs.Past.{Step, Took, Opened, Closed, Vacuumed, Trimmed, Joined, numbered, count, head, retired}
+use Rattle.hlc_core.specs.Past.{Step, Took, Opened, Closed, Vacuumed, PartVacuumed, Joined, numbered, count, head}
+use Rattle.hlc_core.specs.Past.{retired}
 use Rattle.hlc_core.specs.Past.{top, floor, horizon, opened, open_snapshots, of_room}
 use Rattle.hlc_events.specs.Faults.{of_registry}
 use Rattle.hlc_core.specs.Past.{IsLegal, writes, greatest_accepted}
@@ -42,23 +43,23 @@ numbered-from nodes (Took item ∷ past) = numbered-from nodes past
 numbered-from nodes (Opened stamp ∷ past) = numbered-from nodes past
 numbered-from nodes (Closed id ∷ past) = numbered-from nodes past
 numbered-from nodes (Vacuumed at ∷ past) = numbered-from nodes past
-numbered-from nodes (Trimmed at dropped ∷ past) = numbered-from nodes past
+numbered-from nodes (PartVacuumed at dropped ∷ past) = numbered-from nodes past
 numbered-from nodes (Joined node start ∷ past) = (let h = numbered-from nodes past in omega (arith, h))
 
 -- and no more numbers are assigned than there are
-numbered-few : (nodes : ℕ) (past : List Step) → nodes ≤ MOST_NODES → IsLegal nodes past
-    → numbered nodes past ≤ MOST_NUMBERS
+numbered-few : (nodes : ℕ) (past : List Step) → nodes ≤ MAX_INITIAL_NODES → IsLegal nodes past
+    → numbered nodes past ≤ MAX_NODES
 numbered-few nodes [] few legal = omega arith
 numbered-few nodes (Took item ∷ past) few legal = numbered-few nodes past few legal.1
 numbered-few nodes (Opened stamp ∷ past) few legal = numbered-few nodes past few legal.1
 numbered-few nodes (Closed id ∷ past) few legal = numbered-few nodes past few legal.1
 numbered-few nodes (Vacuumed at ∷ past) few legal = numbered-few nodes past few legal.1
-numbered-few nodes (Trimmed at dropped ∷ past) few legal = numbered-few nodes past few legal.1
+numbered-few nodes (PartVacuumed at dropped ∷ past) few legal = numbered-few nodes past few legal.1
 numbered-few nodes (Joined node start ∷ past) few legal =
-    elim (cases_lt (numbered nodes past) MOST_NUMBERS) [
-      | inl below ↦ (let g : numbered nodes past < MOST_NUMBERS = below in omega arith)
+    elim (cases_lt (numbered nodes past) MAX_NODES) [
+      | inl below ↦ (let g : numbered nodes past < MAX_NODES = below in omega arith)
       | inr full ↦ absurd (let g : Some (Join TooManyNodes) ≡ None =
-          sym (cond-true _ _ _ (le-leb MOST_NUMBERS (numbered nodes past) full)) ∙ legal.0 in cc)
+          sym (cond-true _ _ _ (le-leb MAX_NODES (numbered nodes past) full)) ∙ legal.0 in cc)
     ]
 
 -- no head is above the top
@@ -67,7 +68,7 @@ heads-low nodes [] legal n = omega arith
 heads-low nodes (Opened stamp ∷ past) legal n = heads-low nodes past legal.1 n
 heads-low nodes (Closed id ∷ past) legal n = heads-low nodes past legal.1 n
 heads-low nodes (Vacuumed at ∷ past) legal n = heads-low nodes past legal.1 n
-heads-low nodes (Trimmed at dropped ∷ past) legal n = heads-low nodes past legal.1 n
+heads-low nodes (PartVacuumed at dropped ∷ past) legal n = heads-low nodes past legal.1 n
 heads-low nodes (Joined node start ∷ past) legal n =
     let old : head n past ≤ top past = heads-low nodes past legal.3 n in
     elim (cases_eq node n) [
@@ -92,7 +93,7 @@ top-at nodes [] some legal = (0, some, refl)
 top-at nodes (Opened stamp ∷ past) some legal = top-at nodes past some legal.1
 top-at nodes (Closed id ∷ past) some legal = top-at nodes past some legal.1
 top-at nodes (Vacuumed at ∷ past) some legal = top-at nodes past some legal.1
-top-at nodes (Trimmed at dropped ∷ past) some legal = top-at nodes past some legal.1
+top-at nodes (PartVacuumed at dropped ∷ past) some legal = top-at nodes past some legal.1
 top-at nodes (Joined node start ∷ past) some legal =
     let old = top-at nodes past some legal.3 in
     let within : old.0 < numbered nodes past = old.1 in
@@ -157,9 +158,9 @@ of_room-none (Some fault) h = absurd (let g : Some (of_registry fault) ≡ None 
 register-open : (register : RegistryView) (stamp : ℕ) → IsRegister register
     → room_in (length register.snapshots) register.opened ≡ None → IsRegister (opened_at register stamp)
 register-open register stamp h none =
-    let room : (length register.snapshots < MOST_OPEN) × (register.opened < 18446744073709551614) =
+    let room : (length register.snapshots < MAX_OPEN_SNAPSHOTS) × (register.opened < 18446744073709551614) =
     grind (arith, nat_tests) in
-    let few : length register.snapshots < MOST_OPEN = room.0 in
+    let few : length register.snapshots < MAX_OPEN_SNAPSHOTS = room.0 in
     let spare : register.opened < 18446744073709551614 = room.1 in
     let new : Snapshot = record { id = register.opened + 1; stamp = stamp } in
     let l : length (register.snapshots ++ new ∷ []) ≡ length register.snapshots + 1 =
@@ -186,7 +187,7 @@ register-of nodes [] legal =
     }
 register-of nodes (Took item ∷ past) legal = register-of nodes past legal.1
 register-of nodes (Vacuumed at ∷ past) legal = register-of nodes past legal.1
-register-of nodes (Trimmed at dropped ∷ past) legal = register-of nodes past legal.1
+register-of nodes (PartVacuumed at dropped ∷ past) legal = register-of nodes past legal.1
 register-of nodes (Joined node start ∷ past) legal = register-of nodes past legal.3
 register-of nodes (Closed id ∷ past) legal =
     closed-is_register (record { snapshots = open_snapshots past; opened = opened past }) id
@@ -203,7 +204,7 @@ count-low nodes [] legal n = omega arith
 count-low nodes (Opened stamp ∷ past) legal n = count-low nodes past legal.1 n
 count-low nodes (Closed id ∷ past) legal n = count-low nodes past legal.1 n
 count-low nodes (Vacuumed at ∷ past) legal n = count-low nodes past legal.1 n
-count-low nodes (Trimmed at dropped ∷ past) legal n = count-low nodes past legal.1 n
+count-low nodes (PartVacuumed at dropped ∷ past) legal n = count-low nodes past legal.1 n
 count-low nodes (Joined node start ∷ past) legal n =
     let old : count n past ≤ head n past = count-low nodes past legal.3 n in
     elim (cases_eq node n) [
@@ -233,7 +234,7 @@ count-retired [] n has_retired = absurd cc
 count-retired (Opened stamp ∷ past) n has_retired = count-retired past n has_retired
 count-retired (Closed id ∷ past) n has_retired = count-retired past n has_retired
 count-retired (Vacuumed at ∷ past) n has_retired = count-retired past n has_retired
-count-retired (Trimmed at dropped ∷ past) n has_retired = count-retired past n has_retired
+count-retired (PartVacuumed at dropped ∷ past) n has_retired = count-retired past n has_retired
 count-retired (Joined node start ∷ past) n has_retired = count-retired past n has_retired
 count-retired (Took item ∷ past) n has_retired =
     elim (cases_eq item.node n) [
@@ -266,7 +267,7 @@ floor-in kept past h =
     (ap (λ (link : IntakeView). link.head) is, ap (λ (link : IntakeView). link.retired) is))
 
 pub checkpoint-sound : (kept : StoreView) (past : List Step) → Represents kept past → 0 < nodes kept
-    → nodes kept ≤ MOST_NODES → RowsAscend kept.rows → IsCheckpoint kept
+    → nodes kept ≤ MAX_INITIAL_NODES → RowsAscend kept.rows → IsCheckpoint kept
 checkpoint-sound kept past h some few ascend =
     let many : length kept.links ≡ numbered (nodes kept) past = h.many in
     let from = numbered-from (nodes kept) past in

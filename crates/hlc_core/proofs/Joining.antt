@@ -6,7 +6,7 @@ use Rattle.std.specs.Prelude.{slice_get, Err, ⊤}
 use Rattle.std.proofs.lemmas.Bool.{cond-true, cond-false, le-leb, lt-leb, le-ltb, lt-ltb, cases_lt}
 use Rattle.std.proofs.lemmas.Bool.{cases_eq}
 use Rattle.hlc_intake.specs.IntakeView.{IntakeView}
-use Rattle.hlc_heads.specs.declared.heads.TheConstants.{MOST_NUMBERS}
+use Rattle.hlc_heads.specs.declared.heads.TheConstants.{MAX_NODES}
 use Rattle.hlc_events.specs.declared.fault.CoreFault.TheVariants.{Join}
 use Rattle.hlc_heads.specs.declared.heads.JoinFault.{JoinFault}
 use Rattle.hlc_heads.specs.declared.heads.JoinFault.TheVariants.{TooManyNodes, BelowFloor, NoMemory as NoRoom}
@@ -68,19 +68,19 @@ joins kept past node start h none is up =
     }
 
 -- a join is not refused if a number is left
-pub joins-none : (nodes : ℕ) (past : List Step) (many : ℕ) → many < MOST_NUMBERS → many ≡ numbered nodes past
+pub joins-none : (nodes : ℕ) (past : List Step) (many : ℕ) → many < MAX_NODES → many ≡ numbered nodes past
     → join_refusal nodes past ≡ None
-joins-none nodes past many few is = cond-false _ _ _ (lt-leb MOST_NUMBERS (numbered nodes past) (omega (arith, is)))
+joins-none nodes past many few is = cond-false _ _ _ (lt-leb MAX_NODES (numbered nodes past) (omega (arith, is)))
 
 -- nor if its start is not below the floor
 pub joins-at_none : (nodes : ℕ) (past : List Step) (start : ℕ) → join_refusal nodes past ≡ None
     → floor nodes past ≤ start → join_at_refusal nodes past start ≡ None
 joins-at_none nodes past start none up =
-    elim (cases_lt (numbered nodes past) MOST_NUMBERS) [
-      | inl few ↦ cond-false _ _ _ (lt-leb MOST_NUMBERS (numbered nodes past) few)
+    elim (cases_lt (numbered nodes past) MAX_NODES) [
+      | inl few ↦ cond-false _ _ _ (lt-leb MAX_NODES (numbered nodes past) few)
           ∙ cond-false _ _ _ (le-ltb start (floor nodes past) up)
       | inr full ↦ absurd (let e : Some (Join TooManyNodes) ≡ None =
-          sym (cond-true _ _ _ (le-leb MOST_NUMBERS (numbered nodes past) full)) ∙ none in cc)
+          sym (cond-true _ _ _ (le-leb MAX_NODES (numbered nodes past) full)) ∙ none in cc)
     ]
 
 -- and a refusal of the heads is the expected one
@@ -88,9 +88,9 @@ pub refused : (nodes : ℕ) (past : List Step) (old new : HeadsView) (start : �
     → length old.links ≡ numbered nodes past → floor_of old ≡ floor nodes past → JoinsAt old new start (Err fault)
     → IsRefusal (join_at_refusal nodes past start) ⊤ (of_join fault)
 refused nodes past old new start TooManyNodes many at h =
-    inl (cond-true _ _ _ (le-leb MOST_NUMBERS (numbered nodes past) (omega (arith, many, h.0))))
+    inl (cond-true _ _ _ (le-leb MAX_NODES (numbered nodes past) (omega (arith, many, h.0))))
 refused nodes past old new start (BelowFloor low) many at h =
-    inl (cond-false _ _ _ (lt-leb MOST_NUMBERS (numbered nodes past) (omega (arith, many, h.0)))
+    inl (cond-false _ _ _ (lt-leb MAX_NODES (numbered nodes past) (omega (arith, many, h.0)))
     ∙ cond-true _ _ _ (lt-ltb start (floor nodes past) (omega (arith, at, h.1, h.2)))
     ∙ ap (λ f. Some (Join (BelowFloor f))) (sym (h.1 ∙ at)))
 refused nodes past old new start NoRoom many at h = inr (

@@ -25,11 +25,12 @@ use Rattle.hlc_heads.proofs.LowLemmas.{low-is, low-rises, low-joins, low-stays}
 use Rattle.hlc_witness.specs.Cost.{IsInLimits, AreInLimits}
 use Rattle.hlc_core.proofs.BatchLemmas.{rows_written-are, rows_written-set, rows_written-limits}
 use Rattle.hlc_core.proofs.BatchLemmas.{row_set-append}
-use Rattle.hlc_core.specs.Past.{Step, Took, Opened, Closed, Vacuumed, Trimmed, Joined, numbered, count, head, retired}
+use Rattle.hlc_core.specs.Past.{Step, Took, Opened, Closed, Vacuumed, PartVacuumed, Joined, numbered, count, head}
+use Rattle.hlc_core.specs.Past.{retired}
 use Rattle.hlc_core.specs.Past.{top, floor, horizon, vacuumed, open_snapshots, room_refusal, open_refusal, body_rows}
 use Rattle.hlc_core.specs.Past.{item_rows, writes, link_refusal, of_body, item_refusal, vacuum_refusal, IsLegal}
 use Rattle.hlc_core.specs.Past.{greatest_accepted, join_refusal, join_at_refusal}
-use Rattle.hlc_heads.specs.declared.heads.TheConstants.{MOST_NUMBERS}
+use Rattle.hlc_heads.specs.declared.heads.TheConstants.{MAX_NODES}
 
 -- what is true of an item that is not refused
 pub record IsAdmissible (has_retired : Bool) (next last : ℕ) (item : Item) : Type 0 where
@@ -123,7 +124,7 @@ fresh nodes [] n legal out = (refl, refl)
 fresh nodes (Opened stamp ∷ past) n legal out = fresh nodes past n legal.1 out
 fresh nodes (Closed id ∷ past) n legal out = fresh nodes past n legal.1 out
 fresh nodes (Vacuumed at ∷ past) n legal out = fresh nodes past n legal.1 out
-fresh nodes (Trimmed at dropped ∷ past) n legal out = fresh nodes past n legal.1 out
+fresh nodes (PartVacuumed at dropped ∷ past) n legal out = fresh nodes past n legal.1 out
 fresh nodes (Joined node start ∷ past) n legal out =
     fresh nodes past n legal.3 (let out' : numbered nodes past + 1 ≤ n = out in omega arith)
 fresh nodes (Took item ∷ past) n legal out =
@@ -199,7 +200,7 @@ inside-row nodes [] legal row m = absurd (Contains-none row m)
 inside-row nodes (Opened stamp ∷ past) legal row m = inside-row nodes past legal.1 row m
 inside-row nodes (Closed id ∷ past) legal row m = inside-row nodes past legal.1 row m
 inside-row nodes (Vacuumed at ∷ past) legal row m = inside-row nodes past legal.1 row m
-inside-row nodes (Trimmed at dropped ∷ past) legal row m = inside-row nodes past legal.1 row m
+inside-row nodes (PartVacuumed at dropped ∷ past) legal row m = inside-row nodes past legal.1 row m
 inside-row nodes (Joined node start ∷ past) legal row m =
     let within : row.node < numbered nodes past = inside-row nodes past legal.3 row m in
     let goal : row.node < numbered nodes past + 1 = omega arith in goal
@@ -220,7 +221,7 @@ below_head nodes [] legal row m = absurd (Contains-none row m)
 below_head nodes (Opened stamp ∷ past) legal row m = below_head nodes past legal.1 row m
 below_head nodes (Closed id ∷ past) legal row m = below_head nodes past legal.1 row m
 below_head nodes (Vacuumed at ∷ past) legal row m = below_head nodes past legal.1 row m
-below_head nodes (Trimmed at dropped ∷ past) legal row m = below_head nodes past legal.1 row m
+below_head nodes (PartVacuumed at dropped ∷ past) legal row m = below_head nodes past legal.1 row m
 below_head nodes (Joined node start ∷ past) legal row m =
     let old : row.stamp ≤ head row.node past = below_head nodes past legal.3 row m in
     elim (cases_eq node row.node) [
@@ -263,8 +264,8 @@ took-writes (Vacuumed at ∷ past) item row m r =
       | inl same ↦ absurd cc
       | inr rest ↦ took-writes past item row rest r
     ]
-took-writes (Trimmed at dropped ∷ past) item row m r =
-    elim (Contains-cons_cases (Trimmed at dropped) (Took item) past m) [
+took-writes (PartVacuumed at dropped ∷ past) item row m r =
+    elim (Contains-cons_cases (PartVacuumed at dropped) (Took item) past m) [
       | inl same ↦ absurd cc
       | inr rest ↦ took-writes past item row rest r
     ]
@@ -311,7 +312,7 @@ writes-row_set nodes [] legal = tt
 writes-row_set nodes (Opened stamp ∷ past) legal = writes-row_set nodes past legal.1
 writes-row_set nodes (Closed id ∷ past) legal = writes-row_set nodes past legal.1
 writes-row_set nodes (Vacuumed at ∷ past) legal = writes-row_set nodes past legal.1
-writes-row_set nodes (Trimmed at dropped ∷ past) legal = writes-row_set nodes past legal.1
+writes-row_set nodes (PartVacuumed at dropped ∷ past) legal = writes-row_set nodes past legal.1
 writes-row_set nodes (Joined node start ∷ past) legal = writes-row_set nodes past legal.3
 writes-row_set nodes (Took item ∷ past) legal =
     row_set-body item.node item.stamp item.body (writes past) (good_body nodes past item legal.0)
@@ -337,7 +338,7 @@ writes-limits nodes [] legal = All-nil _
 writes-limits nodes (Opened stamp ∷ past) legal = writes-limits nodes past legal.1
 writes-limits nodes (Closed id ∷ past) legal = writes-limits nodes past legal.1
 writes-limits nodes (Vacuumed at ∷ past) legal = writes-limits nodes past legal.1
-writes-limits nodes (Trimmed at dropped ∷ past) legal = writes-limits nodes past legal.1
+writes-limits nodes (PartVacuumed at dropped ∷ past) legal = writes-limits nodes past legal.1
 writes-limits nodes (Joined node start ∷ past) legal = writes-limits nodes past legal.3
 writes-limits nodes (Took item ∷ past) legal =
     limits-body item.node item.stamp item.body (writes past) (good_body nodes past item legal.0)
@@ -404,7 +405,7 @@ open-low nodes (Opened stamp ∷ past) legal = All-push (λ snapshot. snapshot.s
 open-low nodes (Closed id ∷ past) legal =
     All-filter _ (λ snapshot. snapshot.stamp ≤ floor nodes past) _ (open-low nodes past legal.1)
 open-low nodes (Vacuumed at ∷ past) legal = open-low nodes past legal.1
-open-low nodes (Trimmed at dropped ∷ past) legal = open-low nodes past legal.1
+open-low nodes (PartVacuumed at dropped ∷ past) legal = open-low nodes past legal.1
 open-low nodes (Joined node start ∷ past) legal =
     let up : floor nodes past ≤ floor nodes (Joined node start ∷ past) =
     floor-joins nodes past node start legal.1 legal.2 in
@@ -462,7 +463,7 @@ horizon-low nodes (Took item ∷ past) legal =
 horizon-low nodes (Opened stamp ∷ past) legal = horizon-low nodes past legal.1
 horizon-low nodes (Closed id ∷ past) legal = horizon-low nodes past legal.1
 horizon-low nodes (Vacuumed at ∷ past) legal = vacuum-below nodes past at legal.0
-horizon-low nodes (Trimmed at dropped ∷ past) legal = vacuum-below nodes past at legal.0
+horizon-low nodes (PartVacuumed at dropped ∷ past) legal = vacuum-below nodes past at legal.0
 horizon-low nodes (Joined node start ∷ past) legal =
     let low : horizon past ≤ floor nodes past = horizon-low nodes past legal.3 in
     let up : floor nodes past ≤ floor nodes (Joined node start ∷ past) =
@@ -475,7 +476,7 @@ vacuumed-low nodes (Took item ∷ past) legal = vacuumed-low nodes past legal.1
 vacuumed-low nodes (Opened stamp ∷ past) legal = vacuumed-low nodes past legal.1
 vacuumed-low nodes (Closed id ∷ past) legal = vacuumed-low nodes past legal.1
 vacuumed-low nodes (Vacuumed at ∷ past) legal = omega arith
-vacuumed-low nodes (Trimmed at dropped ∷ past) legal =
+vacuumed-low nodes (PartVacuumed at dropped ∷ past) legal =
     let low : vacuumed past ≤ horizon past = vacuumed-low nodes past legal.1 in
     let up : horizon past ≤ at = vacuum-above nodes past at legal.0 in
     let goal : vacuumed past ≤ at = omega arith in goal
@@ -503,7 +504,7 @@ accepted-low (Took item ∷ past) =
 accepted-low (Opened stamp ∷ past) = accepted-low past
 accepted-low (Closed id ∷ past) = accepted-low past
 accepted-low (Vacuumed at ∷ past) = accepted-low past
-accepted-low (Trimmed at dropped ∷ past) = accepted-low past
+accepted-low (PartVacuumed at dropped ∷ past) = accepted-low past
 accepted-low (Joined node start ∷ past) =
     let old : greatest_accepted past ≤ top past = accepted-low past in
     let goal : greatest_accepted past ≤ max (top past) start = omega arith in goal
@@ -515,7 +516,7 @@ retired-head nodes [] n legal has_retired = omega arith
 retired-head nodes (Opened stamp ∷ past) n legal has_retired = retired-head nodes past n legal.1 has_retired
 retired-head nodes (Closed id ∷ past) n legal has_retired = retired-head nodes past n legal.1 has_retired
 retired-head nodes (Vacuumed at ∷ past) n legal has_retired = retired-head nodes past n legal.1 has_retired
-retired-head nodes (Trimmed at dropped ∷ past) n legal has_retired = retired-head nodes past n legal.1 has_retired
+retired-head nodes (PartVacuumed at dropped ∷ past) n legal has_retired = retired-head nodes past n legal.1 has_retired
 retired-head nodes (Joined node start ∷ past) n legal has_retired =
     elim (cases_eq node n) [
       | inl same ↦
@@ -554,10 +555,10 @@ floor-at_floor nodes past node legal is =
 pub join-at_floor : (nodes : ℕ) (past : List Step)
     → join_at_refusal nodes past (floor nodes past) ≡ join_refusal nodes past
 join-at_floor nodes past =
-    elim (cases_lt (numbered nodes past) MOST_NUMBERS) [
+    elim (cases_lt (numbered nodes past) MAX_NODES) [
       | inl few ↦
-          let f = lt-leb MOST_NUMBERS (numbered nodes past) few in
+          let f = lt-leb MAX_NODES (numbered nodes past) few in
           cond-false _ _ _ f ∙ cond-false _ _ _ (le-ltb (floor nodes past) (floor nodes past) (omega arith))
           ∙ sym (cond-false _ _ _ f)
-      | inr full ↦ let f = le-leb MOST_NUMBERS (numbered nodes past) full in cond-true _ _ _ f ∙ sym (cond-true _ _ _ f)
+      | inr full ↦ let f = le-leb MAX_NODES (numbered nodes past) full in cond-true _ _ _ f ∙ sym (cond-true _ _ _ f)
     ]

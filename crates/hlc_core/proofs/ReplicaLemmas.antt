@@ -13,11 +13,12 @@ use Rattle.hlc_rows.specs.Rows.{answer}
 use Rattle.hlc_heads.proofs.LowLemmas.{low-same}
 use Rattle.hlc_snapshot.specs.RegistryView.{stamps}
 use Rattle.hlc_draft.proofs.PartLemmas.{same_rows}
-use Rattle.hlc_heads.specs.declared.heads.TheConstants.{MOST_NUMBERS}
+use Rattle.hlc_heads.specs.declared.heads.TheConstants.{MAX_NODES}
 use Rattle.hlc_events.specs.declared.fault.CoreFault.{CoreFault}
 use Rattle.hlc_events.specs.declared.fault.CoreFault.TheVariants.{Join}
 use Rattle.hlc_heads.specs.declared.heads.JoinFault.TheVariants.{TooManyNodes, BelowFloor}
-use Rattle.hlc_core.specs.Past.{Step, Took, Opened, Closed, Vacuumed, Trimmed, Joined, numbered, count, head, retired}
+use Rattle.hlc_core.specs.Past.{Step, Took, Opened, Closed, Vacuumed, PartVacuumed, Joined, numbered, count, head}
+use Rattle.hlc_core.specs.Past.{retired}
 use Rattle.hlc_core.specs.Past.{top, floor, horizon, writes, item_rows, item_refusal, join_at_refusal, IsLegal}
 use Rattle.hlc_core.specs.Past.{open_snapshots}
 use Rattle.hlc_core.specs.StoreView.{StoreView, nodes, Represents}
@@ -42,7 +43,7 @@ items-none nodes [] n legal out = refl
 items-none nodes (Opened stamp ∷ past) n legal out = items-none nodes past n legal.1 out
 items-none nodes (Closed id ∷ past) n legal out = items-none nodes past n legal.1 out
 items-none nodes (Vacuumed at ∷ past) n legal out = items-none nodes past n legal.1 out
-items-none nodes (Trimmed at dropped ∷ past) n legal out = items-none nodes past n legal.1 out
+items-none nodes (PartVacuumed at dropped ∷ past) n legal out = items-none nodes past n legal.1 out
 items-none nodes (Joined node start ∷ past) n legal out =
     items-none nodes past n legal.3 (let out' : numbered nodes past + 1 ≤ n = out in omega arith)
 items-none nodes (Took item ∷ past) n legal out =
@@ -75,7 +76,7 @@ head-by nodes [] n legal = refl
 head-by nodes (Opened stamp ∷ past) n legal = head-by nodes past n legal.1
 head-by nodes (Closed id ∷ past) n legal = head-by nodes past n legal.1
 head-by nodes (Vacuumed at ∷ past) n legal = head-by nodes past n legal.1
-head-by nodes (Trimmed at dropped ∷ past) n legal = head-by nodes past n legal.1
+head-by nodes (PartVacuumed at dropped ∷ past) n legal = head-by nodes past n legal.1
 head-by nodes (Joined node start ∷ past) n legal =
     elim (cases_eq node n) [
       | inl same ↦
@@ -101,7 +102,7 @@ retired-by [] n = refl
 retired-by (Opened stamp ∷ past) n = retired-by past n
 retired-by (Closed id ∷ past) n = retired-by past n
 retired-by (Vacuumed at ∷ past) n = retired-by past n
-retired-by (Trimmed at dropped ∷ past) n = retired-by past n
+retired-by (PartVacuumed at dropped ∷ past) n = retired-by past n
 retired-by (Joined node start ∷ past) n = retired-by past n
 retired-by (Took item ∷ past) n =
     elim (cases_eq item.node n) [
@@ -115,7 +116,7 @@ count-by [] n = refl
 count-by (Opened stamp ∷ past) n = count-by past n
 count-by (Closed id ∷ past) n = count-by past n
 count-by (Vacuumed at ∷ past) n = count-by past n
-count-by (Trimmed at dropped ∷ past) n = count-by past n
+count-by (PartVacuumed at dropped ∷ past) n = count-by past n
 count-by (Joined node start ∷ past) n = count-by past n
 count-by (Took item ∷ past) n =
     elim (cases_eq item.node n) [
@@ -132,7 +133,7 @@ numbered-by nodes (Took item ∷ past) = numbered-by nodes past
 numbered-by nodes (Opened stamp ∷ past) = numbered-by nodes past
 numbered-by nodes (Closed id ∷ past) = numbered-by nodes past
 numbered-by nodes (Vacuumed at ∷ past) = numbered-by nodes past
-numbered-by nodes (Trimmed at dropped ∷ past) = numbered-by nodes past
+numbered-by nodes (PartVacuumed at dropped ∷ past) = numbered-by nodes past
 numbered-by nodes (Joined node start ∷ past) = (let h = numbered-by nodes past in omega (arith, h))
 
 numbered-same : (nodes : ℕ) (past other : List Step) → joins_of past ≡ joins_of other
@@ -189,7 +190,7 @@ floors-agree nodes past other some legal legal' are =
 -- why no node joins at a start, from the number of assigned node numbers and the floor
 abbrev refusal_of : ℕ → ℕ → ℕ → Option CoreFault
 refusal_of many low start =
-    if nat_le MOST_NUMBERS many then Some (Join TooManyNodes)
+    if nat_le MAX_NODES many then Some (Join TooManyNodes)
     else if nat_lt start low then Some (Join (BelowFloor low)) else None
 
 -- so a join at a start is refused alike
@@ -207,7 +208,7 @@ writes-from [] row m = absurd (Contains-none row m)
 writes-from (Opened stamp ∷ past) row m = writes-from past row m
 writes-from (Closed id ∷ past) row m = writes-from past row m
 writes-from (Vacuumed at ∷ past) row m = writes-from past row m
-writes-from (Trimmed at dropped ∷ past) row m = writes-from past row m
+writes-from (PartVacuumed at dropped ∷ past) row m = writes-from past row m
 writes-from (Joined node start ∷ past) row m = writes-from past row m
 writes-from (Took item ∷ past) row m =
     elim (Contains-append_cases (writes past) (item_rows item) row m) [
@@ -238,7 +239,7 @@ writes-to [] n item row m r = absurd (Contains-none item m)
 writes-to (Opened stamp ∷ past) n item row m r = writes-to past n item row m r
 writes-to (Closed id ∷ past) n item row m r = writes-to past n item row m r
 writes-to (Vacuumed at ∷ past) n item row m r = writes-to past n item row m r
-writes-to (Trimmed at dropped ∷ past) n item row m r = writes-to past n item row m r
+writes-to (PartVacuumed at dropped ∷ past) n item row m r = writes-to past n item row m r
 writes-to (Joined node start ∷ past) n item row m r = writes-to past n item row m r
 writes-to (Took last ∷ past) n item row m r =
     elim (cases_eq last.node n) [

@@ -11,7 +11,8 @@ use Rattle.hlc_witness.specs.AllChanges.{all_changes}
 use Rattle.hlc_draft.specs.declared.report.Report.{Report}
 use Rattle.hlc_clock.proofs.PointLemmas.{ArePoints-unique, points-ascend}
 use Rattle.hlc_witness.proofs.ChangeLemmas.{changes_are_one}
-use Rattle.hlc_core.specs.Past.{Step, Took, Opened, Closed, Vacuumed, Trimmed, Joined, floor, open_snapshots, writes}
+use Rattle.hlc_core.specs.Past.{Step, Took, Opened, Closed, Vacuumed, PartVacuumed, Joined, floor, open_snapshots}
+use Rattle.hlc_core.specs.Past.{writes}
 use Rattle.hlc_core.specs.Past.{IsLegal}
 use Rattle.hlc_core.specs.Stored.{AreVacuumPoints, AreLastChanges, IsStoredCount, IsReport}
 use Rattle.hlc_core.proofs.PastLemmas.{open-low}
@@ -43,7 +44,7 @@ one-last (Took item ∷ past) changes before are were = one-last past changes be
 one-last (Opened stamp ∷ past) changes before are were = one-last past changes before are were
 one-last (Closed id ∷ past) changes before are were = one-last past changes before are were
 one-last (Joined node start ∷ past) changes before are were = one-last past changes before are were
-one-last (Trimmed at dropped ∷ past) changes before are were = one-last past changes before are were
+one-last (PartVacuumed at dropped ∷ past) changes before are were = one-last past changes before are were
 one-last (Vacuumed at ∷ past) changes before are were =
     one-changes at past are.0 were.0 changes before are.1 were.1 are.2 were.2
 

@@ -12,7 +12,7 @@ use Rattle.hlc_node.specs.declared.item.Body.{Body}
 use Rattle.hlc_node.specs.Items.{body_refusal}
 use Rattle.hlc_intake.specs.IntakeView.{IntakeView}
 use Rattle.hlc_heads.specs.Heads.{HeadsView, a_link, no_link, link_at, floor_of, advanced, joined}
-use Rattle.hlc_heads.specs.declared.heads.TheConstants.{MOST_NODES, MOST_NUMBERS}
+use Rattle.hlc_heads.specs.declared.heads.TheConstants.{MAX_INITIAL_NODES, MAX_NODES}
 use Rattle.hlc_witness.specs.Cost.{IsInLimits}
 use Rattle.hlc_core.specs.Past.{body_rows}
 use Rattle.hlc_core.specs.StoreView.{HasStamps, HasLastItem, IsSound, greatest_head, marks_of}
@@ -61,7 +61,7 @@ all-new P zero link one k d lt = absurd (omega arith)
 all-new P (suc n) link one zero d lt = one
 all-new P (suc n) link one (suc k) d lt = all-new P n link one k d (omega arith)
 
-pub sound-new : (start : ℕ) → 0 < start → start ≤ MOST_NODES
+pub sound-new : (start : ℕ) → 0 < start → start ≤ MAX_INITIAL_NODES
     → IsSound start (replicate start (a_link 0 0 false)) 0 0 []
 sound-new start some few =
     let l : length (replicate start (a_link 0 0 false)) ≡ start = length-replicate start (a_link 0 0 false) in
@@ -117,7 +117,7 @@ sound-moved start links top horizon rows moved h moves = record {
 
 -- a node joins, not below the floor
 pub sound-joined : (start : ℕ) (marks : HeadsView) (horizon at : ℕ) (rows : List Row)
-    → IsSound start marks.links marks.top horizon rows → length marks.links < MOST_NUMBERS → floor_of marks ≤ at
+    → IsSound start marks.links marks.top horizon rows → length marks.links < MAX_NODES → floor_of marks ≤ at
     → IsSound start (marks.links ++ a_link 0 at false ∷ []) (max marks.top at) horizon rows
 sound-joined start marks horizon at rows h few up =
     let links : List IntakeView = marks.links in

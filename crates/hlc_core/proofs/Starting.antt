@@ -6,7 +6,7 @@ use Rattle.std.specs.Prelude.{slice_get}
 use Rattle.std.proofs.lemmas.Bool.{cond-false, ne_eqb, le-ltb, or_from}
 use Rattle.hlc_intake.specs.IntakeView.{IntakeView}
 use Rattle.hlc_heads.specs.Heads.{a_link}
-use Rattle.hlc_heads.specs.declared.heads.TheConstants.{MOST_NODES}
+use Rattle.hlc_heads.specs.declared.heads.TheConstants.{MAX_INITIAL_NODES}
 use Rattle.hlc_core.specs.StoreView.{StoreView, nodes, Represents}
 use Rattle.hlc_core.specs.Calls.{new_refusal}
 
@@ -56,6 +56,6 @@ starts many =
     )
 
 -- no core of 1 to 64 nodes is refused
-pub new_refusal-none : (many : ℕ) → 0 < many → many ≤ MOST_NODES → new_refusal many ≡ None
+pub new_refusal-none : (many : ℕ) → 0 < many → many ≤ MAX_INITIAL_NODES → new_refusal many ≡ None
 new_refusal-none many some few =
-    cond-false _ _ _ (or_from _ _ (ne_eqb many 0 (λ e. omega arith)) (le-ltb MOST_NODES many few))
+    cond-false _ _ _ (or_from _ _ (ne_eqb many 0 (λ e. omega arith)) (le-ltb MAX_INITIAL_NODES many few))

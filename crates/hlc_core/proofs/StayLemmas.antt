@@ -14,7 +14,8 @@ use Rattle.hlc_snapshot.proofs.RegisterLemmas.{open_before, stamp_in-push_cases,
 use Rattle.hlc_snapshot.proofs.RegisterLemmas.{stamp_in-without_itself, stamp_in-without_other}
 use Rattle.hlc_draft.specs.Vacuumed.{rows_to}
 use Rattle.hlc_draft.proofs.PartLemmas.{answer-rows_to}
-use Rattle.hlc_core.specs.Past.{Step, Took, Opened, Closed, Vacuumed, Trimmed, Joined, floor, opened, open_snapshots}
+use Rattle.hlc_core.specs.Past.{Step, Took, Opened, Closed, Vacuumed, PartVacuumed, Joined, floor, opened}
+use Rattle.hlc_core.specs.Past.{open_snapshots}
 use Rattle.hlc_core.specs.Past.{stamp_of, writes, body_rows, IsLegal}
 use Rattle.hlc_core.proofs.PastLemmas.{writes-row_set, above_floor, floor-grows, floor-joins, open-low, body_rows-are}
 
@@ -25,7 +26,7 @@ legal-before nodes past (Took item ∷ more) legal = legal-before nodes past mor
 legal-before nodes past (Opened stamp ∷ more) legal = legal-before nodes past more legal.1
 legal-before nodes past (Closed id ∷ more) legal = legal-before nodes past more legal.1
 legal-before nodes past (Vacuumed at ∷ more) legal = legal-before nodes past more legal.1
-legal-before nodes past (Trimmed at dropped ∷ more) legal = legal-before nodes past more legal.1
+legal-before nodes past (PartVacuumed at dropped ∷ more) legal = legal-before nodes past more legal.1
 legal-before nodes past (Joined node start ∷ more) legal = legal-before nodes past more legal.3
 
 -- however much takes place later, the floor never falls
@@ -39,7 +40,7 @@ floor-never_falls nodes past (Took item ∷ more) legal =
 floor-never_falls nodes past (Opened stamp ∷ more) legal = floor-never_falls nodes past more legal.1
 floor-never_falls nodes past (Closed id ∷ more) legal = floor-never_falls nodes past more legal.1
 floor-never_falls nodes past (Vacuumed at ∷ more) legal = floor-never_falls nodes past more legal.1
-floor-never_falls nodes past (Trimmed at dropped ∷ more) legal = floor-never_falls nodes past more legal.1
+floor-never_falls nodes past (PartVacuumed at dropped ∷ more) legal = floor-never_falls nodes past more legal.1
 floor-never_falls nodes past (Joined node start ∷ more) legal =
     let low : floor nodes past ≤ floor nodes (more ++ past) = floor-never_falls nodes past more legal.3 in
     let up : floor nodes (more ++ past) ≤ floor nodes (Joined node start ∷ (more ++ past)) =
@@ -75,7 +76,7 @@ answers-stay nodes past [] legal key stamp low = refl
 answers-stay nodes past (Opened at ∷ more) legal key stamp low = answers-stay nodes past more legal.1 key stamp low
 answers-stay nodes past (Closed id ∷ more) legal key stamp low = answers-stay nodes past more legal.1 key stamp low
 answers-stay nodes past (Vacuumed at ∷ more) legal key stamp low = answers-stay nodes past more legal.1 key stamp low
-answers-stay nodes past (Trimmed at dropped ∷ more) legal key stamp low =
+answers-stay nodes past (PartVacuumed at dropped ∷ more) legal key stamp low =
     answers-stay nodes past more legal.1 key stamp low
 answers-stay nodes past (Joined node start ∷ more) legal key stamp low =
     answers-stay nodes past more legal.3 key stamp low
@@ -98,7 +99,7 @@ follows past (Opened stamp ∷ more) = opening stamp (follows past more)
 follows past (Closed id ∷ more) = closing id (follows past more)
 follows past (Took item ∷ more) = follows past more
 follows past (Vacuumed at ∷ more) = follows past more
-follows past (Trimmed at dropped ∷ more) = follows past more
+follows past (PartVacuumed at dropped ∷ more) = follows past more
 follows past (Joined node start ∷ more) = follows past more
 
 -- no open snapshot has an id above the number of those that were opened
@@ -120,7 +121,7 @@ id-low (Closed other ∷ past) id stamp is =
     ]
 id-low (Took item ∷ past) id stamp is = id-low past id stamp is
 id-low (Vacuumed at ∷ past) id stamp is = id-low past id stamp is
-id-low (Trimmed at dropped ∷ past) id stamp is = id-low past id stamp is
+id-low (PartVacuumed at dropped ∷ past) id stamp is = id-low past id stamp is
 id-low (Joined node start ∷ past) id stamp is = id-low past id stamp is
 
 -- a snapshot that is open later has the stamp and the answers that it had

@@ -13,7 +13,7 @@ use Rattle.hlc_node.specs.declared.item.Body.{Body}
 use Rattle.hlc_node.specs.Items.{retires}
 use Rattle.hlc_rows.specs.Rows.{IsRowSet}
 use Rattle.hlc_intake.specs.IntakeView.{IntakeView}
-use Rattle.hlc_core.specs.Past.{Step, Took, numbered, count, head, retired, horizon, vacuumed, trimmed}
+use Rattle.hlc_core.specs.Past.{Step, Took, numbered, count, head, retired, horizon, vacuumed, part_dropped}
 use Rattle.hlc_core.specs.Past.{opened, writes, body_rows, open_snapshots, item_refusal}
 use Rattle.hlc_core.specs.Past.{IsLegal}
 use Rattle.hlc_core.specs.StoreView.{StoreView, nodes, Represents}
@@ -106,7 +106,7 @@ took kept past item h none =
       stored = (
         h.stored.0,
         h.stored.1,
-        count-body kept.rows (writes past) (vacuumed past) (trimmed past) (length h.stored.0) item.node item.stamp
+        count-body kept.rows (writes past) (vacuumed past) (part_dropped past) (length h.stored.0) item.node item.stamp
             item.body h.stored.2 (omega arith),
       );
       horizon = h.horizon;

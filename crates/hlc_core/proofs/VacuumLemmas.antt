@@ -20,7 +20,7 @@ use Rattle.hlc_witness.proofs.CostLemmas.{fewest_rows_are_cheapest, fewest_rows_
 use Rattle.hlc_vacuum.proofs.RepresentingLemmas.{vacuums_compose, representing_rows_are_fewest, vacuums_are_certified}
 use Rattle.hlc_vacuum.proofs.RepresentingLemmas.{rows_above_are_counted}
 use Rattle.hlc_draft.specs.declared.report.Report.{Report}
-use Rattle.hlc_core.specs.Past.{Step, Vacuumed, horizon, vacuumed, trimmed, open_snapshots, writes, vacuum_refusal}
+use Rattle.hlc_core.specs.Past.{Step, Vacuumed, horizon, vacuumed, part_dropped, open_snapshots, writes, vacuum_refusal}
 use Rattle.hlc_core.specs.Stored.{AreVacuumPoints, IsReport, LeavesFewest}
 use Rattle.hlc_core.specs.StoreView.{StoreView, nodes, with_rows_left, Represents}
 use Rattle.hlc_core.specs.Calls.{Vacuums}
@@ -146,7 +146,7 @@ vacuums kept at past rows report h none are made at_stamp number dropped bytes =
       dropped = (
         h.stored.0,
         h.stored.1,
-        let was : length kept.rows + trimmed past ≡ length h.stored.0 + count_above (vacuumed past) (writes past) =
+        let was : length kept.rows + part_dropped past ≡ length h.stored.0 + count_above (vacuumed past) (writes past) =
             h.stored.2 in
             let low : vacuumed past ≤ horizon past = vacuumed-low (nodes kept) past h.legal in
             let parts : count_above (vacuumed past) (writes past)

@@ -11,7 +11,7 @@ use Rattle.hlc_events.specs.declared.fault.NoNode.{NoNode as NoSuchNode}
 use Rattle.hlc_snapshot.specs.declared.fault.NoSnapshot.{NoSnapshot as NoSuchSnapshot}
 use Rattle.hlc_core.specs.declared.listing.Pair.{Pair}
 use Rattle.hlc_heads.specs.Heads.{AcceptedView}
-use Rattle.hlc_heads.specs.declared.heads.TheConstants.{MOST_NODES}
+use Rattle.hlc_heads.specs.declared.heads.TheConstants.{MAX_INITIAL_NODES}
 use Rattle.hlc_draft.specs.declared.report.Numbers.{Numbers}
 use Rattle.hlc_draft.specs.declared.report.Report.{Report as AReport}
 use Rattle.hlc_draft.specs.Report.{numbers_of}
@@ -32,7 +32,7 @@ IsRefusal expected MayGrow fault = (expected ≡ Some fault) ⊎ ((expected ≡ 
 
 -- why no core of this many nodes is made
 abbrev pub new_refusal : ℕ → Option CoreFault
-new_refusal count = if count == 0 || nat_lt MOST_NODES count then Some NoNode else None
+new_refusal count = if count == 0 || nat_lt MAX_INITIAL_NODES count then Some NoNode else None
 
 -- a new core has these nodes and represents the past in which nothing took place
 abbrev pub Makes : ℕ → Result StoreView CoreFault → Type 0

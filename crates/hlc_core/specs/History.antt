@@ -14,7 +14,7 @@ use Rattle.hlc_core.specs.declared.reply.CoreReply.{CoreReply}
 use Rattle.hlc_core.specs.declared.reply.CoreReply.TheVariants.{Accepted, Joined, Opened, Answer, Listing, Closed}
 use Rattle.hlc_core.specs.declared.reply.CoreReply.TheVariants.{Vacuumed, VacuumedPart, Refused}
 use Rattle.hlc_core.specs.Past.{Step, Took, Joined as JoinedAt, Opened as OpenedAt, Closed as ClosedOf}
-use Rattle.hlc_core.specs.Past.{Vacuumed as VacuumedTo, Trimmed, numbered, floor, opened, stamp_of, writes}
+use Rattle.hlc_core.specs.Past.{Vacuumed as VacuumedTo, PartVacuumed, numbered, floor, opened, stamp_of, writes}
 use Rattle.hlc_core.specs.Past.{item_refusal, join_refusal, join_at_refusal, room_refusal, open_refusal, vacuum_refusal}
 use Rattle.hlc_core.specs.Stored.{IsReport, LeavesFewest}
 use Rattle.hlc_core.specs.StoreView.{StoreView, nodes, Represents}
@@ -34,7 +34,7 @@ step_of (Close id) (Closed stamp) = Some (ClosedOf id)
 step_of (JoinAt at) (Joined node start) = Some (JoinedAt node start)
 step_of Vacuum (Vacuumed report) = Some (VacuumedTo report.floor)
 step_of (VacuumTo at) (Vacuumed report) = Some (VacuumedTo at)
-step_of (VacuumPart at after most) (VacuumedPart report end) = Some (Trimmed at report.dropped)
+step_of (VacuumPart at after most) (VacuumedPart report end) = Some (PartVacuumed at report.dropped)
 step_of _ _ = None
 
 -- the past, and this step after it

@@ -11,7 +11,7 @@ use Rattle.hlc_columns.specs.Answers.{AreNext, in_part, part_end}
 use Rattle.hlc_column.specs.Rows.{KeyCells}
 use Rattle.hlc_events.specs.declared.fault.CoreFault.{CoreFault}
 use Rattle.hlc_core.specs.Calls.{IsRefusal}
-use Rattle.hlc_core.specs.Past.{Step, Trimmed, writes, vacuum_refusal}
+use Rattle.hlc_core.specs.Past.{Step, PartVacuumed, writes, vacuum_refusal}
 use Rattle.hlc_core.specs.Stored.{AreVacuumPoints, LeavesFewest}
 use Rattle.hlc_core.specs.StoreView.{StoreView, nodes, Represents}
 
@@ -31,9 +31,9 @@ pub record IsPartReport (at : ℕ) (past : List Step) (is_of : List ℕ → Bool
 -- Part of a vacuum to a stamp took place: the core represents it, and the report is the expected one, with the number
 -- of rows that were dropped. The rows of these keys that are left are the fewest and the cheapest against all accepted
 -- writes of these keys, and all other rows stay.
-pub record Trims (old new : StoreView) (at : ℕ) (past : List Step) (is_of : List ℕ → Bool)
+pub record VacuumsKeys (old new : StoreView) (at : ℕ) (past : List Step) (is_of : List ℕ → Bool)
     (report : Report) : Type 0 where
-  pub represents : Represents new (Trimmed at report.dropped ∷ past)
+  pub represents : Represents new (PartVacuumed at report.dropped ∷ past)
   pub others : rows_of_keys (λ key. not (is_of key)) new.rows ≡ rows_of_keys (λ key. not (is_of key)) old.rows
   pub expected : IsPartReport at past is_of report
   pub dropped : report.dropped + length new.rows ≡ length old.rows
@@ -53,14 +53,14 @@ abbrev pub VacuumsPart
     → Result (Report × Option (List ℕ)) CoreFault → Type 0
 VacuumsPart old new at after most past (Ok made) =
     (vacuum_refusal (nodes old) past at ≡ None) × EndsAt old after most made.1
-    × Trims old new at past (in_part after made.1) made.0
+    × VacuumsKeys old new at past (in_part after made.1) made.0
 VacuumsPart old new at after most past (Err fault) = IsRefusal (vacuum_refusal (nodes old) past at) ⊤ fault
 
 -- part of a vacuum to the stamp took place, and these are the numbers of its report
-pub record TrimsCounted (old new : StoreView) (at : ℕ) (past : List Step) (is_of : List ℕ → Bool)
+pub record VacuumsKeysCounted (old new : StoreView) (at : ℕ) (past : List Step) (is_of : List ℕ → Bool)
     (numbers : Numbers) : Type 0 where
   pub report : Report
-  pub trims : Trims old new at past is_of report
+  pub vacuums_keys : VacuumsKeys old new at past is_of report
   pub are : numbers ≡ numbers_of report
 
 -- the same as `VacuumsPart` with the numbers of the report in its place
@@ -69,7 +69,7 @@ abbrev pub VacuumsPartCounted
     → Result (Numbers × Option (List ℕ)) CoreFault → Type 0
 VacuumsPartCounted old new at after most past (Ok made) =
     (vacuum_refusal (nodes old) past at ≡ None) × EndsAt old after most made.1
-    × TrimsCounted old new at past (in_part after made.1) made.0
+    × VacuumsKeysCounted old new at past (in_part after made.1) made.0
 VacuumsPartCounted old new at after most past (Err fault) = IsRefusal (vacuum_refusal (nodes old) past at) ⊤ fault
 
 -- After this past, with this many nodes at the start, part of a vacuum may have this report and end there: in some

@@ -9,7 +9,7 @@ use Rattle.hlc_rows.specs.declared.limits.BodyFault.{BodyFault}
 use Rattle.hlc_rows.specs.Writes.{rows_written}
 use Rattle.hlc_node.specs.Items.{body_refusal, retires}
 use Rattle.hlc_heads.specs.Low.{low}
-use Rattle.hlc_heads.specs.declared.heads.TheConstants.{MOST_NUMBERS}
+use Rattle.hlc_heads.specs.declared.heads.TheConstants.{MAX_NODES}
 use Rattle.hlc_heads.specs.declared.heads.JoinFault.TheVariants.{TooManyNodes, BelowFloor}
 use Rattle.hlc_intake.specs.declared.intake.LinkFault.TheVariants.{Retired, NotNext, NumbersSpent, StampNotRising}
 use Rattle.hlc_values.specs.declared.bounds.TheConstants.{NUMBER_BOUND}
@@ -30,7 +30,7 @@ pub data Step : Type 0 where
   Closed : ℕ → Step
   Vacuumed : ℕ → Step
   Joined : ℕ → ℕ → Step
-  Trimmed : ℕ → ℕ → Step
+  PartVacuumed : ℕ → ℕ → Step
 
 -- Below, a past is the list of the steps that took place, the last one first. Refused calls and reads are no steps.
 -- `nodes` is the number of nodes at the start, which are numbered from 0; those that join have the numbers after them.
@@ -82,7 +82,7 @@ floor nodes past = low (λ n. head n past) (λ n. retired n past) (numbered node
 abbrev pub horizon : List Step → ℕ
 horizon [] = 0
 horizon (Vacuumed at ∷ past) = at
-horizon (Trimmed at dropped ∷ past) = at
+horizon (PartVacuumed at dropped ∷ past) = at
 horizon (_ ∷ past) = horizon past
 
 -- the stamp of the last whole vacuum, 0 before the first
@@ -92,11 +92,11 @@ vacuumed (Vacuumed at ∷ past) = at
 vacuumed (_ ∷ past) = vacuumed past
 
 -- the number of rows that parts of vacuums dropped since the last whole vacuum
-abbrev pub trimmed : List Step → ℕ
-trimmed [] = 0
-trimmed (Vacuumed at ∷ past) = 0
-trimmed (Trimmed at dropped ∷ past) = dropped + trimmed past
-trimmed (_ ∷ past) = trimmed past
+abbrev pub part_dropped : List Step → ℕ
+part_dropped [] = 0
+part_dropped (Vacuumed at ∷ past) = 0
+part_dropped (PartVacuumed at dropped ∷ past) = dropped + part_dropped past
+part_dropped (_ ∷ past) = part_dropped past
 
 -- the rows of the body of an item with this node and stamp: all of them have this stamp
 abbrev pub body_rows : ℕ → ℕ → Body → List Row
@@ -160,12 +160,12 @@ item_refusal nodes past item =
 
 -- why no node joins, apart from memory: all numbers are assigned
 abbrev pub join_refusal : ℕ → List Step → Option CoreFault
-join_refusal nodes past = if nat_le MOST_NUMBERS (numbered nodes past) then Some (Join TooManyNodes) else None
+join_refusal nodes past = if nat_le MAX_NODES (numbered nodes past) then Some (Join TooManyNodes) else None
 
 -- the first reason that no node joins at a start, apart from memory
 abbrev pub join_at_refusal : ℕ → List Step → ℕ → Option CoreFault
 join_at_refusal nodes past start =
-    if nat_le MOST_NUMBERS (numbered nodes past) then Some (Join TooManyNodes)
+    if nat_le MAX_NODES (numbered nodes past) then Some (Join TooManyNodes)
     else if nat_lt start (floor nodes past) then Some (Join (BelowFloor (floor nodes past)))
     else None
 
@@ -200,6 +200,6 @@ IsLegal nodes (Took item ∷ past) = (item_refusal nodes past item ≡ None) × 
 IsLegal nodes (Opened stamp ∷ past) = (open_refusal nodes past stamp ≡ None) × IsLegal nodes past
 IsLegal nodes (Closed id ∷ past) = (stamp_of id past ≢ None) × IsLegal nodes past
 IsLegal nodes (Vacuumed at ∷ past) = (vacuum_refusal nodes past at ≡ None) × IsLegal nodes past
-IsLegal nodes (Trimmed at dropped ∷ past) = (vacuum_refusal nodes past at ≡ None) × IsLegal nodes past
+IsLegal nodes (PartVacuumed at dropped ∷ past) = (vacuum_refusal nodes past at ≡ None) × IsLegal nodes past
 IsLegal nodes (Joined node start ∷ past) =
     (join_refusal nodes past ≡ None) × (node ≡ numbered nodes past) × (floor nodes past ≤ start) × IsLegal nodes past

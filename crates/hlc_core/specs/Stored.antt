@@ -13,7 +13,7 @@ use Rattle.hlc_draft.specs.Vacuumed.{rows_to}
 use Rattle.hlc_vacuum.specs.Representing.{count_above, count_between}
 use Rattle.hlc_witness.specs.Certificate.{RowsAscend, IsCertificate}
 use Rattle.hlc_draft.specs.declared.report.Report.{Report}
-use Rattle.hlc_core.specs.Past.{Step, Vacuumed, vacuumed, trimmed, open_snapshots, writes}
+use Rattle.hlc_core.specs.Past.{Step, Vacuumed, vacuumed, part_dropped, open_snapshots, writes}
 
 -- the points of a vacuum to a stamp after this past: the stamps of the open snapshots at or below it, and the stamp
 -- itself, each once, ascending
@@ -36,7 +36,7 @@ AreLastChanges (_ ∷ past) changes = AreLastChanges past changes
 abbrev pub IsStoredCount : List Step → ℕ → Type 0
 IsStoredCount past number =
     (changes : List Witness) × AreLastChanges past changes
-    × (number + trimmed past ≡ length changes + count_above (vacuumed past) (writes past))
+    × (number + part_dropped past ≡ length changes + count_above (vacuumed past) (writes past))
 
 -- The report of a vacuum to a stamp after this past. The rows that it keeps cost exactly what its changes force. With
 -- the parts of vacuums since the last whole one, it drops the rows of the changes of that one and those of the accepted
@@ -48,7 +48,8 @@ pub record IsReport (at : ℕ) (past : List Step) (report : Report) : Type 0 whe
   pub kept : report.kept ≡ length report.witnesses
   pub bytes : report.bytes ≡ changes_cost (writes past) report.witnesses
   pub dropped : (before : List Witness) × AreLastChanges past before
-      × (report.dropped + report.kept + trimmed past ≡ length before + count_between (vacuumed past) at (writes past))
+      × (report.dropped + report.kept + part_dropped past
+      ≡ length before + count_between (vacuumed past) at (writes past))
 
 -- The rows that the vacuum of this report left: at or below its floor a row set, the fewest rows that answer as all do
 -- at its points, and the cheapest, with the number and the cost that it reports. In the order of key, stamp and node

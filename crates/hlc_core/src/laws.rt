@@ -8,7 +8,7 @@ ghost use Rattle.hlc_core.specs.Past.{greatest_accepted, stamp_of};
 ghost use Rattle.hlc_core.specs.StoreView.{StoreView, nodes, Represents};
 ghost use Rattle.hlc_core.specs.Checkpoint.{IsCheckpoint, IsCopyOf, IsFirstReason};
 ghost use Rattle.hlc_witness.specs.Certificate.{RowsAscend};
-ghost use Rattle.hlc_heads.specs.declared.heads.TheConstants.{MOST_NODES};
+ghost use Rattle.hlc_heads.specs.declared.heads.TheConstants.{MAX_INITIAL_NODES};
 ghost use Rattle.hlc_checkpoint.specs.declared.checkpoint.RestoreFault.{RestoreFault as AFault};
 ghost use Rattle.hlc_checkpoint.specs.declared.checkpoint.RestoreFault.TheVariants.{NoMemory as no_memory};
 ghost use Rattle.hlc_core.specs.Listing.{IsListing};
@@ -136,7 +136,7 @@ pub fn histories_are_faithful()
 /// `Core::restore` refuses it only if memory runs out.
 pub fn checkpoints_restore()
     ensures sound { (kept : StoreView) (past : List Step) → Represents kept past
-        → 0 < nodes kept → nodes kept ≤ MOST_NODES → RowsAscend kept.rows → IsCheckpoint kept }
+        → 0 < nodes kept → nodes kept ≤ MAX_INITIAL_NODES → RowsAscend kept.rows → IsCheckpoint kept }
     ensures copies { (kept copy : StoreView) (past : List Step) → Represents kept past
         → IsCopyOf kept copy → Represents copy past }
     ensures refused { (kept : StoreView) (fault : AFault) → IsFirstReason kept fault → fault ≢ no_memory

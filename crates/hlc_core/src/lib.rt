@@ -16,7 +16,7 @@ mod vacuum;
 
 pub use hlc_checkpoint::{Checked, Checkpoint, Growing, RestoreFault};
 pub use hlc_clock::Stamp;
-pub use hlc_columns::{Answers, AnswersBack, Changes, Sizes, Versions, View};
+pub use hlc_columns::{Answers, AnswersBack, Changes, ReadView, Sizes, Versions};
 pub use hlc_events::{CertificateFault, CoreEvent, CoreFault, NoNode};
 pub use hlc_heads::{Accepted, JoinFault};
 pub use hlc_intake::{Intake, LinkFault};

@@ -1,13 +1,13 @@
 //! A board, with one word for each node. After it is made, no call on it waits or needs memory.
 ghost use Rattle.std.specs.Prelude.{◌≡◌, ℕ, ◌<◌, ◌≤◌, ◌↔◌, [], ◌∷◌, ◌++◌, slice_index, replicate, IfOk, IfErr};
-ghost use Rattle.hlc_heads.specs.declared.heads.TheConstants.{MOST_NODES};
+ghost use Rattle.hlc_heads.specs.declared.heads.TheConstants.{MAX_INITIAL_NODES};
 ghost use Rattle.hlc_floor.specs.Views.{post, posts, word_of, blind, LooksAt, IsLeast};
 ghost use Rattle.hlc_floor.specs.Board.{uncut, found_at};
 
 use crate::rule::{CutFeeder, CutPass, Fresh, Look, Place, Raise};
 use atomic_table::{Seat, Table};
 use hlc_clock::Stamp;
-use hlc_heads::{Accepted, MOST_NODES};
+use hlc_heads::{Accepted, MAX_INITIAL_NODES};
 use hlc_values::NoMemory;
 use std::alloc::Global;
 use std::error::Error;
@@ -15,7 +15,7 @@ use std::fmt;
 use std::marker::Model;
 
 /// The maximum number of words.
-const WORDS: usize = MOST_NODES as usize;
+const WORDS: usize = MAX_INITIAL_NODES as usize;
 
 /// A board: for each node at the start one word, the stamp of an accepted item of that node, 0.0 at first. A node that
 /// has retired no longer holds the floor back: its word is the greatest one. A node that joined has no word. Threads
@@ -31,7 +31,7 @@ pub struct Board {
 impl Model for Board {
     ghost use Rattle.std.specs.Prelude.{◌≡◌, ◌<◌, ◌≤◌};
     ghost use Rattle.atomic_table.specs.Seated.{TableId, table_id_coded};
-    ghost use Rattle.hlc_heads.specs.declared.heads.TheConstants.{MOST_NODES};
+    ghost use Rattle.hlc_heads.specs.declared.heads.TheConstants.{MAX_INITIAL_NODES};
 
     ghost Value = { TableId };
 
@@ -41,7 +41,7 @@ impl Model for Board {
 
     ghost invariant = { λ board. (board.table.shared.key ≡ board.nodes)
         × (board.table.shared.table_id.words ≡ board.nodes) × (0 < board.nodes)
-        × (board.nodes ≤ MOST_NODES) };
+        × (board.nodes ≤ MAX_INITIAL_NODES) };
 }
 
 /// Raises the word of one node; there is one feeder for each node of a board. In contracts it is
@@ -221,9 +221,9 @@ impl Board {
         ensures feeders { IfOk result (λ made. made.1.items ≡ posts made.0 nodes) }
         ensures passes { IfOk result (λ made. made.2.items ≡ replicate passes (blind made.0)) }
         ensures err { IfErr result
-            (λ fault. fault ≡ BoardFault.NoNode ↔ ((1 ≤ nodes) × (nodes ≤ MOST_NODES) → ⊥)) }
+            (λ fault. fault ≡ BoardFault.NoNode ↔ ((1 ≤ nodes) × (nodes ≤ MAX_INITIAL_NODES) → ⊥)) }
     {
-        if nodes == 0 || nodes > MOST_NODES {
+        if nodes == 0 || nodes > MAX_INITIAL_NODES {
             return Err(BoardFault::NoNode);
         }
         let words = [0; WORDS];

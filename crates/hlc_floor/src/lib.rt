@@ -8,7 +8,7 @@ mod rule;
 
 pub use board::{Board, BoardFault, Feeder, FloorPass};
 pub use hlc_heads::{
-    Accepted, Heads, HeadsFault, JoinFault, MOST_NODES, MOST_NUMBERS, Stamp, most_nodes_are_64,
-    most_numbers_are_1024,
+    Accepted, Heads, HeadsFault, JoinFault, MAX_INITIAL_NODES, MAX_NODES, Stamp,
+    max_initial_nodes_are_64, max_nodes_are_1024,
 };
 pub use laws::board_is_fresh;

@@ -8,7 +8,7 @@ use Rattle.std.proofs.lemmas.List.{get_or-set_same, get_or-set_other, get_or_app
 use Rattle.std.proofs.lemmas.List.{length-append}
 use Rattle.std.proofs.Math.Seq.{get_or-append_seam}
 use Rattle.hlc_intake.specs.IntakeView.{IntakeView}
-use Rattle.hlc_heads.specs.declared.heads.TheConstants.{MOST_NUMBERS}
+use Rattle.hlc_heads.specs.declared.heads.TheConstants.{MAX_NODES}
 use Rattle.hlc_heads.specs.declared.groups.TheConstants.{GROUP}
 use Rattle.std.specs.Option.{unwrap_or}
 use Rattle.hlc_heads.specs.Heads.{HeadsView, a_link, no_link, link_at, advanced, joined, IsSized, IsFloor}
@@ -93,7 +93,7 @@ above links groups low group k (Some other) same least ge lt left h =
     omega arith
 
 -- the least of the groups is the floor
-pub found_floor : (marks : HeadsView) (groups : List (Option ℕ)) (found : Option ℕ) → length marks.links ≤ MOST_NUMBERS
+pub found_floor : (marks : HeadsView) (groups : List (Option ℕ)) (found : Option ℕ) → length marks.links ≤ MAX_NODES
     → AreGroups marks.links groups → IsLeastOf GROUP groups found → IsFloor marks (unwrap_or found marks.top)
 found_floor marks groups None few h none = inr (
   (λ k lt.
@@ -255,7 +255,7 @@ joins-here links start from to least (Some low) after before is h =
 
 -- its group's least head is the lower of the earlier one and the start
 pub groups_join : (marks : HeadsView) (groups : List (Option ℕ)) (start least : ℕ) → length groups ≡ GROUP
-    → length marks.links < MOST_NUMBERS
+    → length marks.links < MAX_NODES
     → IsLower (group_at groups (length marks.links / GROUP)) start least
     → AreGroups marks.links groups
     → AreGroups (joined marks start).links (slice_set groups (length marks.links / GROUP) (Some least))
@@ -280,7 +280,7 @@ groups_join marks groups start least sized few is old = λ group lt.
     ]
 
 -- and there is room for it
-pub joined-sized : (marks : HeadsView) (start : ℕ) → IsSized marks → length marks.links < MOST_NUMBERS
+pub joined-sized : (marks : HeadsView) (start : ℕ) → IsSized marks → length marks.links < MAX_NODES
     → IsSized (joined marks start)
 joined-sized marks start h few =
     let l : length (marks.links ++ a_link 0 start false ∷ []) ≡ length marks.links + 1 =

@@ -4,7 +4,7 @@ use Rattle.std.specs.Prelude.{max, replicate}
 use Rattle.std.specs.Prelude.{slice_set, slice_index_or, Result, Ok, Err}
 use Rattle.hlc_intake.specs.IntakeView.{IntakeView}
 use Rattle.hlc_heads.specs.Low.{low}
-use Rattle.hlc_heads.specs.declared.heads.TheConstants.{MOST_NODES, MOST_NUMBERS}
+use Rattle.hlc_heads.specs.declared.heads.TheConstants.{MAX_INITIAL_NODES, MAX_NODES}
 use Rattle.hlc_heads.specs.declared.heads.HeadsFault.{HeadsFault}
 use Rattle.hlc_heads.specs.declared.heads.HeadsFault.TheVariants.{NoNode, NoMemory}
 use Rattle.hlc_heads.specs.declared.heads.JoinFault.{JoinFault}
@@ -24,7 +24,7 @@ pub record HeadsView : Type 0 where
 -- there is a link, and there are no more links than node numbers
 pub record IsSized (marks : HeadsView) : Type 0 where
   pub some : 0 < length marks.links
-  pub few : length marks.links ≤ MOST_NUMBERS
+  pub few : length marks.links ≤ MAX_NODES
 
 -- a link with this progress
 abbrev pub a_link : ℕ → ℕ → Bool → IntakeView
@@ -74,27 +74,27 @@ floor_of marks =
 -- this many links are made, each with the head 0; or the number is 0 or too large; or there is no memory
 abbrev pub Makes : ℕ → Result HeadsView HeadsFault → Type 0
 Makes count (Ok marks) =
-    (0 < count) × (count ≤ MOST_NODES)
+    (0 < count) × (count ≤ MAX_INITIAL_NODES)
     × (marks ≡ record { links = replicate count (a_link 0 0 false); top = 0 })
-Makes count (Err NoNode) = (count ≡ 0) ⊎ (MOST_NODES < count)
-Makes count (Err NoMemory) = (0 < count) × (count ≤ MOST_NODES)
+Makes count (Err NoNode) = (count ≡ 0) ⊎ (MAX_INITIAL_NODES < count)
+Makes count (Err NoMemory) = (0 < count) × (count ≤ MAX_INITIAL_NODES)
 
 -- a node joined at the floor, with the next number; or no number is left; or there is no memory
 abbrev pub Joins : HeadsView → HeadsView → Result (ℕ × ℕ) JoinFault → Type 0
 Joins old new (Ok made) =
-    (length old.links < MOST_NUMBERS) × (made.0 ≡ length old.links) × IsFloor old made.1
+    (length old.links < MAX_NODES) × (made.0 ≡ length old.links) × IsFloor old made.1
     × (new ≡ joined old made.1)
-Joins old new (Err TooManyNodes) = (MOST_NUMBERS ≤ length old.links) × (new ≡ old)
+Joins old new (Err TooManyNodes) = (MAX_NODES ≤ length old.links) × (new ≡ old)
 Joins old new (Err (BelowFloor floor)) = ⊥
-Joins old new (Err NoRoom) = (length old.links < MOST_NUMBERS) × (new ≡ old)
+Joins old new (Err NoRoom) = (length old.links < MAX_NODES) × (new ≡ old)
 
 -- a node joined at this start, with the next number; or no number is left; or the start is below the floor, which is
 -- returned; or there is no memory
 abbrev pub JoinsAt : HeadsView → HeadsView → ℕ → Result ℕ JoinFault → Type 0
 JoinsAt old new start (Ok node) =
-    (length old.links < MOST_NUMBERS) × (floor_of old ≤ start) × (node ≡ length old.links)
+    (length old.links < MAX_NODES) × (floor_of old ≤ start) × (node ≡ length old.links)
     × (new ≡ joined old start)
-JoinsAt old new start (Err TooManyNodes) = (MOST_NUMBERS ≤ length old.links) × (new ≡ old)
+JoinsAt old new start (Err TooManyNodes) = (MAX_NODES ≤ length old.links) × (new ≡ old)
 JoinsAt old new start (Err (BelowFloor floor)) =
-    (length old.links < MOST_NUMBERS) × (floor ≡ floor_of old) × (start < floor) × (new ≡ old)
-JoinsAt old new start (Err NoRoom) = (length old.links < MOST_NUMBERS) × (floor_of old ≤ start) × (new ≡ old)
+    (length old.links < MAX_NODES) × (floor ≡ floor_of old) × (start < floor) × (new ≡ old)
+JoinsAt old new start (Err NoRoom) = (length old.links < MAX_NODES) × (floor_of old ≤ start) × (new ≡ old)

@@ -1,6 +1,6 @@
 //! The link of each node, and the floor.
 ghost use Rattle.std.specs.Prelude.{◌≡◌, ◌<◌, false, true, length, max};
-ghost use Rattle.hlc_heads.specs.declared.heads.TheConstants.{MOST_NODES, MOST_NUMBERS};
+ghost use Rattle.hlc_heads.specs.declared.heads.TheConstants.{MAX_INITIAL_NODES, MAX_NODES};
 ghost use Rattle.hlc_heads.specs.Faults.{join_code, join_word};
 ghost use Rattle.hlc_heads.specs.Heads.{
   Makes,
@@ -23,20 +23,20 @@ use std::fmt;
 use std::marker::Model;
 
 /// The maximum number of nodes at the start.
-pub const MOST_NODES: u16 = 64;
+pub const MAX_INITIAL_NODES: u16 = 64;
 
 /// There are at most 64 nodes at the start.
-pub fn most_nodes_are_64()
-    ensures { MOST_NODES ≡ 64 }
+pub fn max_initial_nodes_are_64()
+    ensures { MAX_INITIAL_NODES ≡ 64 }
 {}
 
 /// The maximum number of node numbers, including those of nodes that join. No number is assigned
 /// twice.
-pub const MOST_NUMBERS: u16 = 1024;
+pub const MAX_NODES: u16 = 1024;
 
 /// At most 1,024 node numbers are assigned.
-pub fn most_numbers_are_1024()
-    ensures { MOST_NUMBERS ≡ 1024 }
+pub fn max_nodes_are_1024()
+    ensures { MAX_NODES ≡ 1024 }
 {}
 
 /// Why no heads are made.
@@ -145,7 +145,7 @@ impl Heads {
     pub fn new(alloc: Global, nodes: u16) -> Result<Heads, HeadsFault>
         ensures { Makes nodes result }
     {
-        if nodes == 0 || nodes > MOST_NODES {
+        if nodes == 0 || nodes > MAX_INITIAL_NODES {
             return Err(HeadsFault::NoNode);
         }
         match vec![in alloc; Intake::new(); nodes as usize] {
@@ -263,7 +263,7 @@ impl Heads {
         ensures { JoinsAt self.old self.new start result }
     {
         let place = self.links.len();
-        if place >= MOST_NUMBERS as usize {
+        if place >= MAX_NODES as usize {
             return Err(JoinFault::TooManyNodes);
         }
         if start < self.floor {

@@ -8,7 +8,7 @@ mod heads;
 
 pub use accepted::Accepted;
 pub use heads::{
-    Heads, HeadsFault, JoinFault, MOST_NODES, MOST_NUMBERS, most_nodes_are_64,
-    most_numbers_are_1024,
+    Heads, HeadsFault, JoinFault, MAX_INITIAL_NODES, MAX_NODES, max_initial_nodes_are_64,
+    max_nodes_are_1024,
 };
 pub use hlc_clock::Stamp;

@@ -30,8 +30,8 @@ use Rattle.hlc_witness.specs.Certificate.{RowsAscend}
 use Rattle.hlc_witness.proofs.CertificateLemmas.{ascending_rows_are_a_row_set}
 use Rattle.hlc_checkpoint.specs.Sorted.{rows_above}
 use Rattle.hlc_checkpoint.proofs.CheckpointLemmas.{row_set-moved, sound-has_no_reason}
-use Rattle.hlc_core.specs.Past.{Step, Took, Opened, Closed, Vacuumed, Trimmed, Joined, floor, horizon, vacuumed}
-use Rattle.hlc_core.specs.Past.{numbered, trimmed, opened, open_snapshots, writes, item_rows, body_rows, IsLegal}
+use Rattle.hlc_core.specs.Past.{Step, Took, Opened, Closed, Vacuumed, PartVacuumed, Joined, floor, horizon, vacuumed}
+use Rattle.hlc_core.specs.Past.{numbered, part_dropped, opened, open_snapshots, writes, item_rows, body_rows, IsLegal}
 use Rattle.hlc_core.specs.StoreView.{StoreView, nodes, with_rows_left, Represents}
 use Rattle.hlc_core.specs.Checkpoint.{IsCheckpoint, floor_in}
 use Rattle.hlc_core.proofs.PastLemmas.{above_floor, body_rows-are, open-above, vacuum-above, vacuumed-low}
@@ -40,7 +40,7 @@ use Rattle.hlc_core.proofs.CheckpointLemmas.{copy-represents, floor-in}
 use Rattle.hlc_increment.specs.declared.advancing.AdvanceFault.{AdvanceFault}
 use Rattle.hlc_increment.specs.declared.advancing.AdvanceFault.TheVariants as faults
 use Rattle.hlc_increment.specs.Increment.{IncrementView, IsIncrementOf, IsAdvanced, IsReason, without_drops}
-use Rattle.hlc_increment.proofs.AgreeLemmas.{drops-agree, drops-legal, drops-trim_nothing, drops-vacuumed}
+use Rattle.hlc_increment.proofs.AgreeLemmas.{drops-agree, drops-legal, drops-part_nothing, drops-vacuumed}
 use Rattle.hlc_increment.proofs.AgreeLemmas.{drops-last_changes}
 
 -- the horizon never falls
@@ -53,7 +53,7 @@ horizon-grows nodes past (Closed id ∷ more) legal = horizon-grows nodes past m
 horizon-grows nodes past (Vacuumed at ∷ more) legal =
     let before = horizon-grows nodes past more legal.1 in
     let up : horizon (more ++ past) ≤ at = vacuum-above nodes (more ++ past) at legal.0 in omega (arith, before)
-horizon-grows nodes past (Trimmed at dropped ∷ more) legal =
+horizon-grows nodes past (PartVacuumed at dropped ∷ more) legal =
     let before = horizon-grows nodes past more legal.1 in
     let up : horizon (more ++ past) ≤ at = vacuum-above nodes (more ++ past) at legal.0 in omega (arith, before)
 horizon-grows nodes past (Joined node start ∷ more) legal = horizon-grows nodes past more legal.3
@@ -66,7 +66,7 @@ writes-kept past (Took item ∷ more) row m =
 writes-kept past (Opened stamp ∷ more) row m = writes-kept past more row m
 writes-kept past (Closed id ∷ more) row m = writes-kept past more row m
 writes-kept past (Vacuumed at ∷ more) row m = writes-kept past more row m
-writes-kept past (Trimmed at dropped ∷ more) row m = writes-kept past more row m
+writes-kept past (PartVacuumed at dropped ∷ more) row m = writes-kept past more row m
 writes-kept past (Joined node start ∷ more) row m = writes-kept past more row m
 
 -- an item that is accepted later is above the floor
@@ -90,7 +90,7 @@ writes-before nodes past (Took item ∷ more) row legal m low =
 writes-before nodes past (Opened stamp ∷ more) row legal m low = writes-before nodes past more row legal.1 m low
 writes-before nodes past (Closed id ∷ more) row legal m low = writes-before nodes past more row legal.1 m low
 writes-before nodes past (Vacuumed at ∷ more) row legal m low = writes-before nodes past more row legal.1 m low
-writes-before nodes past (Trimmed at dropped ∷ more) row legal m low =
+writes-before nodes past (PartVacuumed at dropped ∷ more) row legal m low =
     writes-before nodes past more row legal.1 m low
 writes-before nodes past (Joined node start ∷ more) row legal m low =
     writes-before nodes past more row legal.3 m low
@@ -126,7 +126,7 @@ between-stays nodes past (Closed id ∷ more) low high legal under =
     between-stays nodes past more low high legal.1 under
 between-stays nodes past (Vacuumed at ∷ more) low high legal under =
     between-stays nodes past more low high legal.1 under
-between-stays nodes past (Trimmed at dropped ∷ more) low high legal under =
+between-stays nodes past (PartVacuumed at dropped ∷ more) low high legal under =
     between-stays nodes past more low high legal.1 under
 between-stays nodes past (Joined node start ∷ more) low high legal under =
     between-stays nodes past more low high legal.3 under
@@ -176,7 +176,7 @@ open-before nodes past (Closed id ∷ more) stamp legal m low =
     open-before nodes past more stamp legal.1 (stamps-without id (open_snapshots (more ++ past)) stamp m) low
 open-before nodes past (Took item ∷ more) stamp legal m low = open-before nodes past more stamp legal.1 m low
 open-before nodes past (Vacuumed at ∷ more) stamp legal m low = open-before nodes past more stamp legal.1 m low
-open-before nodes past (Trimmed at dropped ∷ more) stamp legal m low =
+open-before nodes past (PartVacuumed at dropped ∷ more) stamp legal m low =
     open-before nodes past more stamp legal.1 m low
 open-before nodes past (Joined node start ∷ more) stamp legal m low =
     open-before nodes past more stamp legal.3 m low
@@ -333,10 +333,10 @@ module _ (since : ℕ) (older newer : StoreView) (upper : List Row) (past more :
   }
 
   -- as many as there should be
-  joined-count : length (joined since older.rows upper) + trimmed past
+  joined-count : length (joined since older.rows upper) + part_dropped past
       ≡ length h.stored.0 + count_above (vacuumed past) (writes (more ++ past))
   joined-count =
-      let was : length older.rows + trimmed past ≡ length h.stored.0 + count_above (vacuumed past) (writes past) =
+      let was : length older.rows + part_dropped past ≡ length h.stored.0 + count_above (vacuumed past) (writes past) =
       h.stored.2 in
       let vacuumed_low : vacuumed past ≤ horizon past = vacuumed-low (nodes older) past h.legal in
       let r = rises in let b = bounded in
@@ -374,7 +374,7 @@ module _ (since : ℕ) (older newer : StoreView) (upper : List Row) (past more :
           h.stored.0,
           drops-last_changes more past h.stored.0 h.stored.1,
           let counted = joined-count in
-              rw (are.rows, drops-trim_nothing more past, drops-vacuumed more past) counted,
+              rw (are.rows, drops-part_nothing more past, drops-vacuumed more past) counted,
         );
         horizon = g.horizon ∙ sym are.horizons;
       }
@@ -402,7 +402,7 @@ numbered-grows nodes past (Took item ∷ more) = numbered-grows nodes past more
 numbered-grows nodes past (Opened stamp ∷ more) = numbered-grows nodes past more
 numbered-grows nodes past (Closed id ∷ more) = numbered-grows nodes past more
 numbered-grows nodes past (Vacuumed at ∷ more) = numbered-grows nodes past more
-numbered-grows nodes past (Trimmed at dropped ∷ more) = numbered-grows nodes past more
+numbered-grows nodes past (PartVacuumed at dropped ∷ more) = numbered-grows nodes past more
 numbered-grows nodes past (Joined node start ∷ more) = (let h = numbered-grows nodes past more in omega (arith, h))
 
 -- the increment of a later state fits an older checkpoint, unless its stamp is above that one's floor

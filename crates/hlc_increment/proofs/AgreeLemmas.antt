@@ -7,9 +7,10 @@ use Rattle.hlc_node.specs.declared.item.Item.{Item}
 use Rattle.hlc_node.specs.Items.{retires}
 use Rattle.hlc_snapshot.specs.RegistryView.{without}
 use Rattle.hlc_heads.proofs.LowLemmas.{low-same}
-use Rattle.hlc_core.specs.Past.{Step, Took, Opened, Closed, Vacuumed, Trimmed, Joined, numbered, count, head, retired}
+use Rattle.hlc_core.specs.Past.{Step, Took, Opened, Closed, Vacuumed, PartVacuumed, Joined, numbered, count, head}
+use Rattle.hlc_core.specs.Past.{retired}
 use Rattle.hlc_core.specs.Past.{top, floor, horizon, opened, open_snapshots, writes, item_rows, IsLegal, item_refusal}
-use Rattle.hlc_core.specs.Past.{open_refusal, vacuum_refusal, trimmed, vacuumed}
+use Rattle.hlc_core.specs.Past.{open_refusal, vacuum_refusal, part_dropped, vacuumed}
 use Rattle.hlc_core.specs.Stored.{AreLastChanges}
 use Rattle.hlc_witness.specs.declared.witness.Witness.{Witness}
 use Rattle.hlc_increment.specs.Increment.{without_drops}
@@ -93,7 +94,7 @@ agree-closed nodes past other id are = record {
 
 -- a part that dropped nothing in place of a vacuum
 agree-vacuumed : (nodes : ℕ) (past other : List Step) (at : ℕ) → Agree nodes past other
-    → Agree nodes (Trimmed at 0 ∷ past) (Vacuumed at ∷ other)
+    → Agree nodes (PartVacuumed at 0 ∷ past) (Vacuumed at ∷ other)
 agree-vacuumed nodes past other at are = record {
   numbers = are.numbers;
   counts = are.counts;
@@ -106,9 +107,9 @@ agree-vacuumed nodes past other at are = record {
   rows = are.rows;
 }
 
-agree-trimmed : (nodes : ℕ) (past other : List Step) (at dropped : ℕ) → Agree nodes past other
-    → Agree nodes (Trimmed at 0 ∷ past) (Trimmed at dropped ∷ other)
-agree-trimmed nodes past other at dropped are = record {
+agree-part_dropped : (nodes : ℕ) (past other : List Step) (at dropped : ℕ) → Agree nodes past other
+    → Agree nodes (PartVacuumed at 0 ∷ past) (PartVacuumed at dropped ∷ other)
+agree-part_dropped nodes past other at dropped are = record {
   numbers = are.numbers;
   counts = are.counts;
   heads = are.heads;
@@ -143,8 +144,8 @@ drops-agree nodes (Closed id ∷ more) past =
     agree-closed nodes (without_drops more ++ past) (more ++ past) id (drops-agree nodes more past)
 drops-agree nodes (Vacuumed at ∷ more) past =
     agree-vacuumed nodes (without_drops more ++ past) (more ++ past) at (drops-agree nodes more past)
-drops-agree nodes (Trimmed at dropped ∷ more) past =
-    agree-trimmed nodes (without_drops more ++ past) (more ++ past) at dropped (drops-agree nodes more past)
+drops-agree nodes (PartVacuumed at dropped ∷ more) past =
+    agree-part_dropped nodes (without_drops more ++ past) (more ++ past) at dropped (drops-agree nodes more past)
 drops-agree nodes (Joined node start ∷ more) past =
     agree-joined nodes (without_drops more ++ past) (more ++ past) node start (drops-agree nodes more past)
 
@@ -182,7 +183,7 @@ drops-legal nodes (Vacuumed at ∷ more) past legal = (
   vacuums-agree nodes (without_drops more ++ past) (more ++ past) at (drops-agree nodes more past) ∙ legal.0,
   drops-legal nodes more past legal.1,
 )
-drops-legal nodes (Trimmed at dropped ∷ more) past legal = (
+drops-legal nodes (PartVacuumed at dropped ∷ more) past legal = (
   vacuums-agree nodes (without_drops more ++ past) (more ++ past) at (drops-agree nodes more past) ∙ legal.0,
   drops-legal nodes more past legal.1,
 )
@@ -195,14 +196,14 @@ drops-legal nodes (Joined node start ∷ more) past legal = (
 )
 
 -- the number of rows that should be stored counts on from the last whole vacuum before
-pub drops-trim_nothing : (more past : List Step) → trimmed (without_drops more ++ past) ≡ trimmed past
-drops-trim_nothing [] past = refl
-drops-trim_nothing (Took item ∷ more) past = drops-trim_nothing more past
-drops-trim_nothing (Opened stamp ∷ more) past = drops-trim_nothing more past
-drops-trim_nothing (Closed id ∷ more) past = drops-trim_nothing more past
-drops-trim_nothing (Vacuumed at ∷ more) past = (let h = drops-trim_nothing more past in omega (arith, h))
-drops-trim_nothing (Trimmed at dropped ∷ more) past = (let h = drops-trim_nothing more past in omega (arith, h))
-drops-trim_nothing (Joined node start ∷ more) past = drops-trim_nothing more past
+pub drops-part_nothing : (more past : List Step) → part_dropped (without_drops more ++ past) ≡ part_dropped past
+drops-part_nothing [] past = refl
+drops-part_nothing (Took item ∷ more) past = drops-part_nothing more past
+drops-part_nothing (Opened stamp ∷ more) past = drops-part_nothing more past
+drops-part_nothing (Closed id ∷ more) past = drops-part_nothing more past
+drops-part_nothing (Vacuumed at ∷ more) past = (let h = drops-part_nothing more past in omega (arith, h))
+drops-part_nothing (PartVacuumed at dropped ∷ more) past = (let h = drops-part_nothing more past in omega (arith, h))
+drops-part_nothing (Joined node start ∷ more) past = drops-part_nothing more past
 
 pub drops-vacuumed : (more past : List Step) → vacuumed (without_drops more ++ past) ≡ vacuumed past
 drops-vacuumed [] past = refl
@@ -210,7 +211,7 @@ drops-vacuumed (Took item ∷ more) past = drops-vacuumed more past
 drops-vacuumed (Opened stamp ∷ more) past = drops-vacuumed more past
 drops-vacuumed (Closed id ∷ more) past = drops-vacuumed more past
 drops-vacuumed (Vacuumed at ∷ more) past = drops-vacuumed more past
-drops-vacuumed (Trimmed at dropped ∷ more) past = drops-vacuumed more past
+drops-vacuumed (PartVacuumed at dropped ∷ more) past = drops-vacuumed more past
 drops-vacuumed (Joined node start ∷ more) past = drops-vacuumed more past
 
 pub drops-last_changes : (more past : List Step) (changes : List Witness) → AreLastChanges past changes
@@ -220,5 +221,5 @@ drops-last_changes (Took item ∷ more) past changes are = drops-last_changes mo
 drops-last_changes (Opened stamp ∷ more) past changes are = drops-last_changes more past changes are
 drops-last_changes (Closed id ∷ more) past changes are = drops-last_changes more past changes are
 drops-last_changes (Vacuumed at ∷ more) past changes are = drops-last_changes more past changes are
-drops-last_changes (Trimmed at dropped ∷ more) past changes are = drops-last_changes more past changes are
+drops-last_changes (PartVacuumed at dropped ∷ more) past changes are = drops-last_changes more past changes are
 drops-last_changes (Joined node start ∷ more) past changes are = drops-last_changes more past changes are

@@ -3,7 +3,7 @@ use Rattle.std.specs.Prelude.{◌≡◌, ◌≢◌, ℕ, ◌<◌, ◌≤◌, ◌
 use Rattle.std.specs.List.Sorted.{IsPermutation}
 use Rattle.hlc_column.specs.Rows.{rows_to}
 use Rattle.hlc_witness.specs.Certificate.{RowsAscend}
-use Rattle.hlc_core.specs.Past.{Step, Took, Opened, Closed, Vacuumed, Joined, Trimmed}
+use Rattle.hlc_core.specs.Past.{Step, Took, Opened, Closed, Vacuumed, Joined, PartVacuumed}
 use Rattle.hlc_core.specs.StoreView.{StoreView, with_rows_left}
 use Rattle.hlc_core.specs.Checkpoint.{IsCheckpoint, IsCopyAbove, IsFirstReason, floor_in}
 use Rattle.hlc_checkpoint.specs.declared.checkpoint.RestoreFault.{RestoreFault}
@@ -37,9 +37,9 @@ without_drops [] = []
 without_drops (Took item ∷ past) = Took item ∷ without_drops past
 without_drops (Opened stamp ∷ past) = Opened stamp ∷ without_drops past
 without_drops (Closed id ∷ past) = Closed id ∷ without_drops past
-without_drops (Vacuumed at ∷ past) = Trimmed at 0 ∷ without_drops past
+without_drops (Vacuumed at ∷ past) = PartVacuumed at 0 ∷ without_drops past
 without_drops (Joined node start ∷ past) = Joined node start ∷ without_drops past
-without_drops (Trimmed at dropped ∷ past) = Trimmed at 0 ∷ without_drops past
+without_drops (PartVacuumed at dropped ∷ past) = PartVacuumed at 0 ∷ without_drops past
 
 -- the state may be a later one of the same store: as many nodes at the start, no fewer links, and no lower horizon
 pub record MayBeLater (older newer : StoreView) : Type 0 where

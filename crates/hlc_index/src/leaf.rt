@@ -18,7 +18,7 @@ use std::cmp::Ordering;
 use std::marker::Model;
 
 /// The maximum number of entries of a leaf.
-pub(crate) const MOST_ENTRIES: usize = 128;
+pub(crate) const MAX_ENTRIES: usize = 128;
 
 /// Some entries in the order of their keys. In contracts it is the list of them.
 #[derive(Debug, Drop)]
@@ -118,8 +118,8 @@ impl<V> Leaf<V> {
     pub(crate) fn with_room(alloc: Global) -> Result<Leaf<V>, NoMemory>
         ensures { IfOk result (λ leaf. leaf ≡ []) }
     {
-        let heads = Vec::with_capacity(alloc, MOST_ENTRIES)?;
-        let entries = Vec::with_capacity(alloc, MOST_ENTRIES)?;
+        let heads = Vec::with_capacity(alloc, MAX_ENTRIES)?;
+        let entries = Vec::with_capacity(alloc, MAX_ENTRIES)?;
         Ok(Leaf { heads, entries })
     }
 
@@ -158,7 +158,7 @@ impl<V> Leaf<V> {
         ensures back { IfOk result (λ back. back ≡ drop slot self.old) }
         ensures err { OnErr result (self.new ≡ self.old) }
     {
-        let mut heads = Vec::with_capacity(alloc, MOST_ENTRIES)?;
+        let mut heads = Vec::with_capacity(alloc, MAX_ENTRIES)?;
         heads.extend_from_slice(&self.heads[slot..])?;
         let entries = self.entries.split_off(slot)?;
         self.heads.truncate(slot);

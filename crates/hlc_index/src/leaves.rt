@@ -13,7 +13,7 @@ ghost use Rattle.hlc_index.specs.contracts.leaves.Leaves.{the_row};
 
 use crate::filled::Filled;
 use crate::head::{compare_alike, place_of_head};
-use crate::leaf::{Leaf, MOST_ENTRIES};
+use crate::leaf::{Leaf, MAX_ENTRIES};
 use hlc_bytes::Bytes;
 use hlc_values::NoMemory;
 use std::alloc::{AllocFailed, Global};
@@ -21,7 +21,7 @@ use std::cmp::Ordering;
 use std::marker::Model;
 
 /// A full leaf is split into two at this slot.
-const HALF: usize = MOST_ENTRIES / 2;
+const HALF: usize = MAX_ENTRIES / 2;
 
 /// Leaves side by side, none of them empty. In contracts it is the list of them.
 #[derive(Debug, Drop)]
@@ -162,7 +162,7 @@ impl<V: Drop> Leaves<V> {
         ensures end { IsTrue result → slot ≡ length (slice_index_or self.now at []) }
     {
         let last = self.len() - 1;
-        at == last && slot >= MOST_ENTRIES && slot == self.leaf(at).len()
+        at == last && slot >= MAX_ENTRIES && slot == self.leaf(at).len()
     }
 
     /// Inserts an entry into a leaf. If memory runs out, the error returns the entry, and nothing
@@ -259,7 +259,7 @@ impl<V: Drop> Leaves<V> {
     {
         // Reading the list bounds the number of leaves.
         let _known = self.len();
-        if self.leaf(at).len() < MOST_ENTRIES {
+        if self.leaf(at).len() < MAX_ENTRIES {
             return self.insert(at, slot, entry, head);
         }
         let Ok(()) = self.split(at, HALF) else {

@@ -15,7 +15,7 @@ use std::sync::Wait;
 use std::{fmt, mem};
 
 /// The maximum number of items on a link.
-const MOST_ITEMS: u64 = 1 << 60;
+const MAX_ITEMS: u64 = 1 << 60;
 
 /// Why an item was not put.
 #[derive(Clone, Copy, PartialEq, Eq, Debug)]
@@ -151,7 +151,7 @@ impl LinkSender {
         ensures room { IfOk result
             (λ _. (length self.old.put < 2 ^ 60) × (self.old.ended ≡ false)) }
     {
-        if self.count == MOST_ITEMS {
+        if self.count == MAX_ITEMS {
             return Err((PutFault::NumbersSpent, item));
         }
         if self.end_put {

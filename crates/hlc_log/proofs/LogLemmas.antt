@@ -9,7 +9,8 @@ use Rattle.std.proofs.lemmas.List.{append-nil, append_assoc}
 use Rattle.std.proofs.lemmas.Grind.{flat_map-append}
 use Rattle.hlc_node.specs.declared.item.Item.{Item as AnItem}
 use Rattle.hlc_wire.proofs.FieldLemmas.{IsBytes}
-use Rattle.hlc_core.specs.Past.{Step, Took, Opened, Closed, Vacuumed, Trimmed, Joined, numbered, count, item_refusal}
+use Rattle.hlc_core.specs.Past.{Step, Took, Opened, Closed, Vacuumed, PartVacuumed, Joined, numbered, count}
+use Rattle.hlc_core.specs.Past.{item_refusal}
 use Rattle.hlc_core.specs.Past.{IsLegal}
 use Rattle.hlc_core.specs.StoreView.{StoreView, Represents}
 use Rattle.hlc_core.proofs.PastLemmas.{IsAdmissible, admissible, inside, on_link}
@@ -124,7 +125,7 @@ numbered-grows nodes past (Took item) = omega arith
 numbered-grows nodes past (Opened stamp) = omega arith
 numbered-grows nodes past (Closed id) = omega arith
 numbered-grows nodes past (Vacuumed at) = omega arith
-numbered-grows nodes past (Trimmed at dropped) = omega arith
+numbered-grows nodes past (PartVacuumed at dropped) = omega arith
 numbered-grows nodes past (Joined node start) = omega arith
 
 count-grows : (n : ℕ) (past : List Step) (step : Step) → count n past ≤ count n (step ∷ past)
@@ -140,7 +141,7 @@ count-grows n past (Took item) =
 count-grows n past (Opened stamp) = omega arith
 count-grows n past (Closed id) = omega arith
 count-grows n past (Vacuumed at) = omega arith
-count-grows n past (Trimmed at dropped) = omega arith
+count-grows n past (PartVacuumed at dropped) = omega arith
 count-grows n past (Joined node start) = omega arith
 
 -- a record that came before has still come before after any more steps

@@ -154,7 +154,7 @@ fn threshold_at(bytes: &[u8]) -> Result<(RecordRef<'_>, &[u8]), DecodeError>
     Ok((RecordRef::Threshold(at), rest))
 }
 
-/// Returns the one encoding of a record, of at most `MOST_ITEM_BYTES` bytes, or `MOST_BATCH_BYTES` for a batch.
+/// Returns the one encoding of a record, of at most `MAX_ITEM_BYTES` bytes, or `MAX_BATCH_BYTES` for a batch.
 ///
 /// Refused, in this order: the first reason to refuse an item's body; out of memory.
 pub fn encode_record(alloc: Global, entry: &Record) -> Result<Vec<u8>, EncodeError>

@@ -7,9 +7,9 @@ mod item_ref;
 mod node;
 
 pub use hlc_rows::{
-    BodyFault, Bytes, MOST_KEY_BYTES, MOST_SHORT_BYTES, MOST_VALUE_BYTES, MOST_WRITES, Row, Stamp,
-    ValueOrMark, Write, Writes, Written, batch_fault, most_key_bytes_are_255,
-    most_short_bytes_are_30, most_value_bytes_are_65535, most_writes_are_256, newest_is_greatest,
+    BodyFault, Bytes, MAX_KEY_BYTES, MAX_SHORT_BYTES, MAX_VALUE_BYTES, MAX_WRITES, Row, Stamp,
+    ValueOrMark, Write, Writes, Written, batch_fault, max_key_bytes_are_255,
+    max_short_bytes_are_30, max_value_bytes_are_65535, max_writes_are_256, newest_is_greatest,
     newest_is_unique, newest_stays, no_newest_no_row, other_keys_do_not_count, value_slice,
     write_fault,
 };

@@ -11,7 +11,7 @@ ghost use Rattle.hlc_node_calls.specs.Batches.{batch_in};
 ghost use Rattle.hlc_node_calls.specs.Nodes.{ReturnsStamped, ReturnsIssued};
 
 use hlc_clock::Stamp;
-use hlc_node::{BodyFault, ItemRef, MOST_WRITES, NodeCore, NodeFault, Writes};
+use hlc_node::{BodyFault, ItemRef, MAX_WRITES, NodeCore, NodeFault, Writes};
 use hlc_wire::writes_of;
 
 /// Writes the number and the stamp of an item, and returns 0.
@@ -84,7 +84,7 @@ pub fn batch_of(count: usize, bytes: &[u8]) -> Result<Writes<'_>, BadBatch>
     ensures { MatchResult result (λ writes. batch_in count bytes.now ≡ Ok writes)
         (λ bad. batch_in count bytes.now ≡ Err (bad.code, bad.word)) }
 {
-    if count > MOST_WRITES {
+    if count > MAX_WRITES {
         return Err(BadBatch {
             code: BodyFault::TooManyWrites.code(),
             word: 0,

@@ -25,11 +25,11 @@ use Rattle.hlc_draft.specs.declared.report.Report.{Report}
 use Rattle.hlc_vacuum.specs.Representing.{count_above, count_between}
 use Rattle.hlc_vacuum.proofs.CountLemmas.{split_count, same_above}
 use Rattle.hlc_vacuum.proofs.RepresentingLemmas.{rows_above_are_counted}
-use Rattle.hlc_core.specs.Past.{Step, Trimmed, Vacuumed, horizon, vacuumed, trimmed, writes, open_snapshots}
+use Rattle.hlc_core.specs.Past.{Step, PartVacuumed, Vacuumed, horizon, vacuumed, part_dropped, writes, open_snapshots}
 use Rattle.hlc_core.specs.Stored.{IsReport}
 use Rattle.hlc_core.specs.StoreView.{StoreView, nodes, Represents}
 use Rattle.hlc_core.specs.Calls.{Vacuums}
-use Rattle.hlc_core.specs.Parts.{rows_of_keys, IsPartReport, Trims, EndsAt}
+use Rattle.hlc_core.specs.Parts.{rows_of_keys, IsPartReport, VacuumsKeys, EndsAt}
 use Rattle.hlc_core.proofs.PastLemmas.{vacuum-above, vacuumed-low, writes-limits}
 use Rattle.hlc_core.proofs.VacuumLemmas.{leaves-fewest}
 use Rattle.hlc_passes.specs.Pass.{Part, ArePass, left_by, together, report_of}
@@ -127,26 +127,27 @@ ends-from kept after most key ends =
 -- What is known after a part, or after several: the store represents the past with it, and the report is the expected
 -- one.
 pub record HasPassed (old new : StoreView) (at : ℕ) (past : List Step) (is_of : Kind) (report : Report) : Type 0 where
-  pub represents : Represents new (Trimmed at report.dropped ∷ past)
+  pub represents : Represents new (PartVacuumed at report.dropped ∷ past)
   pub others : rows_of_keys (λ key. not (is_of key)) new.rows ≡ rows_of_keys (λ key. not (is_of key)) old.rows
   pub expected : IsPartReport at past is_of report
   pub dropped : report.dropped + length new.rows ≡ length old.rows
   pub count : length (rows_to at (rows_of_keys is_of new.rows)) ≡ report.kept
 
 has-passed : (old new : StoreView) (at : ℕ) (past : List Step) (is_of : Kind) (report : Report)
-    → Trims old new at past is_of report → HasPassed old new at past is_of report
-has-passed old new at past is_of report trims = record {
-  represents = trims.represents;
-  others = trims.others;
-  expected = trims.expected;
-  dropped = trims.dropped;
-  count = ap (λ f. length (rows_to f (rows_of_keys is_of new.rows))) (sym trims.expected.at_stamp)
-      ∙ trims.fewest.count;
+    → VacuumsKeys old new at past is_of report → HasPassed old new at past is_of report
+has-passed old new at past is_of report vacuums_keys = record {
+  represents = vacuums_keys.represents;
+  others = vacuums_keys.others;
+  expected = vacuums_keys.expected;
+  dropped = vacuums_keys.dropped;
+  count = ap (λ f. length (rows_to f (rows_of_keys is_of new.rows))) (sym vacuums_keys.expected.at_stamp)
+      ∙ vacuums_keys.fewest.count;
 }
 
 -- the steps of two parts are one that dropped the rows of both
 one-step : (new : StoreView) (past : List Step) (at first rest : ℕ)
-    → Represents new (Trimmed at rest ∷ Trimmed at first ∷ past) → Represents new (Trimmed at (first + rest) ∷ past)
+    → Represents new (PartVacuumed at rest ∷ PartVacuumed at first ∷ past)
+    → Represents new (PartVacuumed at (first + rest) ∷ past)
 one-step new past at first rest h = record {
   legal = h.legal.1;
   many = h.many;
@@ -158,9 +159,9 @@ one-step new past at first rest h = record {
   stored = (
     h.stored.0,
     h.stored.1,
-    let was : length new.rows + (rest + (first + trimmed past))
+    let was : length new.rows + (rest + (first + part_dropped past))
         ≡ length h.stored.0 + count_above (vacuumed past) (writes past) = h.stored.2 in
-        let now : length new.rows + ((first + rest) + trimmed past)
+        let now : length new.rows + ((first + rest) + part_dropped past)
         ≡ length h.stored.0 + count_above (vacuumed past) (writes past) = omega arith in
         now,
   );
@@ -170,7 +171,7 @@ one-step new past at first rest h = record {
 -- a part, and what came after it, together
 pass-on : (old mid new : StoreView) (at : ℕ) (past : List Step) (whole first second : Kind) (report rest : Report)
     → AreHalves whole first second → HasPassed old mid at past first report
-    → HasPassed mid new at (Trimmed at report.dropped ∷ past) second rest
+    → HasPassed mid new at (PartVacuumed at report.dropped ∷ past) second rest
     → HasPassed old new at past whole (together report rest)
 pass-on old mid new at past whole first second report rest h a b =
     let points : rest.points ≡ report.points = ArePoints-unique (stamps_to at (open_snapshots past)) rest.points
@@ -213,10 +214,10 @@ passes : (old : StoreView) (at : ℕ) (after : List ℕ) (past : List Step) (par
     → HasPassed old (left_by part parts) at past (in_part after None) (report_of part parts)
 passes old at after past part [] (made, ends) =
     has-passed old part.left at past (in_part after None) part.report
-    (subst (λ e. Trims old part.left at past (in_part after e) part.report) ends made.2)
+    (subst (λ e. VacuumsKeys old part.left at past (in_part after e) part.report) ends made.2)
 passes old at after past part (next ∷ parts) (made, on) =
     elim part.end as (λ e. part.end ≡ e
-    → MatchOption e ⊥ (λ key. ArePass part.left at key (Trimmed at part.report.dropped ∷ past) next parts)
+    → MatchOption e ⊥ (λ key. ArePass part.left at key (PartVacuumed at part.report.dropped ∷ past) next parts)
     → HasPassed old (left_by next parts) at past (in_part after None)
     (together part.report (report_of next parts))) [
       | None ↦ λ _ none. absurd none
@@ -226,8 +227,8 @@ passes old at after past part (next ∷ parts) (made, on) =
           (halves after key (ends-from old after part.most key
           (subst (λ e. EndsAt old after part.most e) is made.1)))
           (has-passed old part.left at past (in_part after (Some key)) part.report
-          (subst (λ e. Trims old part.left at past (in_part after e) part.report) is made.2))
-          (passes part.left at key (Trimmed at part.report.dropped ∷ past) next parts rest)
+          (subst (λ e. VacuumsKeys old part.left at past (in_part after e) part.report) is made.2))
+          (passes part.left at key (PartVacuumed at part.report.dropped ∷ past) next parts rest)
     ] refl on
 
 -- the empty key is below the key of each row
@@ -284,7 +285,8 @@ parts-are-a-vacuum old at past part parts h pass =
       dropped = (
         h.stored.0,
         h.stored.1,
-        let was : length old.rows + trimmed past ≡ length h.stored.0 + count_above (vacuumed past) all' = h.stored.2 in
+        let was : length old.rows + part_dropped past ≡ length h.stored.0 + count_above (vacuumed past) all' =
+            h.stored.2 in
             let bound : vacuumed past ≤ horizon past = vacuumed-low (nodes old) past h.legal in
             let up : horizon past ≤ at = vacuum-above (nodes new) past at p.represents.legal.0 in
             let between : count_above (vacuumed past) all'
@@ -292,7 +294,7 @@ parts-are-a-vacuum old at past part parts h pass =
             rows_above_are_counted (vacuumed past) at all' (omega arith) in
             let gone : report.dropped + length new.rows ≡ length old.rows = p.dropped in
             let kept : report.kept ≡ length report.witnesses = p.expected.kept in
-            let whole' : report.dropped + report.kept + trimmed past
+            let whole' : report.dropped + report.kept + part_dropped past
             ≡ length h.stored.0 + count_between (vacuumed past) at all' = omega arith in
             whole',
       );

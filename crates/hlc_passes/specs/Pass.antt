@@ -1,7 +1,7 @@
 -- A pass: parts of a vacuum one after another, with nothing in between, from the first key to the last.
 use Rattle.std.specs.Prelude.{◌≡◌, ℕ, ◌+◌, List, [], ◌∷◌, ◌++◌, Option, None, Ok, MatchOption}
 use Rattle.hlc_draft.specs.declared.report.Report.{Report}
-use Rattle.hlc_core.specs.Past.{Step, Trimmed}
+use Rattle.hlc_core.specs.Past.{Step, PartVacuumed}
 use Rattle.hlc_core.specs.StoreView.{StoreView}
 use Rattle.hlc_core.specs.Parts.{VacuumsPart}
 
@@ -20,7 +20,7 @@ ArePass old at after past part [] =
 ArePass old at after past part (next ∷ parts) =
     VacuumsPart old part.left at after part.most past (Ok (part.report, part.end))
     × MatchOption part.end ⊥
-    (λ key. ArePass part.left at key (Trimmed at part.report.dropped ∷ past) next parts)
+    (λ key. ArePass part.left at key (PartVacuumed at part.report.dropped ∷ past) next parts)
 
 -- the store that the last part left
 abbrev pub left_by : Part → List Part → StoreView

@@ -12,7 +12,7 @@ ghost use Rattle.hlc_core.specs.Stored.{AreVacuumPoints, IsReport, IsStoredCount
 ghost use Rattle.hlc_core.specs.StoreView.{StoreView, nodes, with_rows_left, Represents};
 ghost use Rattle.hlc_core.specs.Calls.{Vacuums};
 ghost use Rattle.hlc_core.specs.Certified.{AreNotFewest, IsCertified};
-ghost use Rattle.hlc_core.specs.Parts.{Trims, rows_of_keys};
+ghost use Rattle.hlc_core.specs.Parts.{VacuumsKeys, rows_of_keys};
 
 /// A vacuum without a stamp is a vacuum to the floor: that is not refused, and its points are the stamps of all open
 /// snapshots and the floor.
@@ -52,7 +52,7 @@ pub fn parts_keep_representing()
         → report.floor ≡ at
         → report.kept ≡ length report.witnesses → report.dropped + length rows ≡ length kept.rows
         → report.bytes ≡ rows_cost (rows_to report.floor (rows_of_keys is_of rows))
-        → Trims kept (with_rows_left kept rows at) at past is_of report }
+        → VacuumsKeys kept (with_rows_left kept rows at) at past is_of report }
 {}
 
 /// Just after a vacuum the rows at or below its stamp are the fewest, and the cheapest, against all accepted writes.

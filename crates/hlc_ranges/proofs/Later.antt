@@ -6,7 +6,7 @@ use Rattle.std.proofs.lemmas.List.Elements.{Contains-append_left}
 use Rattle.hlc_values.proofs.MemberLemmas.{Contains-none}
 use Rattle.hlc_rows.specs.declared.row.Row.{Row}
 use Rattle.hlc_rows.specs.Rows.{answer}
-use Rattle.hlc_core.specs.Past.{Step, Took, Opened, Closed, Vacuumed, Trimmed, Joined, floor, writes, item_rows}
+use Rattle.hlc_core.specs.Past.{Step, Took, Opened, Closed, Vacuumed, PartVacuumed, Joined, floor, writes, item_rows}
 use Rattle.hlc_core.specs.Past.{IsLegal as IsLegalPast}
 use Rattle.hlc_core.proofs.PastLemmas.{floor-grows, floor-joins, above_floor, body_rows-are, writes-row_set}
 use Rattle.hlc_ranges.specs.Run.{Layout, Turn, Issued, Sent, Received, Observed, Stepped, past_of, step_rows, IsLegal}
@@ -22,7 +22,7 @@ floor-step nodes (Joined node start) past legal = floor-joins nodes past node st
 floor-step nodes (Opened stamp) past legal = omega arith
 floor-step nodes (Closed id) past legal = omega arith
 floor-step nodes (Vacuumed at) past legal = omega arith
-floor-step nodes (Trimmed at dropped) past legal = omega arith
+floor-step nodes (PartVacuumed at dropped) past legal = omega arith
 
 -- the legal step of a store
 step-legal : (layout : Layout) (t s : ℕ) (step : Step) (run : List Turn) → t ≡ s
@@ -69,7 +69,7 @@ row-above nodes (Joined node start) past row legal m = absurd (Contains-none row
 row-above nodes (Opened stamp) past row legal m = absurd (Contains-none row m)
 row-above nodes (Closed id) past row legal m = absurd (Contains-none row m)
 row-above nodes (Vacuumed at) past row legal m = absurd (Contains-none row m)
-row-above nodes (Trimmed at dropped) past row legal m = absurd (Contains-none row m)
+row-above nodes (PartVacuumed at dropped) past row legal m = absurd (Contains-none row m)
 
 -- a write at or below the floor is an old one
 old-rows : (layout : Layout) (run later : List Turn) (s : ℕ) (row : Row) → IsLegal layout (later ++ run)
@@ -105,7 +105,7 @@ step-keeps (Joined node start) past row m = m
 step-keeps (Opened stamp) past row m = m
 step-keeps (Closed id) past row m = m
 step-keeps (Vacuumed at) past row m = m
-step-keeps (Trimmed at dropped) past row m = m
+step-keeps (PartVacuumed at dropped) past row m = m
 
 -- and an old write stays
 kept-rows : (run later : List Turn) (s : ℕ) (row : Row) → Contains (writes (past_of s run)) row

@@ -16,7 +16,8 @@ use Rattle.hlc_node.specs.declared.item.Body.TheVariants.{Write, Batch, Report, 
 use Rattle.hlc_rows.specs.Rows.{newest, answer, IsRowSet}
 use Rattle.hlc_rows.proofs.NewestLemmas.{newest_is_greatest, answer_none, answer_some}
 use Rattle.hlc_draft.proofs.PartLemmas.{newest_in_part, none_in_part}
-use Rattle.hlc_core.specs.Past.{Step, Took, Opened, Closed, Vacuumed, Trimmed, Joined, writes, body_rows, item_rows}
+use Rattle.hlc_core.specs.Past.{Step, Took, Opened, Closed, Vacuumed, PartVacuumed, Joined, writes, body_rows}
+use Rattle.hlc_core.specs.Past.{item_rows}
 use Rattle.hlc_core.proofs.PastLemmas.{body_rows-are, writes-row_set}
 use Rattle.hlc_ranges.specs.Run.{Layout, Turn, Issued, Sent, Received, Observed, Stepped, past_of, issued, IsRouted}
 use Rattle.hlc_ranges.specs.Run.{IsIssuedStep, IsLegal, step_rows, issued_writes, accepted_writes}
@@ -181,7 +182,7 @@ step-writes (Took item) past row m = Contains-append_cases (writes past) (item_r
 step-writes (Opened stamp) past row m = inl m
 step-writes (Closed id) past row m = inl m
 step-writes (Vacuumed at) past row m = inl m
-step-writes (Trimmed at dropped) past row m = inl m
+step-writes (PartVacuumed at dropped) past row m = inl m
 step-writes (Joined node start) past row m = inl m
 
 -- an accepted item stays one
@@ -244,7 +245,7 @@ of_store-step t (Took item) run row m = record {
 of_store-step t (Opened stamp) run row m = absurd (Contains-none row m)
 of_store-step t (Closed id) run row m = absurd (Contains-none row m)
 of_store-step t (Vacuumed at) run row m = absurd (Contains-none row m)
-of_store-step t (Trimmed at dropped) run row m = absurd (Contains-none row m)
+of_store-step t (PartVacuumed at dropped) run row m = absurd (Contains-none row m)
 of_store-step t (Joined node start) run row m = absurd (Contains-none row m)
 
 accepted_writes-from : (run : List Turn) (row : Row) → Contains (accepted_writes run) row → IsOfStore run row

@@ -5,7 +5,7 @@ use Rattle.std.proofs.Common.{subst, inl, inr, arith}
 use Rattle.std.specs.Prelude.{Contains}
 use Rattle.std.proofs.lemmas.Bool.{cases_eq}
 use Rattle.hlc_node.specs.declared.item.Item.{Item}
-use Rattle.hlc_core.specs.Past.{Step, Took, Opened, Closed, Vacuumed, Trimmed, Joined, numbered, head}
+use Rattle.hlc_core.specs.Past.{Step, Took, Opened, Closed, Vacuumed, PartVacuumed, Joined, numbered, head}
 use Rattle.hlc_core.specs.Past.{IsLegal as IsLegalPast}
 use Rattle.hlc_core.specs.Replicas.{items_of}
 use Rattle.hlc_core.proofs.PastLemmas.{inside, on_link, admissible, head-same, head-other, head-joined}
@@ -30,7 +30,7 @@ pub link-step : (last nodes n : ℕ) (items : ℕ → List Item) (step : Step) (
 link-step last nodes n items (Opened stamp) past legal from up h = h
 link-step last nodes n items (Closed id) past legal from up h = h
 link-step last nodes n items (Vacuumed at) past legal from up h = h
-link-step last nodes n items (Trimmed at dropped) past legal from up h = h
+link-step last nodes n items (PartVacuumed at dropped) past legal from up h = h
 link-step last nodes n items (Took item) past legal from up h =
     elim (cases_eq item.node n) [
       | inl same ↦

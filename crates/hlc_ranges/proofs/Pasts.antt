@@ -7,7 +7,7 @@ use Rattle.std.proofs.lemmas.List.Elements.{Contains-append_left, Contains-appen
 use Rattle.hlc_values.proofs.MemberLemmas.{Contains-none, Contains-first, Contains-rest, Contains-cons_cases}
 use Rattle.hlc_rows.specs.declared.row.Row.{Row}
 use Rattle.hlc_node.specs.declared.item.Item.{Item}
-use Rattle.hlc_core.specs.Past.{Step, Took, Opened, Closed, Vacuumed, Trimmed, Joined, count, retired, writes}
+use Rattle.hlc_core.specs.Past.{Step, Took, Opened, Closed, Vacuumed, PartVacuumed, Joined, count, retired, writes}
 use Rattle.hlc_core.specs.Past.{item_rows}
 use Rattle.hlc_core.specs.Replicas.{items_of}
 use Rattle.hlc_core.proofs.PastLemmas.{retired-same, retired-other, count-other}
@@ -27,7 +27,7 @@ retired-by [] n = refl
 retired-by (Opened stamp ∷ past) n = retired-by past n
 retired-by (Closed id ∷ past) n = retired-by past n
 retired-by (Vacuumed at ∷ past) n = retired-by past n
-retired-by (Trimmed at dropped ∷ past) n = retired-by past n
+retired-by (PartVacuumed at dropped ∷ past) n = retired-by past n
 retired-by (Joined node start ∷ past) n = retired-by past n
 retired-by (Took item ∷ past) n =
     elim (cases_eq item.node n) [
@@ -41,7 +41,7 @@ count-by [] n = refl
 count-by (Opened stamp ∷ past) n = count-by past n
 count-by (Closed id ∷ past) n = count-by past n
 count-by (Vacuumed at ∷ past) n = count-by past n
-count-by (Trimmed at dropped ∷ past) n = count-by past n
+count-by (PartVacuumed at dropped ∷ past) n = count-by past n
 count-by (Joined node start ∷ past) n = count-by past n
 count-by (Took item ∷ past) n =
     elim (cases_eq item.node n) [
@@ -59,7 +59,7 @@ items-accepted [] n item m = absurd (Contains-none item m)
 items-accepted (Opened stamp ∷ past) n item m = Contains-rest _ _ past (items-accepted past n item m)
 items-accepted (Closed id ∷ past) n item m = Contains-rest _ _ past (items-accepted past n item m)
 items-accepted (Vacuumed at ∷ past) n item m = Contains-rest _ _ past (items-accepted past n item m)
-items-accepted (Trimmed at dropped ∷ past) n item m = Contains-rest _ _ past (items-accepted past n item m)
+items-accepted (PartVacuumed at dropped ∷ past) n item m = Contains-rest _ _ past (items-accepted past n item m)
 items-accepted (Joined node start ∷ past) n item m = Contains-rest _ _ past (items-accepted past n item m)
 items-accepted (Took first ∷ past) n item m =
     elim (cases_eq first.node n) [
@@ -92,8 +92,8 @@ writes-have (Vacuumed at ∷ past) item row m r =
       | inl same ↦ absurd (cc)
       | inr rest ↦ writes-have past item row rest r
     ]
-writes-have (Trimmed at dropped ∷ past) item row m r =
-    elim (Contains-cons_cases (Trimmed at dropped) (Took item) past m) [
+writes-have (PartVacuumed at dropped ∷ past) item row m r =
+    elim (Contains-cons_cases (PartVacuumed at dropped) (Took item) past m) [
       | inl same ↦ absurd (cc)
       | inr rest ↦ writes-have past item row rest r
     ]
@@ -125,7 +125,7 @@ writes-from [] row m = absurd (Contains-none row m)
 writes-from (Opened stamp ∷ past) row m = of-more past _ row (writes-from past row m)
 writes-from (Closed id ∷ past) row m = of-more past _ row (writes-from past row m)
 writes-from (Vacuumed at ∷ past) row m = of-more past _ row (writes-from past row m)
-writes-from (Trimmed at dropped ∷ past) row m = of-more past _ row (writes-from past row m)
+writes-from (PartVacuumed at dropped ∷ past) row m = of-more past _ row (writes-from past row m)
 writes-from (Joined node start ∷ past) row m = of-more past _ row (writes-from past row m)
 writes-from (Took first ∷ past) row m =
     elim (Contains-append_cases (writes past) (item_rows first) row m) [

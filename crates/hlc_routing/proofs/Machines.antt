@@ -12,7 +12,7 @@ use Rattle.hlc_node.specs.Node.{NodeView, next_item, after_issue, expected_issue
 use Rattle.hlc_node.specs.declared.item.Item.{Item}
 use Rattle.hlc_node.specs.declared.item.Body.{Body}
 use Rattle.hlc_node.specs.declared.item.Body.TheVariants.{Report}
-use Rattle.hlc_core.specs.Past.{Step, Took, Opened, Closed, Vacuumed, Trimmed, Joined, floor, numbered}
+use Rattle.hlc_core.specs.Past.{Step, Took, Opened, Closed, Vacuumed, PartVacuumed, Joined, floor, numbered}
 use Rattle.hlc_ranges.specs.Run.{Layout, Turn, Issued, Sent, Received, Observed, past_of, issued, last_stamp, raised_by}
 use Rattle.hlc_ranges.specs.Run.{Stepped, mark_of, start_of, turn_at, IsLegal, IsRouted, have_ended}
 use Rattle.hlc_ranges.specs.Calls.{IsNodeOf, HasClock, Extends}
@@ -184,7 +184,7 @@ numbered-same layout s nodes (Took item) past free = refl
 numbered-same layout s nodes (Opened stamp) past free = refl
 numbered-same layout s nodes (Closed id) past free = refl
 numbered-same layout s nodes (Vacuumed at) past free = refl
-numbered-same layout s nodes (Trimmed at dropped) past free = refl
+numbered-same layout s nodes (PartVacuumed at dropped) past free = refl
 numbered-same layout s nodes (Joined node start) past free =
     absurd (let e : Some (layout.machine s node, start) ≡ None = free in cc)
 

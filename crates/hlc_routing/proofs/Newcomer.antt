@@ -6,7 +6,7 @@ use Rattle.std.specs.Prelude.{slice_get}
 use Rattle.std.proofs.lemmas.Bool.{cases_eq, cond-true, cond-false, eq-eqb, ne_eqb}
 use Rattle.std.proofs.lemmas.Option.{slice_get_within}
 use Rattle.hlc_node.specs.Node.{NodeView}
-use Rattle.hlc_core.specs.Past.{Step, Took, Opened, Closed, Vacuumed, Trimmed, Joined, numbered}
+use Rattle.hlc_core.specs.Past.{Step, Took, Opened, Closed, Vacuumed, PartVacuumed, Joined, numbered}
 use Rattle.hlc_ranges.specs.Run.{Layout, Turn, Issued, Sent, Received, Observed, Stepped, past_of, issued, last_stamp}
 use Rattle.hlc_ranges.specs.Run.{raised_by, have_ended, IsLegal}
 use Rattle.hlc_routing.specs.All.{each_stepped, join_step, next_join, AreJoins}
@@ -20,7 +20,7 @@ numbered-grows nodes (Took item) past = omega arith
 numbered-grows nodes (Opened stamp) past = omega arith
 numbered-grows nodes (Closed id) past = omega arith
 numbered-grows nodes (Vacuumed at) past = omega arith
-numbered-grows nodes (Trimmed at dropped) past = omega arith
+numbered-grows nodes (PartVacuumed at dropped) past = omega arith
 numbered-grows nodes (Joined node start) past = omega arith
 
 -- a node that has not joined yet has issued nothing

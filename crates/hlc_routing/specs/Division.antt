@@ -7,7 +7,7 @@ use Rattle.std.specs.declared.cmp.Ordering.TheVariants.{Less}
 use Rattle.hlc_rows.specs.declared.write.Write.{Write}
 use Rattle.hlc_routing.specs.declared.division.Kind.{Kind}
 use Rattle.hlc_routing.specs.declared.division.Kind.TheVariants.{Keys, Hash}
-use Rattle.hlc_routing.specs.declared.division.TheConstants.{MOST_STORES, HASH_START, HASH_PRIME}
+use Rattle.hlc_routing.specs.declared.division.TheConstants.{MAX_STORES, HASH_START, HASH_PRIME}
 
 -- A division of the keys: by ascending boundary keys, one less than stores; or by a hash, over a number of stores.
 pub data DivisionView : Type 0 where
@@ -51,4 +51,4 @@ AreAscending boundaries =
 
 -- there are 1 to 1,024 stores
 abbrev pub IsDivision : DivisionView → Type 0
-IsDivision division = (0 < stores_of division) × (stores_of division ≤ MOST_STORES)
+IsDivision division = (0 < stores_of division) × (stores_of division ≤ MAX_STORES)

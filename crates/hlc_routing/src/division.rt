@@ -4,14 +4,14 @@ ghost use Rattle.std.specs.Ordering.{is_lt, nat_cmp};
 ghost use Rattle.std.specs.Cmp.Lexicographic.{slice_cmp};
 ghost use Rattle.hlc_routing.specs.Division.{ByKeys, ByHash, AreAscending, AreOfStore, IsDivision, stores_of};
 ghost use Rattle.hlc_routing.specs.Division.{store_of, store_between, hash_after};
-ghost use Rattle.hlc_routing.specs.declared.division.TheConstants.{MOST_STORES, HASH_START};
+ghost use Rattle.hlc_routing.specs.declared.division.TheConstants.{MAX_STORES, HASH_START};
 
 use hlc_node::{Bytes, Write};
 use hlc_values::Listed;
 use std::marker::Model;
 
 /// The maximum number of stores of a division.
-pub const MOST_STORES: usize = 1024;
+pub const MAX_STORES: usize = 1024;
 
 // The offset basis and the prime of FNV-1a of 64 bits.
 pub(crate) const HASH_START: u64 = 0xcbf2_9ce4_8422_2325;
@@ -51,9 +51,9 @@ impl Division {
     /// Returns none if a boundary is not above the one before it, or if there are 1,024 or more.
     pub fn by_keys(boundaries: Vec<Bytes>) -> Option<Division>
         ensures ok { IfSome result (λ division. (division ≡ ByKeys boundaries.items) × AreAscending boundaries.items) }
-        ensures none { IfNone result ((AreAscending boundaries.items → ⊥) ⊎ (MOST_STORES ≤ length boundaries.items)) }
+        ensures none { IfNone result ((AreAscending boundaries.items → ⊥) ⊎ (MAX_STORES ≤ length boundaries.items)) }
     {
-        if boundaries.len() >= MOST_STORES || !do_ascend(boundaries.as_slice()) {
+        if boundaries.len() >= MAX_STORES || !do_ascend(boundaries.as_slice()) {
             return None;
         }
         Some(Division {
@@ -65,9 +65,9 @@ impl Division {
     /// none if there are no stores, or more than 1,024.
     pub fn by_hash(stores: usize) -> Option<Division>
         ensures ok { IfSome result (λ division. division ≡ ByHash stores) }
-        ensures none { IfNone result ((stores ≡ 0) ⊎ (MOST_STORES < stores)) }
+        ensures none { IfNone result ((stores ≡ 0) ⊎ (MAX_STORES < stores)) }
     {
-        if stores == 0 || stores > MOST_STORES {
+        if stores == 0 || stores > MAX_STORES {
             return None;
         }
         Some(Division {

@@ -11,7 +11,7 @@ mod opened;
 mod ranges;
 mod snapshot;
 
-pub use division::{Division, MOST_STORES};
+pub use division::{Division, MAX_STORES};
 pub use fault::RangesFault;
 pub use hlc_core::{Accepted, Checkpoint, Core, CoreFault, Item, Report, Stamp};
 pub use laws::{

@@ -1,5 +1,6 @@
 //! The listing of all stores in a snapshot.
-ghost use Rattle.std.specs.Prelude.{◌≡◌, ◌++◌, ℕ, List, [], map, length, IfOk, IfErr, OnOk, IfSome, Some, option_copied};
+ghost use Rattle.std.specs.Prelude.{◌≡◌, ◌++◌, ℕ, List, [], map, length, IfOk, IfErr, OnOk, IfSome, Some};
+ghost use Rattle.std.specs.Prelude.{option_copied};
 ghost use Rattle.std.specs.List.Sorted.{IsPermutation, IsStrictlySortedBy};
 ghost use Rattle.std.specs.Cmp.Lexicographic.{slice_cmp};
 ghost use Rattle.std.specs.Ordering.{nat_cmp};
@@ -14,7 +15,7 @@ ghost use Rattle.hlc_routing.specs.declared.fault.RangesFault.TheVariants.{Store
 use crate::fault::RangesFault;
 use crate::ranges::Ranges;
 use crate::snapshot::RangesSnapshot;
-use hlc_core::{CoreFault, Listing, Pair, View};
+use hlc_core::{CoreFault, Listing, Pair, ReadView};
 use hlc_node::Bytes;
 use hlc_ranges::{cuts_are_consistent, keys_stay_in_their_store};
 use hlc_values::NoMemory;
@@ -90,7 +91,7 @@ impl Ranges {
 /// Returns copies of the pairs of a view, of the keys of a range.
 fn listed<'a>(
     alloc: Global,
-    view: &View<'a>,
+    view: &ReadView<'a>,
     from: &[u8],
     to: Option<&'a [u8]>,
 ) -> Result<Vec<Pair>, NoMemory>

@@ -5,7 +5,7 @@ use Rattle.std.proofs.lemmas.Bool.{eqb-false, ltb-false}
 use Rattle.hlc_rows.specs.declared.write.Write.{Write}
 use Rattle.hlc_rows.specs.declared.limits.BodyFault.{BodyFault}
 use Rattle.hlc_rows.specs.declared.limits.BodyFault.TheVariants.{NoWrites, TooManyWrites, KeyTwice}
-use Rattle.hlc_rows.specs.declared.limits.TheConstants.{MOST_WRITES}
+use Rattle.hlc_rows.specs.declared.limits.TheConstants.{MAX_WRITES}
 use Rattle.hlc_rows.specs.Writes.{first_of, writes_twice, writes_refusal, batch_refusal}
 
 -- of two reasons there is none
@@ -27,7 +27,7 @@ pub record Good (writes : List Write) : Type 0 where
 pub good : (writes : List Write) → batch_refusal writes ≡ None → Good writes
 good writes h =
     let some = if-none (eqb (length writes) 0) NoWrites _ h in
-    let few = if-none (ltb MOST_WRITES (length writes)) TooManyWrites _ some.1 in
+    let few = if-none (ltb MAX_WRITES (length writes)) TooManyWrites _ some.1 in
     let once = if-none (writes_twice writes) KeyTwice _ few.1 in record {
       some = eqb-false (length writes) 0 some.0;
       few = ltb-false 256 (length writes) few.0;

@@ -5,7 +5,7 @@ use Rattle.std.specs.Prelude.{if◌then◌else◌, slice_index}
 use Rattle.std.specs.Str.{bytes_eq}
 use Rattle.hlc_rows.specs.declared.limits.BodyFault.{BodyFault}
 use Rattle.hlc_rows.specs.declared.limits.BodyFault.TheVariants.{NoWrites, TooManyWrites, KeyTwice}
-use Rattle.hlc_rows.specs.declared.limits.TheConstants.{MOST_WRITES}
+use Rattle.hlc_rows.specs.declared.limits.TheConstants.{MAX_WRITES}
 use Rattle.hlc_rows.specs.declared.row.Row.{Row}
 use Rattle.hlc_rows.specs.declared.write.Write.{Write}
 use Rattle.hlc_rows.specs.Limits.{write_refusal}
@@ -39,7 +39,7 @@ all_refusal writes = if writes_twice writes then Some KeyTwice else writes_refus
 abbrev pub batch_refusal : List Write → Option BodyFault
 batch_refusal writes =
     if length writes == 0 then Some NoWrites
-    else if nat_lt MOST_WRITES (length writes) then Some TooManyWrites else all_refusal writes
+    else if nat_lt MAX_WRITES (length writes) then Some TooManyWrites else all_refusal writes
 
 -- the row of a write by this node at this stamp
 abbrev pub row_written : ℕ → ℕ → Write → Row

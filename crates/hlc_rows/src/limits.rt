@@ -3,36 +3,36 @@ ghost use Rattle.std.specs.Prelude.{◌≡◌, option_copied};
 ghost use Rattle.hlc_rows.specs.Limits.{write_refusal};
 ghost use Rattle.hlc_rows.specs.Faults.{body_code};
 ghost use Rattle.hlc_rows.specs.declared.limits.TheConstants.{
-  MOST_KEY_BYTES,
-  MOST_VALUE_BYTES,
-  MOST_WRITES,
+  MAX_KEY_BYTES,
+  MAX_VALUE_BYTES,
+  MAX_WRITES,
 };
 
 use std::error::Error;
 use std::fmt;
 
 /// The maximum number of bytes of a key.
-pub const MOST_KEY_BYTES: usize = 255;
+pub const MAX_KEY_BYTES: usize = 255;
 
 /// The maximum number of bytes of a value.
-pub const MOST_VALUE_BYTES: usize = 65_535;
+pub const MAX_VALUE_BYTES: usize = 65_535;
 
 /// The maximum number of writes of a batch.
-pub const MOST_WRITES: usize = 256;
+pub const MAX_WRITES: usize = 256;
 
 /// A key has at most 255 bytes.
-pub fn most_key_bytes_are_255()
-    ensures { MOST_KEY_BYTES ≡ 255 }
+pub fn max_key_bytes_are_255()
+    ensures { MAX_KEY_BYTES ≡ 255 }
 {}
 
 /// A value has at most 65,535 bytes.
-pub fn most_value_bytes_are_65535()
-    ensures { MOST_VALUE_BYTES ≡ 65535 }
+pub fn max_value_bytes_are_65535()
+    ensures { MAX_VALUE_BYTES ≡ 65535 }
 {}
 
 /// A batch has at most 256 writes.
-pub fn most_writes_are_256()
-    ensures { MOST_WRITES ≡ 256 }
+pub fn max_writes_are_256()
+    ensures { MAX_WRITES ≡ 256 }
 {}
 
 /// Why no item may have this body.
@@ -89,11 +89,11 @@ impl Error for BodyFault {}
 pub fn write_fault(key: &[u8], value: Option<&[u8]>) -> Option<BodyFault>
     ensures { result ≡ write_refusal key.now (option_copied value.entry) }
 {
-    if key.is_empty() || key.len() > MOST_KEY_BYTES {
+    if key.is_empty() || key.len() > MAX_KEY_BYTES {
         return Some(BodyFault::BadKey);
     }
     match value {
-        Some(bytes) if bytes.len() > MOST_VALUE_BYTES => Some(BodyFault::ValueTooLong),
+        Some(bytes) if bytes.len() > MAX_VALUE_BYTES => Some(BodyFault::ValueTooLong),
         _ => None,
     }
 }

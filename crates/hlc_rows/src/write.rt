@@ -6,7 +6,7 @@ ghost use Rattle.hlc_rows.specs.Writes.{all_refusal, batch_refusal, eight_at, fi
 ghost use Rattle.hlc_rows.specs.Writes.{number_of, short_number};
 ghost use Rattle.hlc_rows.specs.Writes.{writes_key};
 
-use crate::limits::{BodyFault, MOST_WRITES, write_fault};
+use crate::limits::{BodyFault, MAX_WRITES, write_fault};
 use crate::writes::Writes;
 use hlc_bytes::Bytes;
 
@@ -178,7 +178,7 @@ pub fn batch_fault(writes: Writes<'_>) -> Option<BodyFault>
     if writes.len() == 0 {
         return Some(BodyFault::NoWrites);
     }
-    if writes.len() > MOST_WRITES {
+    if writes.len() > MAX_WRITES {
         return Some(BodyFault::TooManyWrites);
     }
     if writes.len() < FEW {

@@ -4,7 +4,7 @@ use Rattle.std.specs.Prelude.{not, nat_le, nat_lt, ◌&&◌, Bool, Option, Some,
 use Rattle.std.specs.List.{AllPairs}
 use Rattle.std.specs.Option.{option_map}
 use Rattle.hlc_snapshot.specs.declared.snapshot.Snapshot.{Snapshot}
-use Rattle.hlc_snapshot.specs.declared.registry.TheConstants.{MOST_OPEN}
+use Rattle.hlc_snapshot.specs.declared.registry.TheConstants.{MAX_OPEN_SNAPSHOTS}
 use Rattle.hlc_snapshot.specs.declared.fault.SnapshotFault.{SnapshotFault}
 use Rattle.hlc_snapshot.specs.declared.fault.SnapshotFault.TheVariants.{TooManySnapshots, NumbersSpent, NoMemory}
 
@@ -32,7 +32,7 @@ without id snapshots = filter (λ snapshot. not (snapshot.id == id)) snapshots
 -- the first reason to refuse an opening, except memory, from the number of open snapshots and the number ever opened
 abbrev pub room_refusal : (open_now opened : ℕ) → Option SnapshotFault
 room_refusal open_now opened =
-    if nat_le MOST_OPEN open_now then Some TooManySnapshots
+    if nat_le MAX_OPEN_SNAPSHOTS open_now then Some TooManySnapshots
     else if nat_le 18446744073709551614 opened then Some NumbersSpent
     else None
 
@@ -56,7 +56,7 @@ closed id register = record { snapshots = without id register.snapshots; opened 
 pub record IsRegister (register : RegistryView) : Type 0 where
   pub rising : AllPairs (λ older newer. older.id < newer.id) register.snapshots
   pub bounded : All (λ snapshot. (0 < snapshot.id) × (snapshot.id ≤ register.opened)) register.snapshots
-  pub few : length register.snapshots ≤ MOST_OPEN
+  pub few : length register.snapshots ≤ MAX_OPEN_SNAPSHOTS
   pub in_range : register.opened ≤ 18446744073709551614
 
 -- the newer register is the older one after some openings and closings

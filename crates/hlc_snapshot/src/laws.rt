@@ -1,13 +1,13 @@
 //! What is true of every register, and of the points.
 ghost use Rattle.std.specs.Prelude.{◌≡◌, ◌≢◌, ◌<◌, ◌≤◌, ◌+◌, ℕ, List, [], All, length};
-ghost use Rattle.hlc_snapshot.specs.declared.registry.TheConstants.{MOST_OPEN};
+ghost use Rattle.hlc_snapshot.specs.declared.registry.TheConstants.{MAX_OPEN_SNAPSHOTS};
 ghost use Rattle.hlc_snapshot.specs.RegistryView.{RegistryView, IsRegister, Follows, closed, opened_at, room_refusal};
 ghost use Rattle.hlc_snapshot.specs.RegistryView.{stamp_in};
 ghost use Rattle.hlc_clock.specs.Points.{ArePoints};
 
 /// At most 1,024 snapshots are open.
-pub fn most_open_are_1024()
-    ensures { MOST_OPEN ≡ 1024 }
+pub fn max_open_snapshots_are_1024()
+    ensures { MAX_OPEN_SNAPSHOTS ≡ 1024 }
 {}
 
 /// A new snapshot has an id above all others, and its stamp; the others keep their stamps.

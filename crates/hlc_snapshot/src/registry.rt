@@ -16,7 +16,7 @@ use std::alloc::Global;
 use std::marker::Model;
 
 /// The maximum number of open snapshots.
-pub const MOST_OPEN: usize = 1024;
+pub const MAX_OPEN_SNAPSHOTS: usize = 1024;
 
 /// The open snapshots of a table. In contracts they are in the order in which they were opened,
 /// with the number of snapshots that were ever opened.
@@ -186,7 +186,7 @@ pub fn is_register(snapshots: &[Snapshot], opened: u64) -> bool
     ensures { IsTrue result
         ↔ IsRegister (record { snapshots = snapshots.now; opened = opened }) }
 {
-    if snapshots.len() > MOST_OPEN || opened > u64::MAX - 1 {
+    if snapshots.len() > MAX_OPEN_SNAPSHOTS || opened > u64::MAX - 1 {
         return false;
     }
     do_ids_rise(snapshots, opened)
@@ -245,7 +245,7 @@ fn do_ids_rise(snapshots: &[Snapshot], opened: u64) -> bool
 fn room_fault(open_now: usize, opened: u64) -> Option<SnapshotFault>
     ensures { result ≡ room_refusal open_now opened }
 {
-    if open_now >= MOST_OPEN {
+    if open_now >= MAX_OPEN_SNAPSHOTS {
         return Some(SnapshotFault::TooManySnapshots);
     }
     if opened >= u64::MAX - 1 {

@@ -2,7 +2,7 @@
 use Rattle.std.proofs.Common.{◌≡◌, ℕ, Bool, true, false, ◌≤◌, cond, eqb, ltb, bytes_eq, List, [], ◌∷◌, length}
 use Rattle.std.proofs.Common.{Option, Some, None, refl, arith}
 use Rattle.std.proofs.lemmas.Bool.{or_parts, le-ltb, ne_eqb}
-use Rattle.hlc_rows.specs.declared.limits.TheConstants.{MOST_WRITES}
+use Rattle.hlc_rows.specs.declared.limits.TheConstants.{MAX_WRITES}
 use Rattle.hlc_rows.specs.declared.write.Write.{Write}
 use Rattle.hlc_rows.specs.Limits.{write_refusal}
 use Rattle.hlc_rows.specs.Writes.{writes_key, writes_twice, writes_refusal, batch_refusal}
@@ -58,7 +58,7 @@ none-refused is_of (write ∷ writes) h =
       | false ↦ rest
     ]
 
-of-none : (writes : List Write) → ltb MOST_WRITES (length writes) ≡ false → writes_twice writes ≡ false
+of-none : (writes : List Write) → ltb MAX_WRITES (length writes) ≡ false → writes_twice writes ≡ false
     → writes_refusal writes ≡ None → body_refusal (batch_of writes) ≡ None
 of-none [] few apart good = refl
 of-none (write ∷ writes) few apart good =

@@ -10,16 +10,18 @@ use Rattle.hlc_heads.proofs.LowLemmas.{low-same}
 use Rattle.hlc_snapshot.specs.declared.snapshot.Snapshot.{Snapshot}
 use Rattle.hlc_snapshot.specs.RegistryView.{stamps, without}
 use Rattle.hlc_vacuum.specs.Representing.{RowsRepresent, count_above}
-use Rattle.hlc_core.specs.Past.{Step, Trimmed, numbered, count, head, retired, top, floor, horizon}
-use Rattle.hlc_core.specs.Past.{vacuumed as last_vacuum, trimmed as dropped_by, writes, item_rows, opened as opened_by, open_snapshots, IsLegal}
+use Rattle.hlc_core.specs.Past.{Step, PartVacuumed, numbered, count, head, retired, top, floor, horizon}
+use Rattle.hlc_core.specs.Past.{vacuumed as last_vacuum, part_dropped as dropped_by, writes, item_rows}
+use Rattle.hlc_core.specs.Past.{opened as opened_by, open_snapshots, IsLegal}
 use Rattle.hlc_core.specs.Parts.{rows_of_keys}
 use Rattle.hlc_core.specs.StoreView.{StoreView, nodes, with_rows_left, Represents}
 use Rattle.hlc_core.proofs.PartLemmas.{answer-of_keys}
 use Rattle.hlc_core.proofs.PastLemmas.{vacuum-none, vacuum-above, horizon-low, writes-row_set}
 use Rattle.hlc_split.specs.Split.{past_in, RepresentsPart}
-use Rattle.hlc_split.specs.OwnPast.{IsOwnPast, began, took, opened, closed, joined, vacuumed, trimmed}
+use Rattle.hlc_split.specs.OwnPast.{IsOwnPast, began, took, opened, closed, joined, vacuumed, part_dropped}
 use Rattle.hlc_split.proofs.SamePast.{numbered-in, count-in, head-in, retired-in, retires-in, top-in, horizon-in}
-use Rattle.hlc_split.proofs.SamePast.{opened-in, snapshots-in, vacuumed-in, trimmed-in, last-in, writes-in, floor-in, body_rows-in}
+use Rattle.hlc_split.proofs.SamePast.{opened-in, snapshots-in, vacuumed-in, part_dropped-in, last-in, writes-in}
+use Rattle.hlc_split.proofs.SamePast.{floor-in, body_rows-in}
 use Rattle.hlc_split.proofs.LegalPast.{legal-in}
 use Rattle.hlc_split.proofs.PartRows.{positive, all-above, fewer}
 use Rattle.hlc_split.proofs.Merging.{merged, filter-all}
@@ -108,7 +110,7 @@ has-whole is_of (vacuumed {past} {own} at before) =
       snapshots = h.snapshots;
       rows = h.rows;
     }
-has-whole is_of (trimmed {past} {own} at dropped before) =
+has-whole is_of (part_dropped {past} {own} at dropped before) =
     let h = has-whole is_of before in
     record {
       many = h.many;
@@ -132,7 +134,7 @@ horizon-up is_of n (joined node start before) legal = horizon-up is_of n before 
 horizon-up is_of n (vacuumed {past} {own} at before) legal =
     let old : horizon past ≤ horizon own = horizon-up is_of n before legal.1 in
     let up : horizon own ≤ at = vacuum-above n own at legal.0 in omega arith
-horizon-up is_of n (trimmed {past} {own} at dropped before) legal =
+horizon-up is_of n (part_dropped {past} {own} at dropped before) legal =
     let old : horizon past ≤ horizon own = horizon-up is_of n before legal.1 in
     let up : horizon own ≤ at = vacuum-above n own at legal.0 in omega arith
 
@@ -176,7 +178,7 @@ pub own-parts_merge : (left right : StoreView) (past own_left own_right : List S
     → IsOwnPast (λ key. not (is_of key)) past own_right → Represents left own_left → Represents right own_right
     → left.horizon ≡ right.horizon
     → RepresentsPart (λ _. true) (with_rows_left left (left.rows ++ right.rows) left.horizon)
-    (Trimmed left.horizon 0 ∷ past)
+    (PartVacuumed left.horizon 0 ∷ past)
 own-parts_merge left right past own_left own_right is_of legal is_left is_right l r same =
     let always : List ℕ → Bool = λ _. true in
     let at : ℕ = left.horizon in
@@ -198,9 +200,9 @@ own-parts_merge left right past own_left own_right is_of legal is_left is_right 
       dropped = length (writes past) - length rows;
       represents = record {
         legal = (
-          vacuum-none (nodes left) (Trimmed at 0 ∷ p) at
-              (let same_floor : floor (nodes left) (Trimmed at 0 ∷ p) ≡ floor (nodes left) p = refl in omega arith)
-              (let here : horizon (Trimmed at 0 ∷ p) ≡ at = refl in omega arith),
+          vacuum-none (nodes left) (PartVacuumed at 0 ∷ p) at
+              (let same_floor : floor (nodes left) (PartVacuumed at 0 ∷ p) ≡ floor (nodes left) p = refl in omega arith)
+              (let here : horizon (PartVacuumed at 0 ∷ p) ≡ at = refl in omega arith),
           (vacuum-none (nodes left) p at (omega arith) (omega arith), legal'),
         );
         many = l.many ∙ whole.many (nodes left) ∙ sym (numbered-in always (nodes left) past);
@@ -214,7 +216,7 @@ own-parts_merge left right past own_left own_right is_of legal is_left is_right 
         stored = (
           [],
           last-in always past,
-          (let t : dropped_by p ≡ 0 = trimmed-in always past in
+          (let t : dropped_by p ≡ 0 = part_dropped-in always past in
               let v : count_above (last_vacuum p) (writes p) ≡ count_above 0 (writes p) =
               ap (λ k. count_above k (writes p)) (vacuumed-in always past) in
               let c : count_above 0 (writes p) ≡ length (writes p) =
@@ -232,7 +234,7 @@ pub own_merged_represents : (left right made : StoreView) (past own_left own_rig
     → made ≡ with_rows_left left (left.rows ++ right.rows) left.horizon → left.horizon ≡ right.horizon
     → IsLegal (nodes left) past → IsOwnPast is_of past own_left
     → IsOwnPast (λ key. not (is_of key)) past own_right → Represents left own_left → Represents right own_right
-    → RepresentsPart (λ _. true) made (Trimmed left.horizon 0 ∷ past)
+    → RepresentsPart (λ _. true) made (PartVacuumed left.horizon 0 ∷ past)
 own_merged_represents left right made past own_left own_right is_of is same legal is_left is_right l r =
-    subst (λ kept. RepresentsPart (λ _. true) kept (Trimmed left.horizon 0 ∷ past)) (sym is)
+    subst (λ kept. RepresentsPart (λ _. true) kept (PartVacuumed left.horizon 0 ∷ past)) (sym is)
     (own-parts_merge left right past own_left own_right is_of legal is_left is_right l r same)

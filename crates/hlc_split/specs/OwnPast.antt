@@ -1,7 +1,7 @@
 -- The own past of the store of the keys of a kind, which was a part of a whole store and went on.
 use Rattle.std.specs.Prelude.{ℕ, Bool, List, ◌∷◌}
 use Rattle.hlc_node.specs.declared.item.Item.{Item}
-use Rattle.hlc_core.specs.Past.{Step, Took, Opened, Closed, Vacuumed, Trimmed, Joined, horizon}
+use Rattle.hlc_core.specs.Past.{Step, Took, Opened, Closed, Vacuumed, PartVacuumed, Joined, horizon}
 use Rattle.hlc_split.specs.Split.{item_in, past_in}
 
 -- The past of the whole store, and that of the store of these keys: it began as a part of the whole (`RepresentsPart`),
@@ -9,7 +9,7 @@ use Rattle.hlc_split.specs.Split.{item_in, past_in}
 -- whole was not vacuumed since.
 pub data IsOwnPast (is_of : List ℕ → Bool) : List Step → List Step → Type 0 where
   began : (past : List Step) (dropped : ℕ)
-      → IsOwnPast is_of past (Trimmed (horizon past) dropped ∷ past_in is_of past)
+      → IsOwnPast is_of past (PartVacuumed (horizon past) dropped ∷ past_in is_of past)
   took : {past own : List Step} (item : Item) → IsOwnPast is_of past own
       → IsOwnPast is_of (Took item ∷ past) (Took (item_in is_of item) ∷ own)
   opened : {past own : List Step} (stamp : ℕ) → IsOwnPast is_of past own
@@ -19,5 +19,5 @@ pub data IsOwnPast (is_of : List ℕ → Bool) : List Step → List Step → Typ
   joined : {past own : List Step} (node start : ℕ) → IsOwnPast is_of past own
       → IsOwnPast is_of (Joined node start ∷ past) (Joined node start ∷ own)
   vacuumed : {past own : List Step} (at : ℕ) → IsOwnPast is_of past own → IsOwnPast is_of past (Vacuumed at ∷ own)
-  trimmed : {past own : List Step} (at dropped : ℕ) → IsOwnPast is_of past own
-      → IsOwnPast is_of past (Trimmed at dropped ∷ own)
+  part_dropped : {past own : List Step} (at dropped : ℕ) → IsOwnPast is_of past own
+      → IsOwnPast is_of past (PartVacuumed at dropped ∷ own)

@@ -1,7 +1,7 @@
 //! Two checkpoints joined into one.
 ghost use Rattle.std.specs.Prelude.{◌≡◌, ◌++◌, ◌∷◌, ◌↔◌, ⊤, not, true, All, IfOk, IfErr, IsTrue, List};
 ghost use Rattle.std.specs.Prelude.{ℕ, Bool, MatchOption};
-ghost use Rattle.hlc_core.specs.Past.{Step, Trimmed, IsLegal};
+ghost use Rattle.hlc_core.specs.Past.{Step, PartVacuumed, IsLegal};
 ghost use Rattle.hlc_core.specs.StoreView.{nodes, with_rows_left, Represents};
 ghost use Rattle.hlc_split.specs.Split.{RepresentsPart, is_under, is_from};
 ghost use Rattle.hlc_split.specs.OwnPast.{IsOwnPast};
@@ -93,7 +93,7 @@ pub fn merge(left: Checkpoint, right: Checkpoint) -> Result<Checkpoint, MergeFau
         → IsLegal (nodes left) past → IsOwnPast is_of past own_left
         → IsOwnPast (λ key. not (is_of key)) past own_right
         → Represents left own_left → Represents right own_right
-        → IfOk result (λ made. RepresentsPart (λ _. true) made (Trimmed left.horizon 0 ∷ past)) }
+        → IfOk result (λ made. RepresentsPart (λ _. true) made (PartVacuumed left.horizon 0 ∷ past)) }
     ensures divided { IfOk result (λ _. IsReason left right no_memory) }
     ensures err { IfErr result (IsReason left right) }
 {

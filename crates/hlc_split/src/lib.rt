@@ -6,19 +6,19 @@ mod joining;
 
 ghost use Rattle.std.specs.Prelude.{◌≡◌, ◌<◌, ◌≤◌, ◌++◌, ◌∷◌, ℕ, Bool, true, not, List};
 ghost use Rattle.hlc_rows.specs.Rows.{answer};
-ghost use Rattle.hlc_core.specs.Past.{Step, Trimmed, IsLegal, writes, floor, horizon, open_snapshots};
+ghost use Rattle.hlc_core.specs.Past.{Step, PartVacuumed, IsLegal, writes, floor, horizon, open_snapshots};
 ghost use Rattle.hlc_core.specs.StoreView.{StoreView, nodes, with_rows_left, Represents};
 ghost use Rattle.hlc_checkpoint.specs.Checkpoint.{IsCheckpoint};
 ghost use Rattle.hlc_witness.specs.Certificate.{RowsAscend};
-ghost use Rattle.hlc_heads.specs.declared.heads.TheConstants.{MOST_NODES};
+ghost use Rattle.hlc_heads.specs.declared.heads.TheConstants.{MAX_INITIAL_NODES};
 ghost use Rattle.hlc_split.specs.Split.{RepresentsPart, part_of, past_in};
 ghost use Rattle.hlc_split.specs.OwnPast.{IsOwnPast};
 
 pub use halves::split;
 pub use joining::{MergeFault, merge};
 
-/// The rows of the keys of one kind, with a store's links, snapshots and horizon, are a store of these keys: it represents
-/// the store's past, in which items of other keys were reports.
+/// The rows of the keys of one kind, with a store's links, snapshots and horizon, are a store of these keys: it
+/// represents the store's past, in which items of other keys were reports.
 pub fn ranges_represent_their_part()
     ensures { (kept : StoreView) (past : List Step) (is_of : List ℕ → Bool) → Represents kept past
         → RepresentsPart is_of (part_of is_of kept) past }
@@ -39,11 +39,11 @@ pub fn ranges_answer_alike()
 /// A part of a checkpoint is a checkpoint, so `Core::restore` refuses it only if memory runs out.
 pub fn parts_restore()
     ensures { (kept : StoreView) (past : List Step) (is_of : List ℕ → Bool) → Represents kept past
-        → 0 < nodes kept → nodes kept ≤ MOST_NODES → RowsAscend kept.rows → IsCheckpoint (part_of is_of kept) }
+        → 0 < nodes kept → nodes kept ≤ MAX_INITIAL_NODES → RowsAscend kept.rows → IsCheckpoint (part_of is_of kept) }
 {}
 
-/// The stores of the keys of a kind and of the others, of one past, are together a store of all keys: one with the rows of
-/// both. It represents that past, in which vacuums are parts of one.
+/// The stores of the keys of a kind and of the others, of one past, are together a store of all keys: one with the rows
+/// of both. It represents that past, in which vacuums are parts of one.
 pub fn parts_merge()
     ensures { (left right : StoreView) (past : List Step) (is_of : List ℕ → Bool) → IsLegal (nodes left) past
         → RepresentsPart is_of left past → RepresentsPart (λ key. not (is_of key)) right past
@@ -59,7 +59,7 @@ pub fn vacuumed_parts_merge()
         → IsOwnPast (λ key. not (is_of key)) past own_right
         → Represents left own_left → Represents right own_right → left.horizon ≡ right.horizon
         → RepresentsPart (λ _. true) (with_rows_left left (left.rows ++ right.rows) left.horizon)
-        (Trimmed left.horizon 0 ∷ past) }
+        (PartVacuumed left.horizon 0 ∷ past) }
     ensures answers { (left right : StoreView) (past own_left own_right : List Step) (is_of : List ℕ → Bool)
         (key : List ℕ) (stamp : ℕ) → IsLegal (nodes left) past → IsOwnPast is_of past own_left
         → IsOwnPast (λ key. not (is_of key)) past own_right

@@ -18,26 +18,26 @@ use hlc_values::NoMemory;
 use std::alloc::Global;
 
 /// The maximum number of bytes of an item that is no batch.
-pub const MOST_ITEM_BYTES: usize = 65_814;
+pub const MAX_ITEM_BYTES: usize = 65_814;
 
 /// The maximum number of bytes of an item.
-pub const MOST_BATCH_BYTES: usize = 16_843_285;
+pub const MAX_BATCH_BYTES: usize = 16_843_285;
 
 /// An item of one write has at most 65,814 bytes: 1 of version, 2 of node, 8 of number, 8 of stamp, 1 of kind,
 /// 1 and at most 255 of key, 1 and 2 and at most 65,535 of value.
-pub fn most_item_bytes_are_65814()
-    ensures { MOST_ITEM_BYTES ≡ 65814 }
+pub fn max_item_bytes_are_65814()
+    ensures { MAX_ITEM_BYTES ≡ 65814 }
 {}
 
 /// An item of a batch has at most 16,843,285 bytes: 20 up to the kind, 1 of count, and at most 256 writes of 65,794.
-pub fn most_batch_bytes_are_16843285()
-    ensures { MOST_BATCH_BYTES ≡ 16843285 }
+pub fn max_batch_bytes_are_16843285()
+    ensures { MAX_BATCH_BYTES ≡ 16843285 }
 {}
 
 /// Reads the item from its encoding, which is all of the bytes.
 ///
-/// The error is the first fault from the left; or, if there is none, that memory ran out for a batch, or for the copy of
-/// a write's key or value.
+/// The error is the first fault from the left; or, if there is none, that memory ran out for a batch, or for the copy
+/// of a write's key or value.
 pub fn decode_item(alloc: Global, bytes: &[u8]) -> Result<Item, DecodeError>
     // The bytes are the encoding of the item that is read.
     ensures found { IfOk result (λ item. ItemFits item × (bytes.now ≡ item_bytes item)) }
@@ -67,7 +67,7 @@ fn all(alloc: Global, bytes: &[u8]) -> Result<Item, DecodeError>
     Ok(copy)
 }
 
-/// Returns the one encoding of an item, of at most `MOST_ITEM_BYTES` bytes, or `MOST_BATCH_BYTES` for a batch.
+/// Returns the one encoding of an item, of at most `MAX_ITEM_BYTES` bytes, or `MAX_BATCH_BYTES` for a batch.
 ///
 /// Refused, in this order: the first reason to refuse its body; out of memory.
 pub fn encode_item(alloc: Global, item: &Item) -> Result<Vec<u8>, EncodeError>

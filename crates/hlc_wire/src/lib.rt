@@ -17,8 +17,8 @@ pub use fields::{
 };
 pub use hlc_node::{Body, BodyFault, Bytes, Item, ItemRef, Listed, Message, Write, Writes};
 pub use item::{
-    MOST_BATCH_BYTES, MOST_ITEM_BYTES, copy_item, decode_item, encode_item, item_ref_at, item_size,
-    most_batch_bytes_are_16843285, most_item_bytes_are_65814, put_item,
+    MAX_BATCH_BYTES, MAX_ITEM_BYTES, copy_item, decode_item, encode_item, item_ref_at, item_size,
+    max_batch_bytes_are_16843285, max_item_bytes_are_65814, put_item,
 };
 pub use message::{
     MESSAGE_BYTES, decode_message, encode_message, message_at, message_bytes_are_11, put_message,

@@ -8,7 +8,7 @@ use Rattle.hlc_events.specs.declared.event.CoreEvent.{CoreEvent}
 use Rattle.hlc_events.specs.declared.event.CoreEvent.TheVariants as core_event
 use Rattle.hlc_core.specs.declared.reply.CoreReply.{CoreReply}
 use Rattle.hlc_core.specs.declared.reply.CoreReply.TheVariants as core_reply
-use Rattle.hlc_heads.specs.declared.heads.TheConstants.{MOST_NUMBERS}
+use Rattle.hlc_heads.specs.declared.heads.TheConstants.{MAX_NODES}
 use Rattle.hlc_heads.specs.declared.heads.JoinFault.TheVariants.{TooManyNodes, BelowFloor}
 use Rattle.hlc_events.specs.declared.fault.CoreFault.TheVariants.{Join as joining}
 use Rattle.hlc_core.specs.Past.{Step, numbered, floor, horizon, stamp_of, join_refusal, join_at_refusal, open_refusal}
@@ -82,9 +82,9 @@ no-list (Some stamp) h e = absurd (cc)
 starts : (nodes : ℕ) (past : List Step) (start : ℕ) → join_at_refusal nodes past start ≡ None
     → (join_refusal nodes past ≡ None) × (floor nodes past ≤ start)
 starts nodes past start none =
-    elim (cases_lt (numbered nodes past) MOST_NUMBERS) [
+    elim (cases_lt (numbered nodes past) MAX_NODES) [
       | inl few ↦
-          let f = lt-leb MOST_NUMBERS (numbered nodes past) few in (
+          let f = lt-leb MAX_NODES (numbered nodes past) few in (
             cond-false _ _ _ f,
             elim (cases_lt start (floor nodes past)) [
               | inl below ↦ absurd (let e : Some (joining (BelowFloor (floor nodes past))) ≡ None =
@@ -93,7 +93,7 @@ starts nodes past start none =
             ],
           )
       | inr full ↦ absurd (let e : Some (joining TooManyNodes) ≡ None =
-          sym (cond-true _ _ _ (le-leb MOST_NUMBERS (numbered nodes past) full)) ∙ none in cc)
+          sym (cond-true _ _ _ (le-leb MAX_NODES (numbered nodes past) full)) ∙ none in cc)
     ]
 
 past-step : (nodes : ℕ) (past : List Step) (event : CoreEvent) (reply : CoreReply) → IsExpected nodes past event reply

@@ -4,7 +4,7 @@ use Rattle.std.proofs.Common.{ap, sym, ◌∙◌, subst, inl, inr, arith, length
 use Rattle.std.specs.Prelude.{⊤, slice_get}
 use Rattle.std.proofs.lemmas.Bool.{cond-true, cond-false, lt-leb, le-leb, cases_eq}
 use Rattle.hlc_node.specs.declared.item.Item.{Item}
-use Rattle.hlc_heads.specs.declared.heads.TheConstants.{MOST_NUMBERS}
+use Rattle.hlc_heads.specs.declared.heads.TheConstants.{MAX_NODES}
 use Rattle.hlc_events.specs.declared.fault.CoreFault.{CoreFault}
 use Rattle.hlc_core.specs.Past.{Joined as JoinedOf, numbered, floor, join_refusal}
 use Rattle.hlc_core.specs.StoreView.{StoreView, nodes, Represents as CoreRepresents}
@@ -92,19 +92,19 @@ joins state s node start core h same none is at represents =
     }
 
 -- none joined: 1,024 numbers are assigned
-pub joins_full : (state : WorldView) (s : List (Event × Reply)) → Represents state s → MOST_NUMBERS ≤ length state.nodes
+pub joins_full : (state : WorldView) (s : List (Event × Reply)) → Represents state s → MAX_NODES ≤ length state.nodes
     → Represents state ((Join, Refused (Store (joining TooManyNodes))) ∷ s)
 joins_full state s h full =
     stays state s Join (Store (joining TooManyNodes)) refl
-    (inl (ap core_refusal (cond-true _ _ _ (le-leb MOST_NUMBERS (numbered (world_nodes state) (core_past s))
+    (inl (ap core_refusal (cond-true _ _ _ (le-leb MAX_NODES (numbered (world_nodes state) (core_past s))
     (let m = h.many in omega (arith, m)))))) h
 
 -- or it is out of memory
-pub joins_lost : (state : WorldView) (s : List (Event × Reply)) → Represents state s → length state.nodes < MOST_NUMBERS
+pub joins_lost : (state : WorldView) (s : List (Event × Reply)) → Represents state s → length state.nodes < MAX_NODES
     → Represents state ((Join, Refused NoMemory) ∷ s)
 joins_lost state s h few =
     let none : join_refusal (world_nodes state) (core_past s) ≡ None =
-    cond-false _ _ _ (lt-leb MOST_NUMBERS (numbered (world_nodes state) (core_past s))
+    cond-false _ _ _ (lt-leb MAX_NODES (numbered (world_nodes state) (core_past s))
     (let m = h.many in omega (arith, m))) in
     stays state s Join NoMemory refl (inr (ap core_refusal none, refl, tt)) h
 

@@ -9,7 +9,8 @@ use Rattle.hlc_snapshot.proofs.RegisterLemmas.{stamp_in-push_cases, stamp_in-wit
 use Rattle.hlc_events.specs.declared.event.CoreEvent.{CoreEvent}
 use Rattle.hlc_core.specs.declared.reply.CoreReply.{CoreReply}
 use Rattle.hlc_core.specs.History.{step_of, with_step, past_of}
-use Rattle.hlc_core.specs.Past.{Step, Took, Opened, Closed as ClosedOf, Vacuumed as VacuumedOf, Trimmed as TrimmedOf}
+use Rattle.hlc_core.specs.Past.{Step, Took, Opened, Closed as ClosedOf, Vacuumed as VacuumedOf}
+use Rattle.hlc_core.specs.Past.{PartVacuumed as PartVacuumedOf}
 use Rattle.hlc_core.specs.Past.{Joined as JoinedOf, opened, open_snapshots, stamp_of}
 use Rattle.hlc_world.specs.Schedule.{Event}
 use Rattle.hlc_world.specs.declared.event.Event.TheVariants.{OpenAt, OpenFloor, Observe}
@@ -32,7 +33,7 @@ opening-low [] id stamp is = absurd (cc)
 opening-low (Took item ∷ past) id stamp is = opening-low past id stamp is
 opening-low (ClosedOf other ∷ past) id stamp is = opening-low past id stamp is
 opening-low (VacuumedOf at ∷ past) id stamp is = opening-low past id stamp is
-opening-low (TrimmedOf at dropped ∷ past) id stamp is = opening-low past id stamp is
+opening-low (PartVacuumedOf at dropped ∷ past) id stamp is = opening-low past id stamp is
 opening-low (JoinedOf node start ∷ past) id stamp is = opening-low past id stamp is
 opening-low (Opened at ∷ past) id stamp is =
     elim (cases_eq (opened past + 1) id) [
@@ -47,7 +48,7 @@ opening-stays : (step : Step) (past : List Step) (id stamp : ℕ) → opening id
 opening-stays (Took item) past id stamp is = is
 opening-stays (ClosedOf other) past id stamp is = is
 opening-stays (VacuumedOf at) past id stamp is = is
-opening-stays (TrimmedOf at dropped) past id stamp is = is
+opening-stays (PartVacuumedOf at dropped) past id stamp is = is
 opening-stays (JoinedOf node start) past id stamp is = is
 opening-stays (Opened at) past id stamp is =
     cond-false _ _ _ (ne_eqb (opened past + 1) id
@@ -71,7 +72,7 @@ open-opening : (past : List Step) (id stamp : ℕ) → stamp_of id past ≡ Some
 open-opening [] id stamp is = absurd (cc)
 open-opening (Took item ∷ past) id stamp is = open-opening past id stamp is
 open-opening (VacuumedOf at ∷ past) id stamp is = open-opening past id stamp is
-open-opening (TrimmedOf at dropped ∷ past) id stamp is = open-opening past id stamp is
+open-opening (PartVacuumedOf at dropped ∷ past) id stamp is = open-opening past id stamp is
 open-opening (JoinedOf node start ∷ past) id stamp is = open-opening past id stamp is
 open-opening (Opened at ∷ past) id stamp is =
     elim (stamp_in-push_cases id stamp (record { id = opened past + 1; stamp = at }) (open_snapshots past) is) [

@@ -12,7 +12,7 @@ use Rattle.hlc_node.specs.declared.item.Message.{Message}
 use Rattle.hlc_node.specs.declared.node.NodeFault.{NodeFault}
 use Rattle.hlc_node.specs.declared.node.NodeFault.TheVariants as node_fault
 use Rattle.hlc_node.specs.Node.{expected_issue}
-use Rattle.hlc_heads.specs.declared.heads.TheConstants.{MOST_NUMBERS}
+use Rattle.hlc_heads.specs.declared.heads.TheConstants.{MAX_NODES}
 use Rattle.hlc_core.specs.Calls.{list_refusal}
 use Rattle.hlc_core.specs.Past.{Step, numbered, retired, count, floor, horizon, opened, stamp_of, open_snapshots}
 use Rattle.hlc_core.specs.Past.{join_refusal, of_room, open_refusal}
@@ -102,7 +102,7 @@ snapshot-rise (Some stamp) head e = absurd (cc)
 
 join-rise : (nodes : ℕ) (past : List Step) → IsRise (core_refusal (join_refusal nodes past))
 join-rise nodes past head e =
-    elim (cases_Bool (nat_le MOST_NUMBERS (numbered nodes past))) [
+    elim (cases_Bool (nat_le MAX_NODES (numbered nodes past))) [
       | inl full ↦ absurd (let g : Some (Store (joining TooManyNodes)) ≡ Some (StampNotRising head) =
           ap core_refusal (sym (cond-true _ _ _ full)) ∙ e in cc)
       | inr room ↦ absurd

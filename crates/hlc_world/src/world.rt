@@ -20,7 +20,7 @@ use crate::refusal::Refusal;
 use crate::reply::Reply;
 use hlc_clock::Stamp;
 use hlc_core::{Core, CoreFault, JoinFault, NoMemory};
-use hlc_heads::MOST_NUMBERS;
+use hlc_heads::MAX_NODES;
 use hlc_node::{Bytes, Item, NodeFault};
 use std::alloc::Global;
 use std::marker::Model;
@@ -310,7 +310,7 @@ impl World {
         ensures unchanged { IsRefused result → self.new ≡ self.old }
         ensures nodes { world_nodes self.new ≡ world_nodes self.old }
     {
-        if self.nodes.len() >= MOST_NUMBERS as usize {
+        if self.nodes.len() >= MAX_NODES as usize {
             return Reply::Refused(Refusal::Store(CoreFault::Join(JoinFault::TooManyNodes)));
         }
         if self.nodes.try_reserve(1).is_err() {

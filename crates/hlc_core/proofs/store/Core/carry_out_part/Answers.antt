@@ -5,7 +5,7 @@ use Rattle.hlc_vacuum.specs.Part.{IsPartVacuum}
 use Rattle.hlc_core.specs.PlanAt.{IsPartPlanAt}
 use Rattle.hlc_core.proofs.Consistent.{consistent-fewer}
 use Rattle.hlc_core.proofs.Sound.{sound-vacuum}
-use Rattle.hlc_core.proofs.TrimLemmas.{part-trims}
+use Rattle.hlc_core.proofs.PartVacuumLemmas.{part-vacuums_keys}
 use Rattle.hlc_core.proofs.store.Core.carry_out_part.Goals as goal
 
 pub apply_part-made-requires : goal.apply_part-made-requires
@@ -29,6 +29,6 @@ returns-clause-vacuums c = λ past after most h plan.
     c.apply_part-made.ensures.report (c.apply_part-made.ensures.vacuumed after most planned.made) in
     rw (← c.self.view_is)
     (rw (c.apply_part-made.ensures.report, c.apply_part-made.ensures.end)
-    (part-trims _ c.args.at past after most c.args.part c.apply_part-made.new.table
+    (part-vacuums_keys _ c.args.at past after most c.args.part c.apply_part-made.new.table
     (rw (← c.self.view_is) at h) (rw (← c.self.view_is) at c.requires.low) (rw (← c.self.view_is) at c.requires.high)
     planned made))

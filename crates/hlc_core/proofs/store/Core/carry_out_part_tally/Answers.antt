@@ -5,7 +5,7 @@ use Rattle.hlc_vacuum.specs.Part.{with_plan}
 use Rattle.hlc_core.specs.PlanAt.{IsPartTallyAt}
 use Rattle.hlc_core.proofs.Consistent.{consistent-fewer}
 use Rattle.hlc_core.proofs.Sound.{sound-vacuum}
-use Rattle.hlc_core.proofs.TrimLemmas.{part-trims}
+use Rattle.hlc_core.proofs.PartVacuumLemmas.{part-vacuums_keys}
 use Rattle.hlc_core.proofs.store.Core.carry_out_part_tally.Goals as goal
 
 pub apply_part_tally-made-requires : goal.apply_part_tally-made-requires
@@ -31,7 +31,7 @@ invariant_of-self c =
 pub returns-clause-vacuums : goal.returns-clause-vacuums
 returns-clause-vacuums c = λ past after most h tally.
     let of = subst (λ kept. IsPartTallyAt kept c.args.at after most c.args.part) (sym c.self.view_is) tally in
-    let made = part-trims _ c.args.at past after most (with_plan c.args.part of.plan)
+    let made = part-vacuums_keys _ c.args.at past after most (with_plan c.args.part of.plan)
     c.apply_part_tally-made.new.table (rw (← c.self.view_is) at h)
     (rw (← c.self.view_is) at c.requires.low) (rw (← c.self.view_is) at c.requires.high) of.planned
     (c.apply_part_tally-made.ensures.vacuumed after most of.plan of.planned.made of.is) in
@@ -41,7 +41,7 @@ returns-clause-vacuums c = λ past after most h tally.
       made.1,
       record {
         report = report_of of.plan;
-        trims = made.2;
+        vacuums_keys = made.2;
         are = c.apply_part_tally-made.ensures.numbers ∙ ap numbers_in of.is;
       },
     ))

@@ -4,7 +4,7 @@ use Rattle.std.proofs.Common.{rules, ◌≡◌, ◌<◌, ◌≤◌, ◌/◌, ℕ
 use Rattle.std.proofs.Common.{refl, sym, subst, slice_set, ap, arith}
 use Rattle.std.proofs.lemmas.Grind.{common_steps}
 use Rattle.std.proofs.lemmas.List.{get_or_default}
-use Rattle.hlc_heads.specs.declared.heads.TheConstants.{MOST_NUMBERS}
+use Rattle.hlc_heads.specs.declared.heads.TheConstants.{MAX_NODES}
 use Rattle.hlc_heads.specs.declared.groups.TheConstants.{GROUP}
 use Rattle.hlc_heads.specs.Heads.{HeadsView, IsSized, IsFloor, joined}
 use Rattle.hlc_heads.specs.Groups.{AreGroups, group_at}
@@ -18,7 +18,7 @@ invariant_of-self-2 c =
     let marks : HeadsView = record { links = inside.links.items; top = inside.top } in
     let grown : HeadsView = joined marks c.args.start in
     let place : c.len-place.result ≡ length inside.links.items = search rules in
-    let few : length inside.links.items < MOST_NUMBERS = search (rules, common_steps) in
+    let few : length inside.links.items < MAX_NODES = search (rules, common_steps) in
     let size : length inside.groups ≡ GROUP = search (rules, common_steps) in
     let groups : List (Option ℕ) = slice_set inside.groups (c.len-place.result / GROUP) (Some c.lower.result) in
     let lowest : IsLower (group_at inside.groups (c.len-place.result / GROUP)) c.args.start c.lower.result =
@@ -39,7 +39,7 @@ invariant_of-self-2 c =
 
 pub returns-then-lt : goal.returns-then-lt
 returns-then-lt c =
-    let few : length c.args.self.now.links < MOST_NUMBERS = search (rules, common_steps) in
+    let few : length c.args.self.now.links < MAX_NODES = search (rules, common_steps) in
     let below : c.args.start < c.self.inside.floor = search (rules, common_steps) in
     let old : IsFloor c.args.self.now c.self.inside.floor =
     subst (λ m. IsFloor m c.self.inside.floor) c.self.view_is c.self.invariant.1 in
@@ -47,7 +47,7 @@ returns-then-lt c =
 
 pub returns-in_default : goal.returns-in_default
 returns-in_default c =
-    let few : length c.args.self.now.links < MOST_NUMBERS = search (rules, common_steps) in
+    let few : length c.args.self.now.links < MAX_NODES = search (rules, common_steps) in
     let above : c.self.inside.floor ≤ c.args.start = search (rules, common_steps) in
     let old : IsFloor c.args.self.now c.self.inside.floor =
     subst (λ m. IsFloor m c.self.inside.floor) c.self.view_is c.self.invariant.1 in
@@ -56,7 +56,7 @@ returns-in_default c =
 
 pub returns : goal.returns
 returns c =
-    let few : length c.args.self.now.links < MOST_NUMBERS = search (rules, common_steps) in
+    let few : length c.args.self.now.links < MAX_NODES = search (rules, common_steps) in
     let place : c.len-place.result ≡ length c.args.self.now.links = search rules in
     let above : c.self.inside.floor ≤ c.args.start = search (rules, common_steps) in
     let old : IsFloor c.args.self.now c.self.inside.floor =

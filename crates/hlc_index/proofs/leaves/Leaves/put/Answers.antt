@@ -7,8 +7,8 @@ use Rattle.hlc_index.specs.Entries.{entries_in}
 use Rattle.hlc_index.proofs.Joined.{joined_set, many, front_is, back_is, cut_same, cut_front, cut_back}
 use Rattle.hlc_index.proofs.leaves.Leaves.put.Goals as goal
 
-pub returns-then-len-lt-MOST_ENTRIES-clause-ok : goal.returns-then-len-lt-MOST_ENTRIES-clause-ok
-returns-then-len-lt-MOST_ENTRIES-clause-ok g c =
+pub returns-then-len-lt-MAX_ENTRIES-clause-ok : goal.returns-then-len-lt-MAX_ENTRIES-clause-ok
+returns-then-len-lt-MAX_ENTRIES-clause-ok g c =
     on_ok_weaker c.insert.result (λ e. ap entries_in e ∙ joined_set c.args.self.now c.args.at
     (insert (get_or c.args.self.now c.args.at []) c.args.slot c.args.entry) c.requires.leaf) c.insert.ensures.ok
 

@@ -20,28 +20,29 @@ use Rattle.hlc_columns.specs.Answers.{in_part}
 use Rattle.hlc_vacuum.specs.declared.part.PartPlan.{PartPlan}
 use Rattle.hlc_vacuum.specs.Part.{IsPartVacuum}
 use Rattle.hlc_vacuum.proofs.RepresentingLemmas.{vacuums_compose, vacuums_are_certified}
-use Rattle.hlc_core.specs.Past.{Step, Trimmed, floor, horizon, vacuumed, trimmed, open_snapshots, writes, vacuum_refusal}
+use Rattle.hlc_core.specs.Past.{Step, PartVacuumed, floor, horizon, vacuumed, part_dropped, open_snapshots, writes}
+use Rattle.hlc_core.specs.Past.{vacuum_refusal}
 use Rattle.hlc_core.specs.Stored.{AreVacuumPoints}
 use Rattle.hlc_core.specs.StoreView.{StoreView, nodes, with_rows_left, Represents}
 use Rattle.hlc_core.specs.Checkpoint.{floor_in}
 use Rattle.hlc_core.specs.PlanAt.{IsPartPlanAt}
-use Rattle.hlc_core.specs.Parts.{rows_of_keys, Trims, VacuumsPart}
+use Rattle.hlc_core.specs.Parts.{rows_of_keys, VacuumsKeys, VacuumsPart}
 use Rattle.hlc_core.proofs.PastLemmas.{vacuum-above, vacuum-none, writes-limits}
 use Rattle.hlc_core.proofs.CheckpointLemmas.{floor-in}
 use Rattle.hlc_core.proofs.PartLemmas.{represent-of_keys, represent-parts}
 use Rattle.hlc_core.proofs.VacuumLemmas.{fewer-open, more-open, low-open}
 
 -- the rows that it left represent the past with it
-pub trimmed-represents : (kept new : StoreView) (past : List Step) (at dropped : ℕ) → Represents kept past
+pub part_dropped-represents : (kept new : StoreView) (past : List Step) (at dropped : ℕ) → Represents kept past
     → vacuum_refusal (nodes kept) past at ≡ None → new ≡ with_rows_left kept new.rows at
     → RowsRepresent new.rows (writes past) at (stamps (open_snapshots past))
-    → length new.rows + dropped ≡ length kept.rows → Represents new (Trimmed at dropped ∷ past)
-trimmed-represents kept new past at dropped h none is rows count =
-    let was : length kept.rows + trimmed past ≡ length h.stored.0 + count_above (vacuumed past) (writes past) =
+    → length new.rows + dropped ≡ length kept.rows → Represents new (PartVacuumed at dropped ∷ past)
+part_dropped-represents kept new past at dropped h none is rows count =
+    let was : length kept.rows + part_dropped past ≡ length h.stored.0 + count_above (vacuumed past) (writes past) =
     h.stored.2 in
-    let now : length new.rows + (dropped + trimmed past)
+    let now : length new.rows + (dropped + part_dropped past)
     ≡ length h.stored.0 + count_above (vacuumed past) (writes past) = omega arith in
-    let left : Represents (with_rows_left kept new.rows at) (Trimmed at dropped ∷ past) = record {
+    let left : Represents (with_rows_left kept new.rows at) (PartVacuumed at dropped ∷ past) = record {
       legal = (none, h.legal);
       many = h.many;
       links = h.links;
@@ -52,7 +53,7 @@ trimmed-represents kept new past at dropped h none is rows count =
       stored = (h.stored.0, h.stored.1, now);
       horizon = refl;
     } in
-    subst (λ (view : StoreView). Represents view (Trimmed at dropped ∷ past)) (sym is) left
+    subst (λ (view : StoreView). Represents view (PartVacuumed at dropped ∷ past)) (sym is) left
 
 -- the rows of the keys of a kind that part of a vacuum leaves represent all accepted writes of these keys with it
 represents-part : (kept : StoreView) (at : ℕ) (past : List Step) (rows : List Row) (is_of : List ℕ → Bool)
@@ -70,15 +71,16 @@ represents-part kept at past rows is_of report h high are made =
 
 -- Part of a vacuum, of the keys of a kind: the remaining rows represent the past with it, its report is the expected
 -- one, and the remaining rows of these keys at or below its stamp are the fewest.
-pub trims : (kept : StoreView) (at : ℕ) (past : List Step) (rows : List Row) (is_of : List ℕ → Bool) (report : Report)
+pub vacuums_keys : (kept : StoreView) (at : ℕ) (past : List Step) (rows : List Row) (is_of : List ℕ → Bool)
+    (report : Report)
     → Represents kept past → vacuum_refusal (nodes kept) past at ≡ None → AreVacuumPoints at past report.points
     → IsRowSet rows
     → rows_of_keys (λ key. not (is_of key)) rows ≡ rows_of_keys (λ key. not (is_of key)) kept.rows
     → IsVacuumOf (rows_of_keys is_of kept.rows) report.points report.witnesses (rows_of_keys is_of rows)
     → report.floor ≡ at → report.kept ≡ length report.witnesses → report.dropped + length rows ≡ length kept.rows
     → report.bytes ≡ rows_cost (rows_to report.floor (rows_of_keys is_of rows))
-    → Trims kept (with_rows_left kept rows at) at past is_of report
-trims kept at past rows is_of report h none are apart others made at_stamp number dropped bytes =
+    → VacuumsKeys kept (with_rows_left kept rows at) at past is_of report
+vacuums_keys kept at past rows is_of report h none are apart others made at_stamp number dropped bytes =
     let opened : List ℕ = stamps_to at (open_snapshots past) in
     let mine : List Row = rows_of_keys is_of rows in
     let all' : List Row = rows_of_keys is_of (writes past) in
@@ -95,7 +97,8 @@ trims kept at past rows is_of report h none are apart others made at_stamp numbe
     ∙ fewest_rows_cost all' (rows_to at mine) report.points report.witnesses after.listed.ascend after.listed.each
     after.fewest.alike after.count in
     record {
-      represents = trimmed-represents kept (with_rows_left kept rows at) past at report.dropped h none refl left count;
+      represents =
+          part_dropped-represents kept (with_rows_left kept rows at) past at report.dropped h none refl left count;
       others = others;
       expected = record {
         at_stamp = at_stamp;
@@ -121,12 +124,12 @@ trims kept at past rows is_of report h none are apart others made at_stamp numbe
     }
 
 -- what was planned for a part at a stamp from the horizon to the floor, and carried out, is part of a vacuum to it
-pub part-trims : (kept : StoreView) (at : ℕ) (past : List Step) (after : List ℕ) (most : ℕ) (part : PartPlan)
+pub part-vacuums_keys : (kept : StoreView) (at : ℕ) (past : List Step) (after : List ℕ) (most : ℕ) (part : PartPlan)
     (rows : List Row) → Represents kept past → at ≤ floor_in kept → kept.horizon ≤ at
     → IsPartPlanAt kept at after most part
     → IsPartVacuum kept.rows rows (in_part after part.end) (report_of part.plan)
     → VacuumsPart kept (with_rows_left kept rows at) at after most past (Ok (report_of part.plan, part.end))
-part-trims kept at past after most part rows h low high planned made =
+part-vacuums_keys kept at past after most part rows h low high planned made =
     let floor-is = floor-in kept past h in
     let below : at ≤ floor (nodes kept) past = omega (arith, low, floor-is) in
     let above : horizon past ≤ at = (let e = h.horizon in omega (arith, high, e)) in
@@ -134,6 +137,7 @@ part-trims kept at past after most part rows h low high planned made =
     let points = subst (λ xs. ArePoints (stamps_to at xs) at part.plan.points) h.snapshots planned.points in (
       none,
       record { columns = planned.made.columns; next = planned.made.next; is = planned.made.end },
-      trims kept at past rows (in_part after part.end) (report_of part.plan) h none points made.row_set made.others
+      vacuums_keys kept at past rows (in_part after part.end) (report_of part.plan) h none points made.row_set
+          made.others
           made.vacuumed (points-last _ _ _ planned.points) made.kept made.dropped made.bytes,
     )
