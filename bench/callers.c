@@ -10,7 +10,9 @@
 #define BATCH 1000
 #define ITEM 64
 
-#define KINDS 20
+#define MANY_KEYS 1000000
+
+#define KINDS 22
 #define LONG 4096
 
 static double least[KINDS];
@@ -94,29 +96,34 @@ static void take_logs(int kind)
     hlc_store_close(&store);
 }
 
-/* Measures writes that a node issues and the store accepts: one by one, or so many in a batch. Each key is so many keys
-   after the one before it. */
-static void take_issued(int kind, int size, int step)
+/* Measures writes that a node issues and the store accepts: one by one, or a batch of `size` at once. There are `keys`
+   keys, of which each is `step` after the one before it. A store of many keys has one version of each before. */
+static void take_issued(int kind, int size, long step, long keys)
 {
     static uint8_t room[HLC_MAX_BATCH * 32];
     hlc_node node = hlc_node_open(0, 0);
-    uint64_t number, stamp, word;
+    uint64_t number, stamp, word, reading = 0;
     uint8_t key[8];
     must(hlc_store_open(&store, 1));
+    for (; keys > KEYS && reading < (uint64_t)keys; reading++) {
+        key_of(key, (int)reading);
+        must(hlc_node_write(&node, reading, key, 8, (const uint8_t *)"value000", 8, &number, &stamp));
+        must(hlc_store_accept_write(&store, 0, number, stamp, key, 8, (const uint8_t *)"value000", 8, &word));
+    }
     double t = now();
-    for (int start = 0; start < WRITES; start += size > 0 ? size : 1) {
+    for (int start = 0; start < WRITES; start += size > 0 ? size : 1, reading++) {
         if (size == 0) {
-            key_of(key, start * step % KEYS);
-            must(hlc_node_write(&node, start, key, 8, (const uint8_t *)"value000", 8, &number, &stamp));
+            key_of(key, start * step % keys);
+            must(hlc_node_write(&node, reading, key, 8, (const uint8_t *)"value000", 8, &number, &stamp));
             must(hlc_store_accept_write(&store, 0, number, stamp, key, 8, (const uint8_t *)"value000", 8, &word));
             continue;
         }
         hlc_batch batch = hlc_batch_in(room, sizeof room);
         for (int i = 0; i < size; i++) {
-            key_of(key, (start + i) * step % KEYS);
+            key_of(key, (start + i) * step % keys);
             must(hlc_batch_write(&batch, key, 8, (const uint8_t *)"value000", 8));
         }
-        must(hlc_node_write_batch(&node, start, batch.count, batch.at, batch.len, &number, &stamp));
+        must(hlc_node_write_batch(&node, reading, batch.count, batch.at, batch.len, &number, &stamp));
         must(hlc_store_accept_batch(&store, 0, number, stamp, batch.count, batch.at, batch.len, &word));
     }
     take(kind, t, WRITES);
@@ -181,18 +188,21 @@ int main(void)
                                    "read, by 1000", "scan, a key", "a write, issued and accepted",
                                    "a batch of 1", "a batch of 10, a key", "a batch of 100, a key",
                                    "read, 8 bytes", "the same in place", "read, 4096 bytes", "the same in place",
-                                   "a write, keys in no order", "a batch of 100 of them, a key" };
+                                   "a write, keys in no order", "a batch of 100 of them, a key",
+                                   "a write, a million keys", "a batch of 100 of them, a key" };
     uint64_t word, id, at, number;
     uint8_t key[8], out[64];
     size_t len;
     for (int run = 0; run < 9; run++) {
         hlc_node node = hlc_node_open(0, 0);
-        take_issued(10, 0, 1);
-        take_issued(11, 1, 1);
-        take_issued(12, 10, 1);
-        take_issued(13, 100, 1);
-        take_issued(18, 0, 389);
-        take_issued(19, 100, 389);
+        take_issued(10, 0, 1, KEYS);
+        take_issued(11, 1, 1, KEYS);
+        take_issued(12, 10, 1, KEYS);
+        take_issued(13, 100, 1, KEYS);
+        take_issued(18, 0, 389, KEYS);
+        take_issued(19, 100, 389, KEYS);
+        take_issued(20, 0, 389171, MANY_KEYS);
+        take_issued(21, 100, 389171, MANY_KEYS);
         take_reads(14, 15, 8);
         take_reads(16, 17, LONG);
         take_logs(7);
