@@ -9,7 +9,7 @@ const AHEAD: usize = 16;
 /// A batch of fewer writes is not looked up ahead.
 const FEW: usize = 4;
 
-/// Guesses where the keys of the next writes are. A guess may be wrong: rows of keys that are new move others.
+/// Guesses where the keys of the next writes are. A guess may be wrong: keys that are new move others.
 #[derive(Debug, Drop)]
 pub struct Ahead {
     places: [(usize, usize); AHEAD],
@@ -44,27 +44,26 @@ impl Ahead {
     }
 }
 
-/// Finds the places of a key and of those of the next writes, each of which may follow the one before it. Returns 0.
+/// Finds the places of a key and of those of the next writes, each of which may follow the one before it, up to the
+/// first key that is new: a search for new keys would be made twice. Returns 0.
 fn look_up(
     columns: &Index<Rows>,
     key: &[u8],
     others: Writes<'_>,
     places: &mut [(usize, usize); AHEAD],
 ) -> usize {
+    *places = [(usize::MAX, 0); AHEAD];
     let mut near = (usize::MAX, 0);
     let mut sum = 0u64;
     let mut key = key;
     let mut rest = others;
     for i in 0..AHEAD {
-        near = match columns.locate_near(key, near) {
-            Ok(found) => {
-                sum = sum.wrapping_add(columns.leaf(found.0)[found.1].1.fetched());
-                found
-            }
-            Err(gap) => gap,
+        let Ok((at, slot)) = columns.locate_near(key, near) else {
+            break;
         };
-        places[i] = near;
-        near.1 = near.1.saturating_add(1);
+        sum = sum.wrapping_add(columns.leaf(at)[slot].1.fetched());
+        places[i] = (at, slot);
+        near = (at, slot.saturating_add(1));
         let Some((next, others)) = rest.split_first() else {
             break;
         };
