@@ -13,6 +13,7 @@ returns-else-room-value c =
     rw c.in-Some.is (
       omega (arith, start, end),
       omega (arith, start, end, short, fits),
-      put_both c.args.at c.put_bytes-start.result (1 ∷ []) (sized c.in-Some.value.now) c.args.out.now c.put_bytes-start.new.out
-          c.put_sized.new.out c.put_bytes-start.ensures.put start c.put_sized.ensures.put (omega (arith, short, fits)),
+      put_both c.args.at c.put_bytes-start.result (1 ∷ []) (sized c.in-Some.value.now) c.args.out.now
+          c.put_bytes-start.new.out c.put_sized.new.out c.put_bytes-start.ensures.put start c.put_sized.ensures.put
+          (omega (arith, short, fits)),
     )

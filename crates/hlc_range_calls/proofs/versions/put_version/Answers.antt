@@ -14,5 +14,5 @@ returns-clause-put c =
     put_three c.args.at c.put_bytes-middle.result c.put_bytes-start.result (to_le_bytes w64 c.args.stamp)
     (to_le_bytes w16 c.args.node) (answer_bytes (option_copied c.args.value)) c.args.out.now c.put_bytes-middle.new.out
     c.put_bytes-start.new.out c.put_answer.new.out (rw stamp at c.put_bytes-middle.ensures.put)
-    (rw stamp at c.put_bytes-middle.ensures.end) (rw node at c.put_bytes-start.ensures.put) (rw node at c.put_bytes-start.ensures.end)
-    c.put_answer.ensures.put c.requires
+    (rw stamp at c.put_bytes-middle.ensures.end) (rw node at c.put_bytes-start.ensures.put)
+    (rw node at c.put_bytes-start.ensures.end) c.put_answer.ensures.put c.requires
