@@ -44,8 +44,9 @@ impl Ahead {
     }
 }
 
-/// Finds the places of a key and of those of the next writes, each of which may follow the one before it, up to the
-/// first key that is new: a search for new keys would be made twice. Returns 0.
+/// Finds the places of a key and of those of the next writes, each of which may follow the one before it. It ends at a
+/// new key in the leaf of the key before it, which is fetched already: the search for a new key is made again when it is
+/// added. Returns 0.
 fn look_up(
     columns: &Index<Rows>,
     key: &[u8],
@@ -58,10 +59,14 @@ fn look_up(
     let mut key = key;
     let mut rest = others;
     for i in 0..AHEAD {
-        let Ok((at, slot)) = columns.locate_near(key, near) else {
-            break;
+        let (at, slot) = match columns.locate_near(key, near) {
+            Ok((at, slot)) => {
+                sum = sum.wrapping_add(columns.leaf(at)[slot].1.fetched());
+                (at, slot)
+            }
+            Err((at, _)) if at == near.0 => break,
+            Err(gap) => gap,
         };
-        sum = sum.wrapping_add(columns.leaf(at)[slot].1.fetched());
         places[i] = (at, slot);
         near = (at, slot.saturating_add(1));
         let Some((next, others)) = rest.split_first() else {
