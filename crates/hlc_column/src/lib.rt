@@ -1,7 +1,6 @@
 //! The rows of one key as columns side by side, in as little memory as they need.
 #![tactic(auto)]
 
-mod ahead;
 mod column;
 mod few;
 mod flags;
@@ -11,7 +10,6 @@ mod rows;
 mod single;
 mod versions;
 
-pub use ahead::Ahead;
 pub use column::Column;
 pub use hlc_clock::Stamp;
 pub use hlc_rows::{Bytes, Row};

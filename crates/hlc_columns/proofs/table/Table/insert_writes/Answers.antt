@@ -29,5 +29,5 @@ returns-in-Err-clause-err c =
     c.remove_first.ensures c.args.self.now c.args.node c.args.stamp
     (rw c.in-Err.ensures.err
     (so-far c.args.self.now c.args.node c.args.stamp c.args.writes c.loop-first.self c.loop-first.rest
-    (write_seen c.in-Some.first) c.in-Some.others (c.len-count.result - 1 - c.len.result) c.loop-first.invariant
-    c.in-Some.ensures (rw (c.len-count.ensures, c.len.ensures) refl)))
+    (write_seen c.in-Some.first) c.in-Some.others (c.len.result - 1 - c.len-in-Err.result) c.loop-first.invariant
+    c.in-Some.ensures (rw (c.len.ensures, c.len-in-Err.ensures) refl)))
