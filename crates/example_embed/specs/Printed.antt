@@ -2,7 +2,7 @@
 use Rattle.std.specs.Prelude.{◌≡◌, ℕ, List, ◌∷◌, ◌++◌, codes, Option, Some, None}
 use Rattle.hlc.specs.Certificate.{Witness, AreChanges, ShownView, certificate_text, IsAnsweredFewest}
 use Rattle.hlc.specs.Node.{Row, answer}
-use Rattle.hlc.specs.Store.{Step, Vacuumed, floor, writes, StoreView, Represents, nodes, AreVacuumPoints, AreRowsTo}
+use Rattle.hlc.specs.Store.{Step, Vacuumed, floor, writes, StoreView, Represents, AreVacuumPoints, AreRowsTo}
 use Rattle.hlc.specs.Text.{stamp_text, Watched, bytes_token, printed, Writes}
 
 -- a value, or that there is none, after a space
@@ -21,12 +21,12 @@ read_text past key stamp = printed (read_line key stamp (answer (writes past) ke
 
 -- A text is the certificate of a vacuum after this past, which left these rows: it has the vacuum's points, the rows up
 -- to the floor in their order, and the changes of all accepted writes at the points.
-pub record Certifies (nodes : ℕ) (past : List Step) (left : List Row) (text : List ℕ) : Type 0 where
+pub record Certifies (past : List Step) (left : List Row) (text : List ℕ) : Type 0 where
   pub points : List ℕ
   pub rows : List Row
   pub changes : List Witness
-  pub are_points : AreVacuumPoints (floor nodes past) past points
-  pub are_rows : AreRowsTo left (floor nodes past) rows
+  pub are_points : AreVacuumPoints (floor past) past points
+  pub are_rows : AreRowsTo left (floor past) rows
   pub are_changes : AreChanges (writes past) points changes
   pub spelled : text ≡ certificate_text points rows changes
 
@@ -38,11 +38,11 @@ pub record PrintsStory {W : Type 0} (contents : W → Option (List ℕ)) (old ne
   pub past : List Step
   pub represents : Represents core past
   pub vacuumed : StoreView
-  pub represents_vacuumed : Represents vacuumed (Vacuumed (floor (nodes core) past) ∷ past)
+  pub represents_vacuumed : Represents vacuumed (Vacuumed (floor past) ∷ past)
   pub early : ℕ
   pub late : ℕ
   pub certificate : List ℕ
   pub wrote : Writes contents old new
       ((read_text past (codes "city") early ++ read_text past (codes "city") late) ++ certificate)
-  pub certifies : Certifies (nodes core) past vacuumed.rows certificate
+  pub certifies : Certifies past vacuumed.rows certificate
   pub answered : IsAnsweredFewest certificate shown.rows shown.cost

@@ -1,7 +1,7 @@
 //! A vacuum whose certificate is printed, so that anybody can check that it left the fewest rows.
 ghost use Rattle.std.specs.Prelude.{◌≡◌, ◌∷◌, ℕ, List, IfOk, IfErr, IsOk};
 ghost use Rattle.hlc.specs.Certificate.{IsCertificate, certificate_text, IsAnsweredFewest};
-ghost use Rattle.hlc.specs.Store.{Step, Vacuumed, floor, Represents, nodes};
+ghost use Rattle.hlc.specs.Store.{Step, Vacuumed, floor, Represents};
 ghost use Rattle.hlc.specs.Text.{Prints};
 ghost use Rattle.example_embed.specs.Printed.{Certifies};
 
@@ -19,12 +19,11 @@ pub(crate) fn put_vacuum<W: Write>(
     core: &mut Core,
 ) -> Result<Shown, Stopped>
     ensures represents { (past : List Step) → Represents core.old past
-        → IfOk result (λ _. Represents core.new (Vacuumed (floor (nodes core.old) past) ∷ past)) }
+        → IfOk result (λ _. Represents core.new (Vacuumed (floor past) ∷ past)) }
     ensures printed { IfOk result (λ shown. (text : List ℕ)
         × Prints W.contents printer.old printer.new text
         × IsAnsweredFewest text shown.rows shown.cost
-        × ((past : List Step) → Represents core.old past
-        → Certifies (nodes core.old) past core.new.rows text)) }
+        × ((past : List Step) → Represents core.old past → Certifies past core.new.rows text)) }
     ensures only { (past : List Step) → Represents core.old past
         → IfErr result (λ stopped. stopped ≡ Stopped.Refused 15) }
 {

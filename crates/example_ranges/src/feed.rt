@@ -1,5 +1,6 @@
 //! How the items of a machine reach the stores: the machine stamps an item for the store of the key, and that store
-//! accepts it over the link of the machine's node there. In a database a replicated log of each store carries the items.
+//! accepts it over the link of the machine's node there. In a database a replicated log of each store carries the
+//! items.
 
 use crate::stopped::Stopped;
 use hlc::ranges::{Machine, Ranges};

@@ -1,10 +1,10 @@
 -- The words in which the contracts of a store speak.
-pub use Rattle.hlc_core.specs.Past.{Step, Took, Joined, Opened, Closed, Vacuumed, numbered, count, head, floor, horizon}
-pub use Rattle.hlc_core.specs.Past.{PartVacuumed, vacuumed, part_dropped}
+pub use Rattle.hlc_core.specs.Past.{Step, Started, Took, Joined, Opened, Closed, Vacuumed, PartVacuumed}
+pub use Rattle.hlc_core.specs.Past.{initial_nodes, numbered, count, head, floor, horizon, vacuumed, part_dropped}
 pub use Rattle.hlc_core.specs.Past.{opened, open_snapshots, writes, stamp_of, item_refusal, join_refusal, open_refusal}
 pub use Rattle.hlc_core.specs.Past.{join_at_refusal, room_refusal, vacuum_refusal, IsLegal}
 pub use Rattle.hlc_core.specs.Replicas.{items_of, joins_of, AreReplicas, CanMeet}
-pub use Rattle.hlc_core.specs.StoreView.{StoreView, nodes, Represents}
+pub use Rattle.hlc_core.specs.StoreView.{StoreView, Represents}
 pub use Rattle.hlc_core.specs.Calls.{IsWrite, IsRefusal, IsListed, AreRowsTo, AreSizes, AreVersions, Vacuums}
 pub use Rattle.hlc_core.specs.Certified.{Certifies, IsCertified, AreNotFewest}
 pub use Rattle.hlc_core.specs.Differences.{AreDifferences, Compares, patched}

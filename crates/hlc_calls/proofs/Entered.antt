@@ -69,11 +69,11 @@ made_of (Some fault) MayGrow Made returned (is, word) = absurd (not_above (answe
 made_of None MayGrow Made returned (inl (is, made)) = made
 made_of None MayGrow Made returned (inr (is, nothing, may)) = absurd (not_above 15 (lit< tt) is)
 
-accepted_at : (old new : StoreView) (entry : Entry) (bytes : List ℕ) (past : List Step) (returned : ℕ) (within : Bool)
-    → is_within bytes entry ≡ within → IsEntered old new entry bytes past 0 returned
+accepted_at : (new : StoreView) (entry : Entry) (bytes : List ℕ) (past : List Step) (returned : ℕ) (within : Bool)
+    → is_within bytes entry ≡ within → IsEntered new entry bytes past 0 returned
     → Represents new (Took (item_of bytes entry) ∷ past)
-accepted_at old new entry bytes past returned true is (inside, outside) = (made_of _ _ _ returned (inside is)).1
-accepted_at old new entry bytes past returned false is (inside, outside) =
+accepted_at new entry bytes past returned true is (inside, outside) = (made_of _ _ _ returned (inside is)).1
+accepted_at new entry bytes past returned false is (inside, outside) =
     absurd (not_above 103 (lit< tt) (outside is).0)
 
 took_last : (items : List Item) (item : Item) (past : List Step)
@@ -92,12 +92,12 @@ entered_more entries bytes i entry past within is =
     ∙ took_last (map (item_of bytes) (take i entries)) (item_of bytes (get_or entries i entry)) past
     ∙ sym (ap (λ (e : Entry). Took (item_of bytes e) ∷ entered entries bytes i past) is)
 
-pub entered_next : (old new : StoreView) (entries : List Entry) (bytes : List ℕ) (i : ℕ) (entry : Entry)
+pub entered_next : (new : StoreView) (entries : List Entry) (bytes : List ℕ) (i : ℕ) (entry : Entry)
     (past : List Step)
     (code returned : ℕ) → i < length entries → entry ≡ get_or entries i entry → code ≡ 0
-    → IsEntered old new entry bytes (entered entries bytes i past) code returned
+    → IsEntered new entry bytes (entered entries bytes i past) code returned
     → Represents new (entered entries bytes (i + 1) past)
-entered_next old new entries bytes i entry past code returned within is well answer =
+entered_next new entries bytes i entry past code returned within is well answer =
     subst (λ (steps : List Step). Represents new steps) (sym (entered_more entries bytes i entry past within is))
-    (accepted_at old new entry bytes (entered entries bytes i past) returned (is_within bytes entry) refl
-    (subst (λ (n : ℕ). IsEntered old new entry bytes (entered entries bytes i past) n returned) well answer))
+    (accepted_at new entry bytes (entered entries bytes i past) returned (is_within bytes entry) refl
+    (subst (λ (n : ℕ). IsEntered new entry bytes (entered entries bytes i past) n returned) well answer))

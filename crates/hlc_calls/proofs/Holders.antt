@@ -10,9 +10,9 @@ use Rattle.hlc_core.specs.Past.{Step, count, head, retired, floor}
 use Rattle.hlc_core.specs.StoreView.{AreLinks}
 use Rattle.hlc_calls.specs.Status.{IsHolder, IsFirstHolder, HoldsFloor, ReturnsHolder}
 
-holds : (nodes : ℕ) (past : List Step) (links : List IntakeView) (at n : ℕ) → AreLinks nodes past links
-    → at ≡ floor nodes past → IsHolder links at n → HoldsFloor nodes past n
-holds nodes past links at n are is h =
+holds : (past : List Step) (links : List IntakeView) (at n : ℕ) → AreLinks past links
+    → at ≡ floor past → IsHolder links at n → HoldsFloor past n
+holds past links at n are is h =
     let lt = slice_get_within links n h.0 h.1 in
     let same : h.0 ≡ record { next = count n past; head = head n past; retired = retired n past } =
     same_Some h.0 (record { next = count n past; head = head n past; retired = retired n past })
@@ -22,28 +22,28 @@ holds nodes past links at n are is h =
       sym (ap (λ (link : IntakeView). link.head) same) ∙ h.3 ∙ is,
     )
 
-is-holder : (nodes : ℕ) (past : List Step) (links : List IntakeView) (at n : ℕ) → AreLinks nodes past links
-    → at ≡ floor nodes past → HoldsFloor nodes past n → IsHolder links at n
-is-holder nodes past links at n are is h = (
+is-holder : (past : List Step) (links : List IntakeView) (at n : ℕ) → AreLinks past links
+    → at ≡ floor past → HoldsFloor past n → IsHolder links at n
+is-holder past links at n are is h = (
   record { next = count n past; head = head n past; retired = retired n past },
   are.each n (omega (arith, h.0, are.many)),
   h.1,
   h.2 ∙ sym is,
 )
 
-pub first-holds : (nodes : ℕ) (past : List Step) (links : List IntakeView) (at n : ℕ) → AreLinks nodes past links
-    → at ≡ floor nodes past → IsFirstHolder links at (Some n) → ReturnsHolder nodes past 0 n
-first-holds nodes past links at n are is h =
+pub first-holds : (past : List Step) (links : List IntakeView) (at n : ℕ) → AreLinks past links
+    → at ≡ floor past → IsFirstHolder links at (Some n) → ReturnsHolder past 0 n
+first-holds past links at n are is h =
     inl (
       refl,
-      holds nodes past links at n are is h.0,
-      λ other lt also. h.1 other lt (is-holder nodes past links at other are is also),
+      holds past links at n are is h.0,
+      λ other lt also. h.1 other lt (is-holder past links at other are is also),
     )
 
-pub none-holds : (nodes : ℕ) (past : List Step) (links : List IntakeView) (at : ℕ) → AreLinks nodes past links
-    → at ≡ floor nodes past → IsFirstHolder links at None → ReturnsHolder nodes past 115 0
-none-holds nodes past links at are is h =
-    inr (refl, refl, λ other also. h other (is-holder nodes past links at other are is also))
+pub none-holds : (past : List Step) (links : List IntakeView) (at : ℕ) → AreLinks past links
+    → at ≡ floor past → IsFirstHolder links at None → ReturnsHolder past 115 0
+none-holds past links at are is h =
+    inr (refl, refl, λ other also. h other (is-holder past links at other are is also))
 
 -- the places up to this one are passed
 pub passed : (links : List IntakeView) (at place : ℕ) (link : IntakeView) → place < length links

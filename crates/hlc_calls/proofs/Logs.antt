@@ -30,66 +30,66 @@ front_shortens bytes item rest fits is =
     omega (arith, long)
 
 -- an item that came before leaves the past, and another one is taken
-pub passed_over : (core : StoreView) (nodes : ℕ) (past : List Step) (item : Item) → came_before nodes past item ≡ true
-    → Represents core past → Represents core (with_item nodes item past)
-passed_over core nodes past item came h =
+pub passed_over : (core : StoreView) (past : List Step) (item : Item) → came_before past item ≡ true
+    → Represents core past → Represents core (with_item item past)
+passed_over core past item came h =
     subst (λ b. Represents core (cond b past (Took item ∷ past))) (sym came) h
 
-pub taken : (core : StoreView) (nodes : ℕ) (past : List Step) (item : Item) → came_before nodes past item ≡ false
-    → Represents core (Took item ∷ past) → Represents core (with_item nodes item past)
-taken core nodes past item new h =
+pub taken : (core : StoreView) (past : List Step) (item : Item) → came_before past item ≡ false
+    → Represents core (Took item ∷ past) → Represents core (with_item item past)
+taken core past item new h =
     subst (λ b. Represents core (cond b past (Took item ∷ past))) (sym new) h
 
 -- an item that did not come before was refused
-pub refused_here : (nodes : ℕ) (bytes rest : List ℕ) (past : List Step) (item : Item) (fault : CoreFault)
-    → item_at bytes ≡ Ok (item, rest) → came_before nodes past item ≡ false
-    → IsRefusal (item_refusal nodes past item) (IsWrite item.body) fault
-    → IsStopped nodes bytes past (answer_code fault) (core_word fault)
-refused_here nodes bytes rest past item fault read new is =
-    inr (item, rest, read, new, refused_returns (item_refusal nodes past item) (IsWrite item.body) ⊥ fault is)
+pub refused_here : (bytes rest : List ℕ) (past : List Step) (item : Item) (fault : CoreFault)
+    → item_at bytes ≡ Ok (item, rest) → came_before past item ≡ false
+    → IsRefusal (item_refusal past item) (IsWrite item.body) fault
+    → IsStopped bytes past (answer_code fault) (core_word fault)
+refused_here bytes rest past item fault read new is =
+    inr (item, rest, read, new, refused_returns (item_refusal past item) (IsWrite item.body) ⊥ fault is)
 
 -- the items before the rest of the bytes were taken
-abbrev pub TakenSoFar : ℕ → StoreView → List ℕ → List ℕ → List Step → ℕ → Type 0
-TakenSoFar nodes core bytes rest past count =
+abbrev pub TakenSoFar : StoreView → List ℕ → List ℕ → List Step → ℕ → Type 0
+TakenSoFar core bytes rest past count =
     (items : List Item) × (bytes ≡ log_bytes items ++ rest) × (count ≡ length items)
-    × Represents core (with_items nodes items past)
+    × Represents core (with_items items past)
 
-with_last : (nodes : ℕ) (items : List Item) (item : Item) (past : List Step)
-    → with_items nodes (items ++ item ∷ []) past ≡ with_item nodes item (with_items nodes items past)
-with_last nodes [] item past = refl
-with_last nodes (first ∷ items) item past = with_last nodes items item (with_item nodes first past)
+with_last : (items : List Item) (item : Item) (past : List Step)
+    → with_items (items ++ item ∷ []) past ≡ with_item item (with_items items past)
+with_last [] item past = refl
+with_last (first ∷ items) item past = with_last items item (with_item first past)
 
 log_last : (items : List Item) (item : Item) → log_bytes (items ++ item ∷ []) ≡ log_bytes items ++ item_bytes item
 log_last items item =
     flat_map-append item_bytes items (item ∷ []) ∙ ap (λ xs. log_bytes items ++ xs) (append-nil (item_bytes item))
 
 -- one more item
-pub one_more : (nodes : ℕ) (core : StoreView) (bytes rest after : List ℕ) (past : List Step) (count : ℕ)
+pub one_more : (core : StoreView) (bytes rest after : List ℕ) (past : List Step) (count : ℕ)
     (before : StoreView)
-    → (so : TakenSoFar nodes before bytes rest past count)
+    → (so : TakenSoFar before bytes rest past count)
     → (item : Item) × (rest ≡ item_bytes item ++ after)
-    × Represents core (with_item nodes item (with_items nodes so.0 past))
-    → TakenSoFar nodes core bytes after past (count + 1)
-one_more nodes core bytes rest after past count before so next = (
+    × Represents core (with_item item (with_items so.0 past))
+    → TakenSoFar core bytes after past (count + 1)
+one_more core bytes rest after past count before so next = (
   so.0 ++ next.0 ∷ [],
   so.1 ∙ ap (λ (xs : List ℕ). log_bytes so.0 ++ xs) next.1
       ∙ sym (append_assoc (log_bytes so.0) (item_bytes next.0) after)
       ∙ ap (λ (xs : List ℕ). xs ++ after) (sym (log_last so.0 next.0)),
   (let n = length-append so.0 (next.0 ∷ []) in omega (arith, n, so.2)),
-  subst (λ (p : List Step). Represents core p) (sym (with_last nodes so.0 next.0 past)) next.2,
+  subst (λ (p : List Step). Represents core p) (sym (with_last so.0 next.0 past)) next.2,
 )
 
 -- bytes are left, and the item at their front was not taken
-pub stopped_end : (nodes : ℕ) (rest : List ℕ) (past : List Step) (code word : ℕ) → 0 < length rest
-    → IsStopped nodes rest past code word → IsLogEnd nodes rest past code word
-stopped_end nodes [] past code word some is = absurd (omega (arith, some))
-stopped_end nodes (byte ∷ bytes) past code word some is = is
+pub stopped_end : (rest : List ℕ) (past : List Step) (code word : ℕ) → 0 < length rest
+    → IsStopped rest past code word → IsLogEnd rest past code word
+stopped_end [] past code word some is = absurd (omega (arith, some))
+stopped_end (byte ∷ bytes) past code word some is = is
 
-pub stopped_here : (nodes : ℕ) (core before : StoreView) (bytes rest : List ℕ) (past : List Step)
-    (code count word : ℕ) → (so : TakenSoFar nodes before bytes rest past count) → core ≡ before → 0 < length rest
-    → IsStopped nodes rest (with_items nodes so.0 past) code word
-    → AreTaken nodes core bytes past code (length bytes - length rest) count word
-stopped_here nodes core before bytes rest past code count word so same some is = record {
+pub stopped_here : (core before : StoreView) (bytes rest : List ℕ) (past : List Step)
+    (code count word : ℕ) → (so : TakenSoFar before bytes rest past count) → core ≡ before → 0 < length rest
+    → IsStopped rest (with_items so.0 past) code word
+    → AreTaken core bytes past code (length bytes - length rest) count word
+stopped_here core before bytes rest past code count word so same some is = record {
   items = so.0;
   rest = rest;
   bytes_are = so.1;
@@ -98,6 +98,6 @@ stopped_here nodes core before bytes rest past code count word so same some is =
       ap length so.1 ∙ length-append (log_bytes so.0) rest in
       omega (arith, long);
   many_is = so.2;
-  represents = subst (λ (c : StoreView). Represents c (with_items nodes so.0 past)) (sym same) so.3;
-  end = stopped_end nodes rest (with_items nodes so.0 past) code word some is;
+  represents = subst (λ (c : StoreView). Represents c (with_items so.0 past)) (sym same) so.3;
+  end = stopped_end rest (with_items so.0 past) code word some is;
 }

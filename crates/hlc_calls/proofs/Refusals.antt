@@ -40,29 +40,29 @@ pub expected_returns : (expected : Option CoreFault) (MayGrow Made : Type 0) (fa
 expected_returns expected MayGrow Made fault is = refused_returns expected MayGrow Made fault (inl is)
 
 -- items of the same node, number and stamp are refused in the same way if their bodies are
-refused_alike : (nodes : ℕ) (past : List Step) (item : Item) (body : Body)
+refused_alike : (past : List Step) (item : Item) (body : Body)
     → body_refusal body ≡ body_refusal item.body
-    → item_refusal nodes past (an_item item.node item.number item.stamp body) ≡ item_refusal nodes past item
-refused_alike nodes past item body same =
+    → item_refusal past (an_item item.node item.number item.stamp body) ≡ item_refusal past item
+refused_alike past item body same =
     ap (λ (refusal : Option BodyFault).
-    if nat_le (numbered nodes past) item.node then Some NoNode
+    if nat_le (numbered past) item.node then Some NoNode
     else if retired item.node past then Some (Link Retired)
     else if not (item.number == count item.node past) then Some (Link (NotNext (count item.node past)))
     else if item.number == NUMBER_BOUND then Some (Link NumbersSpent)
     else if nat_le item.stamp (head item.node past) then Some (Link (StampNotRising (head item.node past)))
     else of_body refusal) same
 
-pub alike_returns : (nodes : ℕ) (past : List Step) (item : Item) (body : Body) (MayGrow Made : Type 0)
+pub alike_returns : (past : List Step) (item : Item) (body : Body) (MayGrow Made : Type 0)
     (fault : CoreFault)
-    → body_refusal body ≡ body_refusal item.body → item_refusal nodes past item ≡ Some fault
-    → IsAnswered (item_refusal nodes past (an_item item.node item.number item.stamp body)) MayGrow Made
+    → body_refusal body ≡ body_refusal item.body → item_refusal past item ≡ Some fault
+    → IsAnswered (item_refusal past (an_item item.node item.number item.stamp body)) MayGrow Made
     (answer_code fault) (core_word fault)
-alike_returns nodes past item body MayGrow Made fault same is =
-    expected_returns _ MayGrow Made fault (refused_alike nodes past item body same ∙ is)
+alike_returns past item body MayGrow Made fault same is =
+    expected_returns _ MayGrow Made fault (refused_alike past item body same ∙ is)
 
-pub alike_made_returns : (nodes : ℕ) (past : List Step) (item : Item) (body : Body) (MayGrow Made : Type 0)
+pub alike_made_returns : (past : List Step) (item : Item) (body : Body) (MayGrow Made : Type 0)
     (returned : ℕ)
-    → body_refusal body ≡ body_refusal item.body → item_refusal nodes past item ≡ None → Made
-    → IsAnswered (item_refusal nodes past (an_item item.node item.number item.stamp body)) MayGrow Made 0 returned
-alike_made_returns nodes past item body MayGrow Made returned same none made =
-    made_returns _ MayGrow Made returned (refused_alike nodes past item body same ∙ none) made
+    → body_refusal body ≡ body_refusal item.body → item_refusal past item ≡ None → Made
+    → IsAnswered (item_refusal past (an_item item.node item.number item.stamp body)) MayGrow Made 0 returned
+alike_made_returns past item body MayGrow Made returned same none made =
+    made_returns _ MayGrow Made returned (refused_alike past item body same ∙ none) made

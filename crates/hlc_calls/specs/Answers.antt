@@ -12,47 +12,44 @@ use Rattle.hlc_draft.specs.declared.report.Report.{Report}
 use Rattle.hlc_draft.specs.Report.{numbers_of}
 use Rattle.hlc_core.specs.Past.{Step, Took, Opened, Closed, Joined, numbered, floor, opened, stamp_of}
 use Rattle.hlc_core.specs.Past.{item_refusal, join_refusal, join_at_refusal, open_refusal, room_refusal, vacuum_refusal}
-use Rattle.hlc_core.specs.StoreView.{StoreView, nodes, Represents}
+use Rattle.hlc_core.specs.StoreView.{StoreView, Represents}
 use Rattle.hlc_core.specs.Calls.{IsWrite, AreSizes, Vacuums}
 use Rattle.hlc_core.specs.Parts.{EndsAt, VacuumsKeys}
 use Rattle.hlc_calls.specs.Outcome.{IsAnswered}
 pub use Rattle.hlc_range_calls.specs.Listing.{IsCopied, narrowed}
 
 -- the item was accepted, and its stamp is returned; or it was refused
-abbrev pub ReturnsAccepted : StoreView → StoreView → Item → List Step → ℕ → ℕ → Type 0
-ReturnsAccepted old new item past code returned =
-    IsAnswered (item_refusal (nodes old) past item) (IsWrite item.body)
+abbrev pub ReturnsAccepted : StoreView → Item → List Step → ℕ → ℕ → Type 0
+ReturnsAccepted new item past code returned =
+    IsAnswered (item_refusal past item) (IsWrite item.body)
     ((returned ≡ item.stamp) × Represents new (Took item ∷ past)) code returned
 
 -- why the item would be refused, if it would, apart from out of memory
-abbrev pub ReturnsChecked : StoreView → Item → List Step → ℕ → ℕ → Type 0
-ReturnsChecked kept item past code returned = IsAnswered (item_refusal (nodes kept) past item) ⊥ (returned ≡ 0) code
-    returned
+abbrev pub ReturnsChecked : Item → List Step → ℕ → ℕ → Type 0
+ReturnsChecked item past code returned = IsAnswered (item_refusal past item) ⊥ (returned ≡ 0) code returned
 
 -- a node joined, and its number and its start are returned; or it was refused
-abbrev pub ReturnsJoined : StoreView → StoreView → List Step → ℕ → ℕ → ℕ → Type 0
-ReturnsJoined old new past code node start =
-    IsAnswered (join_refusal (nodes old) past) ⊤
-    ((node ≡ numbered (nodes old) past) × (start ≡ floor (nodes old) past) × Represents new (Joined node start ∷ past))
-    code node
+abbrev pub ReturnsJoined : StoreView → List Step → ℕ → ℕ → ℕ → Type 0
+ReturnsJoined new past code node start =
+    IsAnswered (join_refusal past) ⊤
+    ((node ≡ numbered past) × (start ≡ floor past) × Represents new (Joined node start ∷ past)) code node
 
 -- a node joined at this start, and its number and its start are returned; or it was refused
-abbrev pub ReturnsJoinedAt : StoreView → StoreView → ℕ → List Step → ℕ → ℕ → ℕ → Type 0
-ReturnsJoinedAt old new start past code node returned =
-    IsAnswered (join_at_refusal (nodes old) past start) ⊤
-    ((node ≡ numbered (nodes old) past) × (returned ≡ start) × Represents new (Joined node start ∷ past)) code returned
+abbrev pub ReturnsJoinedAt : StoreView → ℕ → List Step → ℕ → ℕ → ℕ → Type 0
+ReturnsJoinedAt new start past code node returned =
+    IsAnswered (join_at_refusal past start) ⊤
+    ((node ≡ numbered past) × (returned ≡ start) × Represents new (Joined node start ∷ past)) code returned
 
 -- a snapshot was opened at the stamp, and its id is returned; or it was refused
-abbrev pub ReturnsOpened : StoreView → StoreView → ℕ → List Step → ℕ → ℕ → Type 0
-ReturnsOpened old new stamp past code id =
-    IsAnswered (open_refusal (nodes old) past stamp) ⊤
-    ((id ≡ opened past + 1) × Represents new (Opened stamp ∷ past)) code id
+abbrev pub ReturnsOpened : StoreView → ℕ → List Step → ℕ → ℕ → Type 0
+ReturnsOpened new stamp past code id =
+    IsAnswered (open_refusal past stamp) ⊤ ((id ≡ opened past + 1) × Represents new (Opened stamp ∷ past)) code id
 
 -- a snapshot was opened at the floor, and its id and its stamp are returned; or it was refused
-abbrev pub ReturnsOpenedAtFloor : StoreView → StoreView → List Step → ℕ → ℕ → ℕ → Type 0
-ReturnsOpenedAtFloor old new past code id stamp =
+abbrev pub ReturnsOpenedAtFloor : StoreView → List Step → ℕ → ℕ → ℕ → Type 0
+ReturnsOpenedAtFloor new past code id stamp =
     IsAnswered (room_refusal past) ⊤
-    ((id ≡ opened past + 1) × (stamp ≡ floor (nodes old) past) × Represents new (Opened stamp ∷ past)) code id
+    ((id ≡ opened past + 1) × (stamp ≡ floor past) × Represents new (Opened stamp ∷ past)) code id
 
 -- the snapshot of this stamp was closed, and its stamp is returned; or there is none
 abbrev pub ReturnsClosedAt : Option ℕ → Type 0 → ℕ → ℕ → Type 0
@@ -94,18 +91,17 @@ ReturnsVacuumed old new at past floor kept bytes dropped =
 -- a vacuum to the floor took place, and the numbers of its report are returned
 abbrev pub ReturnsVacuumedAtFloor : StoreView → StoreView → List Step → ℕ → ℕ → ℕ → ℕ → Type 0
 ReturnsVacuumedAtFloor old new past stamp kept bytes dropped =
-    ReturnsVacuumed old new (floor (nodes old) past) past stamp kept bytes dropped
+    ReturnsVacuumed old new (floor past) past stamp kept bytes dropped
 
 -- the same for a vacuum to this stamp, or it was refused
 abbrev pub ReturnsVacuumedTo : StoreView → StoreView → ℕ → List Step → ℕ → ℕ → ℕ → ℕ → ℕ → Type 0
 ReturnsVacuumedTo old new at past code returned kept bytes dropped =
-    IsAnswered (vacuum_refusal (nodes old) past at) ⊤ (ReturnsVacuumed old new at past returned kept bytes dropped)
+    IsAnswered (vacuum_refusal past at) ⊤ (ReturnsVacuumed old new at past returned kept bytes dropped)
     code returned
 
 -- why a vacuum to the stamp would be refused, if it would, apart from out of memory
-abbrev pub ReturnsVacuumChecked : StoreView → ℕ → List Step → ℕ → ℕ → Type 0
-ReturnsVacuumChecked kept at past code returned = IsAnswered (vacuum_refusal (nodes kept) past at) ⊥ (returned ≡ 0)
-    code returned
+abbrev pub ReturnsVacuumChecked : ℕ → List Step → ℕ → ℕ → Type 0
+ReturnsVacuumChecked at past code returned = IsAnswered (vacuum_refusal past at) ⊥ (returned ≡ 0) code returned
 
 -- where a part ended: the length of its last key and, where it fits, the key, and that a key is left above it; or no
 -- bytes, and that none is left
@@ -128,5 +124,5 @@ abbrev pub ReturnsVacuumedPart
     : StoreView → StoreView → ℕ → List ℕ → ℕ → List Step
     → ℕ → ℕ → ℕ → ℕ → ℕ → ℕ → Bool → List ℕ → List ℕ → Type 0
 ReturnsVacuumedPart old new at after most past code returned kept bytes dropped len more before out =
-    IsAnswered (vacuum_refusal (nodes old) past at) ⊤
+    IsAnswered (vacuum_refusal past at) ⊤
     (ReturnsPart old new at after most past returned kept bytes dropped len more before out) code returned

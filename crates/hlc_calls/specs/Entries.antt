@@ -33,9 +33,9 @@ is_within bytes entry =
     lies entry.key_at entry.key_len bytes && (entry.deletes || lies entry.value_at entry.value_len bytes)
 
 -- the item of the entry was accepted, or refused; or the answer is that its bytes are not there
-abbrev pub IsEntered : StoreView → StoreView → Entry → List ℕ → List Step → ℕ → ℕ → Type 0
-IsEntered old new entry bytes past code returned =
-    (is_within bytes entry ≡ true → ReturnsAccepted old new (item_of bytes entry) past code returned)
+abbrev pub IsEntered : StoreView → Entry → List ℕ → List Step → ℕ → ℕ → Type 0
+IsEntered new entry bytes past code returned =
+    (is_within bytes entry ≡ true → ReturnsAccepted new (item_of bytes entry) past code returned)
     × (is_within bytes entry ≡ false → (code ≡ 103) × (returned ≡ 0))
 
 -- the past after these items too were accepted, one after another
@@ -55,4 +55,4 @@ pub record AreEntered (new : StoreView) (entries : List Entry) (bytes : List ℕ
   pub represents : Represents new (entered entries bytes many past)
   pub all : code ≡ 0 → (many ≡ length entries) × (returned ≡ 0)
   pub next : code ≢ 0 → (last : Entry) × (many < length entries) × (last ≡ get_or entries many last)
-      × IsEntered new new last bytes (entered entries bytes many past) code returned
+      × IsEntered new last bytes (entered entries bytes many past) code returned

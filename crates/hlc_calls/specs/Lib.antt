@@ -10,3 +10,4 @@ pub mod Records
 pub mod ReadAll
 pub mod Digest
 pub mod Check
+pub mod Texts

@@ -22,41 +22,41 @@ abbrev pub log_bytes : List Item → List ℕ
 log_bytes items = flat_map item_bytes items
 
 -- an item of this number was accepted before
-abbrev pub came_before : ℕ → List Step → Item → Bool
-came_before nodes past item = nat_lt item.node (numbered nodes past) && nat_lt item.number (count item.node past)
+abbrev pub came_before : List Step → Item → Bool
+came_before past item = nat_lt item.node (numbered past) && nat_lt item.number (count item.node past)
 
 -- the past after an item: unchanged if it came before
-abbrev pub with_item : ℕ → Item → List Step → List Step
-with_item nodes item past = if came_before nodes past item then past else Took item ∷ past
+abbrev pub with_item : Item → List Step → List Step
+with_item item past = if came_before past item then past else Took item ∷ past
 
 -- the past after some items, one after another
-abbrev pub with_items : ℕ → List Item → List Step → List Step
-with_items nodes [] past = past
-with_items nodes (item ∷ items) past = with_items nodes items (with_item nodes item past)
+abbrev pub with_items : List Item → List Step → List Step
+with_items [] past = past
+with_items (item ∷ items) past = with_items items (with_item item past)
 
 -- why the item at the front of some bytes was not taken: the first fault of the bytes; or, of an item that did not come
 -- before, the expected refusal, or out of memory for the row of a write
-abbrev pub IsStopped : ℕ → List ℕ → List Step → ℕ → ℕ → Type 0
-IsStopped nodes bytes past code word =
+abbrev pub IsStopped : List ℕ → List Step → ℕ → ℕ → Type 0
+IsStopped bytes past code word =
     ((fault : WireFault) × (item_at bytes ≡ Err fault) × (code ≡ 106) × (word ≡ fault_code fault))
-    ⊎ ((item : Item) × (rest : List ℕ) × (item_at bytes ≡ Ok (item, rest)) × (came_before nodes past item ≡ false)
-    × IsAnswered (item_refusal nodes past item) (IsWrite item.body) ⊥ code word)
+    ⊎ ((item : Item) × (rest : List ℕ) × (item_at bytes ≡ Ok (item, rest)) × (came_before past item ≡ false)
+    × IsAnswered (item_refusal past item) (IsWrite item.body) ⊥ code word)
 
 -- no bytes are left, and the answer is 0; or the item at their front was not taken
-abbrev pub IsLogEnd : ℕ → List ℕ → List Step → ℕ → ℕ → Type 0
-IsLogEnd nodes [] past code word = (code ≡ 0) × (word ≡ 0)
-IsLogEnd nodes (byte ∷ bytes) past code word = IsStopped nodes (byte ∷ bytes) past code word
+abbrev pub IsLogEnd : List ℕ → List Step → ℕ → ℕ → Type 0
+IsLogEnd [] past code word = (code ≡ 0) × (word ≡ 0)
+IsLogEnd (byte ∷ bytes) past code word = IsStopped (byte ∷ bytes) past code word
 
 -- The first items of the bytes were taken, as far as possible: this many items, of this many bytes.
-pub record AreTaken (nodes : ℕ) (new : StoreView) (bytes : List ℕ) (past : List Step) (code used many word : ℕ)
+pub record AreTaken (new : StoreView) (bytes : List ℕ) (past : List Step) (code used many word : ℕ)
     : Type 0 where
   pub items : List Item
   pub rest : List ℕ
   pub bytes_are : bytes ≡ log_bytes items ++ rest
   pub used_is : used ≡ length (log_bytes items)
   pub many_is : many ≡ length items
-  pub represents : Represents new (with_items nodes items past)
-  pub end : IsLogEnd nodes rest (with_items nodes items past) code word
+  pub represents : Represents new (with_items items past)
+  pub end : IsLogEnd rest (with_items items past) code word
 
 -- The bytes of an item are returned: how many there are, and the bytes, if they fit; or why no item has this body.
 abbrev pub ReturnsItem : Item → ℕ → ℕ → List ℕ → List ℕ → Type 0

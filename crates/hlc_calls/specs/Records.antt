@@ -33,9 +33,9 @@ pub record AreNumbersOf (applied : Applied) (code used many threshold word : ℕ
   pub word_is : word ≡ end_word applied.end
 
 -- the first records of some bytes were applied, as far as possible, and the numbers say how far
-abbrev pub ReturnsApplied : ℕ → StoreView → List ℕ → List Step → ℕ → ℕ → ℕ → ℕ → ℕ → Type 0
-ReturnsApplied nodes new bytes past code used many threshold word =
-    (applied : Applied) × AreApplied nodes new bytes past 0 applied × AreNumbersOf applied code used many threshold word
+abbrev pub ReturnsApplied : StoreView → List ℕ → List Step → ℕ → ℕ → ℕ → ℕ → ℕ → Type 0
+ReturnsApplied new bytes past code used many threshold word =
+    (applied : Applied) × AreApplied new bytes past 0 applied × AreNumbersOf applied code used many threshold word
 
 -- the bytes of a record are returned: how many there are, and the bytes, if they fit
 abbrev pub ReturnsRecord : Record → ℕ → ℕ → List ℕ → List ℕ → Type 0

@@ -6,11 +6,11 @@ use Rattle.hlc_snapshot.specs.declared.snapshot.Snapshot.{Snapshot}
 use Rattle.hlc_core.specs.Past.{Step, numbered, count, head, retired, floor}
 
 -- the number of a node's next item, its head and whether it has retired; or 1, where no node has this number
-abbrev pub ReturnsLink : ℕ → ℕ → List Step → ℕ → ℕ → ℕ → Bool → Type 0
-ReturnsLink nodes node past code next at is_retired =
-    (node < numbered nodes past
+abbrev pub ReturnsLink : ℕ → List Step → ℕ → ℕ → ℕ → Bool → Type 0
+ReturnsLink node past code next at is_retired =
+    (node < numbered past
     → (code ≡ 0) × (next ≡ count node past) × (at ≡ head node past) × (is_retired ≡ retired node past))
-    × (numbered nodes past ≤ node → (code ≡ 1) × (next ≡ 0) × (at ≡ 0) × (is_retired ≡ false))
+    × (numbered past ≤ node → (code ≡ 1) × (next ≡ 0) × (at ≡ 0) × (is_retired ≡ false))
 
 -- the node at this place has not retired, and its head is this stamp
 abbrev pub IsHolder : List IntakeView → ℕ → ℕ → Type 0
@@ -24,15 +24,15 @@ IsFirstHolder links floor (Some place) =
     IsHolder links floor place × ((other : ℕ) → other < place → IsHolder links floor other → ⊥)
 
 -- a node whose number is assigned holds the floor back: it has not retired, and its head is the floor
-abbrev pub HoldsFloor : ℕ → List Step → ℕ → Type 0
-HoldsFloor nodes past node =
-    (node < numbered nodes past) × (retired node past ≡ false) × (head node past ≡ floor nodes past)
+abbrev pub HoldsFloor : List Step → ℕ → Type 0
+HoldsFloor past node =
+    (node < numbered past) × (retired node past ≡ false) × (head node past ≡ floor past)
 
 -- the first node that holds the floor back is returned; or 115, where none does: then all have retired
-abbrev pub ReturnsHolder : ℕ → List Step → ℕ → ℕ → Type 0
-ReturnsHolder nodes past code node =
-    ((code ≡ 0) × HoldsFloor nodes past node × ((other : ℕ) → other < node → HoldsFloor nodes past other → ⊥))
-    ⊎ ((code ≡ 115) × (node ≡ 0) × ((other : ℕ) → HoldsFloor nodes past other → ⊥))
+abbrev pub ReturnsHolder : List Step → ℕ → ℕ → Type 0
+ReturnsHolder past code node =
+    ((code ≡ 0) × HoldsFloor past node × ((other : ℕ) → other < node → HoldsFloor past other → ⊥))
+    ⊎ ((code ≡ 115) × (node ≡ 0) × ((other : ℕ) → HoldsFloor past other → ⊥))
 
 -- an open snapshot's id and stamp are returned; or 117, where none is at the place
 abbrev pub ReturnsSnapshot : Option Snapshot → ℕ → ℕ → ℕ → Type 0

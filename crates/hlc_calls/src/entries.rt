@@ -1,7 +1,7 @@
 //! Several items in one call, for callers for which a call is expensive.
 ghost use Rattle.std.specs.Prelude.{◌≡◌, ◌≢◌, List, true, false, MatchOption, option_copied};
 ghost use Rattle.hlc_core.specs.Past.{Step};
-ghost use Rattle.hlc_core.specs.StoreView.{nodes, Represents};
+ghost use Rattle.hlc_core.specs.StoreView.{Represents};
 ghost use Rattle.hlc_calls.specs.Entries.{piece, lies, value_of, is_within, IsEntered, AreEntered};
 
 use crate::items;
@@ -52,9 +52,8 @@ fn parts_of<'a>(entry: &Entry, bytes: &'a [u8]) -> Option<(&'a [u8], Option<&'a 
 /// Accepts the item of an entry. Returns 0 and its stamp, or a refusal and its word, or 103.
 fn enter(core: &mut Core, entry: &Entry, bytes: &[u8], returned: &mut u64) -> u32
     ensures answer { (past : List Step) → Represents core.old past
-        → IsEntered core.old core.new entry.now bytes.now past result returned.new }
-    ensures same { result ≢ 0 → core.new ≡ core.old }
-    ensures nodes { nodes core.new ≡ nodes core.old }
+        → IsEntered core.new entry.now bytes.now past result returned.new }
+    ensures unchanged { result ≢ 0 → core.new ≡ core.old }
 {
     let Some((key, value)) = parts_of(entry, bytes) else {
         *returned = 0;
@@ -75,9 +74,8 @@ pub fn enter_all(
     many: &mut usize,
     returned: &mut u64,
 ) -> u32
-    ensures answer { (past : List Step) → Represents core.old past
+    ensures { (past : List Step) → Represents core.old past
         → AreEntered core.new entries.now bytes.now past result many.new returned.new }
-    ensures nodes { nodes core.new ≡ nodes core.old }
 {
     let mut index = 0;
     while index < entries.len() {

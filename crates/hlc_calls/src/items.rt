@@ -4,7 +4,7 @@ ghost use Rattle.hlc_node.specs.declared.item.Body.{Body as ABody};
 ghost use Rattle.hlc_node.specs.Items.{an_item, body_refusal};
 ghost use Rattle.hlc_node.specs.declared.item.Body.TheVariants.{Report as a_report, Retire as a_retire};
 ghost use Rattle.hlc_core.specs.Past.{Step, Took, item_refusal};
-ghost use Rattle.hlc_core.specs.StoreView.{nodes, Represents};
+ghost use Rattle.hlc_core.specs.StoreView.{Represents};
 ghost use Rattle.hlc_core.specs.Calls.{IsWrite, IsRefusal};
 ghost use Rattle.hlc_calls.specs.Answers.{ReturnsAccepted, ReturnsChecked};
 
@@ -16,10 +16,11 @@ use hlc_core::{Core, CoreFault, ItemRef, Stamp};
 #[tactic(auto, using(crate::proofs::Refusals::expected_returns, crate::proofs::Refusals::made_returns, crate::proofs::Refusals::alike_returns, crate::proofs::Refusals::alike_made_returns))]
 pub fn check(core: &Core, item: &ItemRef<'_>, word: &mut u64) -> u32
     ensures own { (past : List Step) → Represents core.now past
-        → ReturnsChecked core.now item.now past result word.new }
+        → ReturnsChecked item.now past result word.new }
     ensures alike { (body : ABody) → body_refusal body ≡ body_refusal item.now.body
-        → (past : List Step) → Represents core.now past → ReturnsChecked core.now
-        (an_item item.now.node item.now.number item.now.stamp body) past result word.new }
+        → (past : List Step) → Represents core.now past
+        → ReturnsChecked (an_item item.now.node item.now.number item.now.stamp body) past result
+        word.new }
 {
     match core.check_ref(item) {
         Ok(()) => {
@@ -33,9 +34,9 @@ pub fn check(core: &Core, item: &ItemRef<'_>, word: &mut u64) -> u32
 /// Returns why a report, or a retirement, would be refused: 0, or the refusal and its word.
 pub fn check_plain(core: &Core, node: u16, number: u64, stamp: Stamp, word: &mut u64) -> u32
     ensures report { (past : List Step) → Represents core.now past
-        → ReturnsChecked core.now (an_item node number stamp a_report) past result word.new }
+        → ReturnsChecked (an_item node number stamp a_report) past result word.new }
     ensures retire { (past : List Step) → Represents core.now past
-        → ReturnsChecked core.now (an_item node number stamp a_retire) past result word.new }
+        → ReturnsChecked (an_item node number stamp a_retire) past result word.new }
 {
     check(core, &ItemRef::report(node, number, stamp), word)
 }
@@ -44,12 +45,9 @@ pub fn check_plain(core: &Core, node: u16, number: u64, stamp: Stamp, word: &mut
 fn accept_item(core: &mut Core, item: &ItemRef<'_>) -> Result<u64, CoreFault>
     ensures ok { IfOk result (λ stamp. stamp ≡ item.now.stamp) }
     ensures represents { (past : List Step) → Represents core.old past → MatchResult result
-        (λ _. (item_refusal (nodes core.old) past item.now ≡ None)
-        × Represents core.new (Took item.now ∷ past))
-        (λ fault.
-        IsRefusal (item_refusal (nodes core.old) past item.now) (IsWrite item.now.body) fault) }
-    ensures err { OnErr result (core.new ≡ core.old) }
-    ensures nodes { nodes core.new ≡ nodes core.old }
+        (λ _. (item_refusal past item.now ≡ None) × Represents core.new (Took item.now ∷ past))
+        (λ fault. IsRefusal (item_refusal past item.now) (IsWrite item.now.body) fault) }
+    ensures unchanged { OnErr result (core.new ≡ core.old) }
 {
     match core.accept_ref(item) {
         Ok(accepted) => Ok(accepted.stamp().bits()),
@@ -61,9 +59,8 @@ fn accept_item(core: &mut Core, item: &ItemRef<'_>) -> Result<u64, CoreFault>
 #[tactic(auto, using(crate::proofs::Refusals::refused_returns, crate::proofs::Refusals::made_returns))]
 pub fn accept(core: &mut Core, item: &ItemRef<'_>, word: &mut u64) -> u32
     ensures answer { (past : List Step) → Represents core.old past
-        → ReturnsAccepted core.old core.new item.now past result word.new }
-    ensures same { result ≢ 0 → core.new ≡ core.old }
-    ensures nodes { nodes core.new ≡ nodes core.old }
+        → ReturnsAccepted core.new item.now past result word.new }
+    ensures unchanged { result ≢ 0 → core.new ≡ core.old }
 {
     answer(accept_item(core, item), word)
 }

@@ -2,6 +2,7 @@
 //! 100. What else it has to say is in a word or in bytes.
 #![tactic(auto)]
 
+pub mod answers;
 pub mod certify;
 pub mod check;
 pub mod codes;

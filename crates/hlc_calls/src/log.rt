@@ -3,7 +3,7 @@ ghost use Rattle.std.specs.Prelude.{◌≡◌, ◌<◌, ◌++◌, List, length, 
 ghost use Rattle.hlc_node.specs.declared.item.Item.{Item as AnItem};
 ghost use Rattle.hlc_wire.specs.Spelling.{item_bytes};
 ghost use Rattle.hlc_core.specs.Past.{Step};
-ghost use Rattle.hlc_core.specs.StoreView.{nodes, Represents};
+ghost use Rattle.hlc_core.specs.StoreView.{Represents};
 ghost use Rattle.hlc_calls.specs.Log.{came_before, with_item, IsStopped, AreTaken, ReturnsItem};
 
 use crate::codes::refuse;
@@ -30,8 +30,7 @@ pub fn put(item: &ItemRef<'_>, out: &mut [u8], len: &mut usize) -> u32
 
 /// Returns whether an item of this number came before.
 fn came(core: &Core, item: &ItemRef<'_>) -> bool
-    ensures { (past : List Step) → Represents core.now past
-        → result ≡ came_before (nodes core.now) past item.now }
+    ensures { (past : List Step) → Represents core.now past → result ≡ came_before past item.now }
 {
     match core.count(item.node()) {
         Ok(next) => item.number() < next,
@@ -44,11 +43,10 @@ fn came(core: &Core, item: &ItemRef<'_>) -> bool
 fn take_front<'a>(core: &mut Core, bytes: &'a [u8], word: &mut u64) -> Result<&'a [u8], u32>
     ensures answer { (past : List Step) → Represents core.old past → MatchResult result
         (λ rest. (item : AnItem) × (bytes.now ≡ item_bytes item ++ rest.now)
-        × Represents core.new (with_item (nodes core.old) item past))
-        (λ code. IsStopped (nodes core.old) bytes.now past code word.new) }
+        × Represents core.new (with_item item past))
+        (λ code. IsStopped bytes.now past code word.new) }
     ensures shorter { IfOk result (λ rest. length rest.now < length bytes.now) }
-    ensures same { OnErr result (core.new ≡ core.old) }
-    ensures nodes { nodes core.new ≡ nodes core.old }
+    ensures unchanged { OnErr result (core.new ≡ core.old) }
 {
     let (item, rest) = match item_ref_at(bytes) {
         Ok(found) => found,
@@ -76,9 +74,8 @@ pub fn take_all(
     many: &mut usize,
     word: &mut u64,
 ) -> u32
-    ensures answer { (past : List Step) → Represents core.old past → AreTaken (nodes core.old) core.new
-        bytes.now past result used.new many.new word.new }
-    ensures nodes { nodes core.new ≡ nodes core.old }
+    ensures { (past : List Step) → Represents core.old past
+        → AreTaken core.new bytes.now past result used.new many.new word.new }
 {
     let mut rest = bytes;
     let mut count = 0usize;

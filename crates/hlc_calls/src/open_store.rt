@@ -1,7 +1,7 @@
 //! The calls of an open store, with their answers as the numbers that C gets.
 ghost use Rattle.std.specs.Prelude.{◌≡◌, ◌≢◌, List, length, false};
 ghost use Rattle.hlc_core.specs.Past.{Step, stamp_of, writes};
-ghost use Rattle.hlc_core.specs.StoreView.{nodes, Represents};
+ghost use Rattle.hlc_core.specs.StoreView.{Represents};
 ghost use Rattle.hlc_calls.specs.Answers.{ReturnsJoined, ReturnsJoinedAt, ReturnsOpened, ReturnsOpenedAtFloor};
 ghost use Rattle.hlc_calls.specs.Answers.{ReturnsClosed, IsCopied, ReturnsRead, ReturnsVacuumedAtFloor};
 ghost use Rattle.hlc_calls.specs.Answers.{ReturnsVacuumedTo, ReturnsVacuumChecked, ReturnsSizes, AreNumbers};
@@ -14,9 +14,8 @@ use hlc_core::{Bytes, Core, Numbers, Stamp};
 #[tactic(auto, using(crate::proofs::Refusals::refused_returns, crate::proofs::Refusals::made_returns))]
 pub fn join(core: &mut Core, node: &mut u16, start: &mut u64) -> u32
     ensures answer { (past : List Step) → Represents core.old past
-        → ReturnsJoined core.old core.new past result node.new start.new }
+        → ReturnsJoined core.new past result node.new start.new }
     ensures same { result ≢ 0 → (core.new ≡ core.old) × (node.new ≡ 0) × (start.new ≡ 0) }
-    ensures nodes { nodes core.new ≡ nodes core.old }
 {
     match core.join() {
         Ok(made) => {
@@ -37,9 +36,8 @@ pub fn join(core: &mut Core, node: &mut u16, start: &mut u64) -> u32
 #[tactic(auto, using(crate::proofs::Refusals::refused_returns, crate::proofs::Refusals::made_returns))]
 pub fn join_at(core: &mut Core, start: Stamp, node: &mut u16, returned: &mut u64) -> u32
     ensures answer { (past : List Step) → Represents core.old past
-        → ReturnsJoinedAt core.old core.new start past result node.new returned.new }
+        → ReturnsJoinedAt core.new start past result node.new returned.new }
     ensures same { result ≢ 0 → (core.new ≡ core.old) × (node.new ≡ 0) }
-    ensures nodes { nodes core.new ≡ nodes core.old }
 {
     match core.join_at(start) {
         Ok(number) => {
@@ -59,9 +57,8 @@ pub fn join_at(core: &mut Core, start: Stamp, node: &mut u16, returned: &mut u64
 #[tactic(auto, using(crate::proofs::Refusals::refused_returns, crate::proofs::Refusals::made_returns))]
 pub fn open(core: &mut Core, stamp: Stamp, returned: &mut u64) -> u32
     ensures answer { (past : List Step) → Represents core.old past
-        → ReturnsOpened core.old core.new stamp past result returned.new }
-    ensures same { result ≢ 0 → core.new ≡ core.old }
-    ensures nodes { nodes core.new ≡ nodes core.old }
+        → ReturnsOpened core.new stamp past result returned.new }
+    ensures unchanged { result ≢ 0 → core.new ≡ core.old }
 {
     answer(core.open(stamp), returned)
 }
@@ -71,9 +68,8 @@ pub fn open(core: &mut Core, stamp: Stamp, returned: &mut u64) -> u32
 #[tactic(auto, using(crate::proofs::Refusals::refused_returns, crate::proofs::Refusals::made_returns))]
 pub fn open_floor(core: &mut Core, returned: &mut u64, stamp: &mut u64) -> u32
     ensures answer { (past : List Step) → Represents core.old past
-        → ReturnsOpenedAtFloor core.old core.new past result returned.new stamp.new }
+        → ReturnsOpenedAtFloor core.new past result returned.new stamp.new }
     ensures same { result ≢ 0 → (core.new ≡ core.old) × (stamp.new ≡ 0) }
-    ensures nodes { nodes core.new ≡ nodes core.old }
 {
     match core.open_floor() {
         Ok(opening) => {
@@ -93,8 +89,7 @@ pub fn open_floor(core: &mut Core, returned: &mut u64, stamp: &mut u64) -> u32
 pub fn close(core: &mut Core, id: u64, returned: &mut u64) -> u32
     ensures answer { (past : List Step) → Represents core.old past
         → ReturnsClosed core.new id past result returned.new }
-    ensures same { result ≢ 0 → core.new ≡ core.old }
-    ensures nodes { nodes core.new ≡ nodes core.old }
+    ensures unchanged { result ≢ 0 → core.new ≡ core.old }
 {
     match core.close(id) {
         Ok(stamp) => {
@@ -202,7 +197,6 @@ pub fn vacuum(
     ensures expected { result ≢ 0 → (result ≡ 15) × (core.new ≡ core.old) }
     ensures nothing { result ≢ 0
         → (floor.new ≡ 0) × (kept.new ≡ 0) × (bytes.new ≡ 0) × (dropped.new ≡ 0) }
-    ensures nodes { nodes core.new ≡ nodes core.old }
 {
     *floor = 0;
     *kept = 0;
@@ -221,7 +215,7 @@ pub fn vacuum(
 #[tactic(auto, using(crate::proofs::Refusals::expected_returns, crate::proofs::Refusals::made_returns))]
 pub fn check_vacuum(core: &Core, at: Stamp, returned: &mut u64) -> u32
     ensures { (past : List Step) → Represents core.now past
-        → ReturnsVacuumChecked core.now at past result returned.new }
+        → ReturnsVacuumChecked at past result returned.new }
 {
     match core.check_vacuum(at) {
         Ok(()) => {
@@ -246,9 +240,8 @@ pub fn vacuum_to(
     ensures answer { (past : List Step) → Represents core.old past
         → ReturnsVacuumedTo core.old core.new at past result returned.new
         kept.new bytes.new dropped.new }
-    ensures same { result ≢ 0 → core.new ≡ core.old }
+    ensures unchanged { result ≢ 0 → core.new ≡ core.old }
     ensures nothing { result ≢ 0 → (kept.new ≡ 0) × (bytes.new ≡ 0) × (dropped.new ≡ 0) }
-    ensures nodes { nodes core.new ≡ nodes core.old }
 {
     *kept = 0;
     *bytes = 0;
@@ -281,10 +274,9 @@ pub fn vacuum_part(
     ensures answer { (past : List Step) → Represents core.old past
         → ReturnsVacuumedPart core.old core.new at after.now most past result returned.new
         kept.new bytes.new dropped.new len.new more.new out.old out.new }
-    ensures same { result ≢ 0 → core.new ≡ core.old }
+    ensures unchanged { result ≢ 0 → core.new ≡ core.old }
     ensures nothing { result ≢ 0 → (kept.new ≡ 0) × (bytes.new ≡ 0) × (dropped.new ≡ 0)
         × (len.new ≡ 0) × (more.new ≡ false) × (out.new ≡ out.old) }
-    ensures nodes { nodes core.new ≡ nodes core.old }
 {
     *kept = 0;
     *bytes = 0;

@@ -1,7 +1,7 @@
 //! The records of a log, as bytes.
 ghost use Rattle.std.specs.Prelude.{◌≡◌, List, None};
 ghost use Rattle.hlc_core.specs.Past.{Step};
-ghost use Rattle.hlc_core.specs.StoreView.{nodes, Represents};
+ghost use Rattle.hlc_core.specs.StoreView.{Represents};
 ghost use Rattle.hlc_log.specs.declared.record.Record.{Record as ARecord};
 ghost use Rattle.hlc_log.specs.Record.{record_refusal, record_seen};
 ghost use Rattle.hlc_calls.specs.Records.{end_code, end_word, ReturnsApplied, ReturnsRecord};
@@ -21,9 +21,8 @@ pub fn apply_all(
     threshold: &mut u64,
     word: &mut u64,
 ) -> u32
-    ensures answer { (past : List Step) → Represents core.old past → ReturnsApplied (nodes core.old)
-        core.new bytes.now past result used.new many.new threshold.new word.new }
-    ensures nodes { nodes core.new ≡ nodes core.old }
+    ensures { (past : List Step) → Represents core.old past → ReturnsApplied core.new bytes.now past
+        result used.new many.new threshold.new word.new }
 {
     let applied = apply_records(core, bytes, Stamp::ZERO);
     *used = applied.bytes;

@@ -1,22 +1,22 @@
 //! What a store has: its nodes, their links, and its open snapshots.
 ghost use Rattle.std.specs.Prelude.{◌≡◌, ◌==◌, ◌&&◌, List, not, slice_get};
 ghost use Rattle.hlc_core.specs.Past.{Step, numbered, open_snapshots};
-ghost use Rattle.hlc_core.specs.StoreView.{nodes, Represents};
+ghost use Rattle.hlc_core.specs.StoreView.{Represents};
 ghost use Rattle.hlc_calls.specs.Status.{ReturnsLink, IsFirstHolder, ReturnsHolder, ReturnsSnapshot};
 
 use hlc_core::{Core, Intake, Stamp};
 
 /// Returns the number of nodes, with those that joined and those that retired.
 pub fn nodes(core: &Core) -> u64
-    ensures { (past : List Step) → Represents core.now past → result ≡ numbered (nodes core.now) past }
+    ensures { (past : List Step) → Represents core.now past → result ≡ numbered past }
 {
     core.links().len() as u64
 }
 
 /// Returns 0, the number of a node's next item, its head and whether it has retired; or 1.
 pub fn link(core: &Core, node: u16, next: &mut u64, head: &mut u64, retired: &mut bool) -> u32
-    ensures { (past : List Step) → Represents core.now past → ReturnsLink
-        (nodes core.now) node past result next.new head.new retired.new }
+    ensures { (past : List Step) → Represents core.now past
+        → ReturnsLink node past result next.new head.new retired.new }
 {
     *next = 0;
     *head = 0;
@@ -53,8 +53,8 @@ fn holder(links: &[Intake], floor: Stamp) -> Option<usize>
 
 /// Returns 0 and the first node whose head is the floor and which has not retired; or 115, if all nodes have.
 pub fn floor_node(core: &Core, node: &mut u64) -> u32
-    ensures { (past : List Step) → Represents core.now past → ReturnsHolder
-        (nodes core.now) past result node.new }
+    ensures { (past : List Step) → Represents core.now past
+        → ReturnsHolder past result node.new }
 {
     *node = 0;
     match holder(core.links(), core.floor()) {

@@ -83,7 +83,7 @@ impl Growing {
     pub fn add(&mut self, row: Row) -> Result<(), NoMemory>
         ensures ok { (kept : StoreView) → HasGrown self.old kept
             → OnOk result (HasGrown self.new (with_row kept row)) }
-        ensures err { OnErr result (self.new ≡ self.old) }
+        ensures unchanged { OnErr result (self.new ≡ self.old) }
     {
         let checks = checked_on(self.checks, self.head.links(), &self.last, &row);
         let last = put(self.alloc, &mut self.table, row, checks)?;
@@ -158,7 +158,7 @@ fn put(alloc: Global, table: &mut Table, row: Row, checks: Checks) -> Result<Row
     ensures last { IfOk result (λ last. last ≡ without_value row) }
     ensures ok { OnOk result (IsTrue checks.ascend → IsTrue checks.under → IsTrue checks.limits
         → IsPermutation (table.old ++ row ∷ []) table.new) }
-    ensures err { OnErr result (table.new ≡ table.old) }
+    ensures unchanged { OnErr result (table.new ≡ table.old) }
 {
     let Row {
         key,

@@ -99,7 +99,7 @@ impl Clock {
         ensures rule { IsClockAnswer (self.old ∷ []) reading result }
         ensures value { result ≡ expected_stamp (self.old ∷ []) reading }
         ensures ok { IfOk result (λ stamp. self.new ≡ stamp) }
-        ensures err { OnErr result (self.new ≡ self.old) }
+        ensures unchanged { OnErr result (self.new ≡ self.old) }
     {
         let answer = stamp_after(self.last, reading);
         if let Ok(stamp) = answer {
@@ -118,7 +118,7 @@ impl Clock {
         ensures rule { IsClockAnswer (self.old ∷ seen ∷ []) reading result }
         ensures value { result ≡ expected_stamp (self.old ∷ seen ∷ []) reading }
         ensures ok { IfOk result (λ stamp. self.new ≡ stamp) }
-        ensures err { OnErr result (self.new ≡ self.old) }
+        ensures unchanged { OnErr result (self.new ≡ self.old) }
     {
         let answer = stamp_after_both(self.last, seen, reading);
         if let Ok(stamp) = answer {

@@ -77,7 +77,7 @@ impl Column {
         ensures ok { OnOk result (self.new
             ≡ self.old ++ record { stamp = stamp; node = node; value = value } ∷ []) }
         ensures few { length self.old < 4 → IsOk result }
-        ensures err { OnErr result (self.new ≡ self.old) }
+        ensures unchanged { OnErr result (self.new ≡ self.old) }
         ensures value_returned { IfErr result (λ failed. failed.value ≡ value) }
     {
         if self.lists.reserve().is_err() {

@@ -191,7 +191,7 @@ fn make_room<T: MadeWith<Global> + Drop, const N: usize>(
     ensures growth { OnOk result (HasRoomFor items.old 1
         ⊎ (length items.old.items + max 4 (length items.old.items / 2) ≤ items.new.capacity)) }
     ensures succeeds { HasRoomFor items.old 1 → IsOk result }
-    ensures err { OnErr result (items.new ≡ items.old) }
+    ensures unchanged { OnErr result (items.new ≡ items.old) }
 {
     let count = items.len();
     if count < items.capacity() {

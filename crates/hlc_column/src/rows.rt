@@ -132,7 +132,7 @@ impl Rows {
         ensures ok { OnOk result (self.new
             ≡ self.old ++ record { stamp = stamp; node = node; value = value } ∷ []) }
         ensures grows { length self.old ≤ length self.new }
-        ensures err { OnErr result (self.new ≡ self.old) }
+        ensures unchanged { OnErr result (self.new ≡ self.old) }
     {
         if !has_room(&self.form) {
             enlarge(alloc, &mut self.form)?;

@@ -205,6 +205,7 @@ inserted-IsRowSet old row new (front, back, was, is, others) none apart =
 
 -- whether it was added or not, the rows are a row set
 pub either-IsRowSet : {R E : Type 0} (result : Result R E) (old : List Row) (row : Row) (new : List Row)
-    → OnOk result (InsertedLast old row new) → OnErr result (new ≡ old) → HasNoVersion old row → IsRowSet old → IsRowSet new
+    → OnOk result (InsertedLast old row new) → OnErr result (new ≡ old) → HasNoVersion old row → IsRowSet old
+    → IsRowSet new
 either-IsRowSet (Ok r) old row new ok err none apart = inserted-IsRowSet old row new ok none apart
 either-IsRowSet (Err e) old row new ok err none apart = subst IsRowSet (sym err) apart

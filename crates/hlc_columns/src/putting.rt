@@ -42,7 +42,7 @@ pub(crate) fn put_row(
     requires fit { Fit sizes.old }
     ensures ok { OnOk result (InsertedLast (indexed_rows columns.old) (new_row row.entry)
         (indexed_rows columns.new)) }
-    ensures err { OnErr result (indexed_rows columns.new ≡ indexed_rows columns.old) }
+    ensures unchanged { OnErr result (indexed_rows columns.new ≡ indexed_rows columns.old) }
     ensures filled { AreFilled columns.new }
     ensures sizes { sizes.new ≡ sizes_of (entries_in columns.new) }
     ensures fit { Fit sizes.new }
@@ -82,7 +82,7 @@ fn push_at(
     ensures ok { (key : List ℕ) → IsEntryAt columns.old key at slot
         → OnOk result (InsertedLast (indexed_rows columns.old)
         (record { key = key; stamp = stamp; node = node; value = value }) (indexed_rows columns.new)) }
-    ensures err { OnErr result (indexed_rows columns.new ≡ indexed_rows columns.old) }
+    ensures unchanged { OnErr result (indexed_rows columns.new ≡ indexed_rows columns.old) }
     ensures filled { AreFilled columns.new }
     ensures sizes { OnOk result (sizes_of (entries_in columns.new)
         ≡ with_row (sizes_of (entries_in columns.old)) (value_bytes value)) }
@@ -105,7 +105,7 @@ fn add_column(
     requires filled { AreFilled columns.old }
     ensures ok { OnOk result (InsertedLast (indexed_rows columns.old) (new_row row.entry)
         (indexed_rows columns.new)) }
-    ensures err { OnErr result (indexed_rows columns.new ≡ indexed_rows columns.old) }
+    ensures unchanged { OnErr result (indexed_rows columns.new ≡ indexed_rows columns.old) }
     ensures filled { AreFilled columns.new }
     ensures sizes { OnOk result (sizes_of (entries_in columns.new)
         ≡ with_key (with_row (sizes_of (entries_in columns.old)) (value_bytes row.entry.value))

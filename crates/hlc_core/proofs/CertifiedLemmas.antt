@@ -21,7 +21,7 @@ use Rattle.hlc_vacuum.proofs.CountLemmas.{split_count, same_above}
 use Rattle.hlc_vacuum.proofs.RepresentingLemmas.{representing_rows_are_fewest}
 use Rattle.hlc_core.specs.Past.{Step, Vacuumed, horizon, open_snapshots, writes, vacuum_refusal}
 use Rattle.hlc_core.specs.Stored.{AreVacuumPoints, IsReport}
-use Rattle.hlc_core.specs.StoreView.{StoreView, nodes, Represents}
+use Rattle.hlc_core.specs.StoreView.{StoreView, Represents}
 use Rattle.hlc_core.specs.PlanAt.{IsPlanAt}
 use Rattle.hlc_core.specs.Certified.{IsCertified, AreNotFewest}
 use Rattle.hlc_core.proofs.PastLemmas.{vacuum-above}
@@ -36,7 +36,7 @@ plan-points kept at past plan h planned =
 
 -- a plan that drops no row is a certificate
 pub plan-certifies : (kept : StoreView) (at : ℕ) (past : List Step) (plan : PlanView) → Represents kept past
-    → vacuum_refusal (nodes kept) past at ≡ None → IsPlanAt kept at plan → count_by not plan.keep ≡ 0
+    → vacuum_refusal past at ≡ None → IsPlanAt kept at plan → count_by not plan.keep ≡ 0
     → IsCertified kept at past (report_of plan)
 plan-certifies kept at past plan h none planned all =
     let same : items_where_true plan.keep kept.rows ≡ kept.rows =
@@ -51,12 +51,12 @@ plan-certifies kept at past plan h none planned all =
 
 -- a plan that drops a row leaves fewer, which answer alike
 pub plan-leaves-fewer : (kept : StoreView) (at : ℕ) (past : List Step) (plan : PlanView) → Represents kept past
-    → vacuum_refusal (nodes kept) past at ≡ None → IsPlanAt kept at plan → 0 < count_by not plan.keep
+    → vacuum_refusal past at ≡ None → IsPlanAt kept at plan → 0 < count_by not plan.keep
     → AreNotFewest kept at past
 plan-leaves-fewer kept at past plan h none planned some =
     let left : List Row = items_where_true plan.keep kept.rows in
     let are : AreVacuumPoints at past plan.points = plan-points kept at past plan h planned in
-    let high : horizon past ≤ at = vacuum-above (nodes kept) past at none in
+    let high : horizon past ≤ at = vacuum-above past at none in
     let after : RepresentsAfterVacuum left (writes past) at (stamps_to at (open_snapshots past)) plan.points
     plan.witnesses = represents-vacuumed kept at past left (report_of plan) h high are planned.made.vacuumed in
     let number : count_by not plan.keep + length left ≡ length kept.rows =

@@ -19,14 +19,15 @@ use Rattle.hlc_snapshot.specs.RegistryView.{RegistryView, IsRegister, opened_at,
 use Rattle.hlc_snapshot.proofs.RegisterLemmas.{closed-is_register}
 use Rattle.hlc_witness.specs.Certificate.{RowsAscend}
 use Rattle.hlc_witness.specs.Cost.{IsInLimits}
-use Rattle.hlc_core.specs.Past.{Step, Took, Opened, Closed, Vacuumed, PartVacuumed, Joined, numbered, count, head}
+use Rattle.hlc_core.specs.Past.{Step, initial_nodes, Started, Took, Opened, Closed, Vacuumed, PartVacuumed, Joined}
+use Rattle.hlc_core.specs.Past.{numbered, count, head}
 use Rattle.hlc_core.specs.Past.{retired}
 use Rattle.hlc_core.specs.Past.{top, floor, horizon, opened, open_snapshots, of_room}
 use Rattle.hlc_events.specs.Faults.{of_registry}
 use Rattle.hlc_core.specs.Past.{IsLegal, writes, greatest_accepted}
 use Rattle.hlc_events.specs.declared.fault.CoreFault.TheVariants.{Join}
 use Rattle.hlc_heads.specs.declared.heads.JoinFault.TheVariants.{TooManyNodes}
-use Rattle.hlc_core.specs.StoreView.{StoreView, nodes, greatest_head, HasNodes, HasStamps, HasLastItem}
+use Rattle.hlc_core.specs.StoreView.{StoreView, greatest_head, HasNodes, HasStamps, HasLastItem}
 use Rattle.hlc_core.specs.StoreView.{Represents}
 use Rattle.hlc_core.specs.Checkpoint.{IsCheckpoint, IsCopyOf, IsUnderHead, floor_in}
 use Rattle.hlc_core.proofs.PastLemmas.{inside, rises, head-same, head-other, head-joined, head-joined_other, floor-some}
@@ -37,40 +38,44 @@ use Rattle.hlc_core.proofs.Moved.{represents-moved}
 use Rattle.hlc_core.proofs.Sound.{greatest-ge, greatest-le}
 
 -- the nodes at the start keep their numbers
-numbered-from : (nodes : ℕ) (past : List Step) → nodes ≤ numbered nodes past
-numbered-from nodes [] = omega arith
-numbered-from nodes (Took item ∷ past) = numbered-from nodes past
-numbered-from nodes (Opened stamp ∷ past) = numbered-from nodes past
-numbered-from nodes (Closed id ∷ past) = numbered-from nodes past
-numbered-from nodes (Vacuumed at ∷ past) = numbered-from nodes past
-numbered-from nodes (PartVacuumed at dropped ∷ past) = numbered-from nodes past
-numbered-from nodes (Joined node start ∷ past) = (let h = numbered-from nodes past in omega (arith, h))
+numbered-from : (past : List Step) → initial_nodes past ≤ numbered past
+numbered-from [] = omega arith
+numbered-from (Took item ∷ past) = numbered-from past
+numbered-from (Opened stamp ∷ past) = numbered-from past
+numbered-from (Started nodes ∷ past) = omega arith
+numbered-from (Closed id ∷ past) = numbered-from past
+numbered-from (Vacuumed at ∷ past) = numbered-from past
+numbered-from (PartVacuumed at dropped ∷ past) = numbered-from past
+numbered-from (Joined node start ∷ past) = (let h = numbered-from past in omega (arith, h))
 
 -- and no more numbers are assigned than there are
-numbered-few : (nodes : ℕ) (past : List Step) → nodes ≤ MAX_INITIAL_NODES → IsLegal nodes past
-    → numbered nodes past ≤ MAX_NODES
-numbered-few nodes [] few legal = omega arith
-numbered-few nodes (Took item ∷ past) few legal = numbered-few nodes past few legal.1
-numbered-few nodes (Opened stamp ∷ past) few legal = numbered-few nodes past few legal.1
-numbered-few nodes (Closed id ∷ past) few legal = numbered-few nodes past few legal.1
-numbered-few nodes (Vacuumed at ∷ past) few legal = numbered-few nodes past few legal.1
-numbered-few nodes (PartVacuumed at dropped ∷ past) few legal = numbered-few nodes past few legal.1
-numbered-few nodes (Joined node start ∷ past) few legal =
-    elim (cases_lt (numbered nodes past) MAX_NODES) [
-      | inl below ↦ (let g : numbered nodes past < MAX_NODES = below in omega arith)
+numbered-few : (past : List Step) → initial_nodes past ≤ MAX_INITIAL_NODES → IsLegal past
+    → numbered past ≤ MAX_NODES
+numbered-few [] few legal = omega arith
+numbered-few (Took item ∷ past) few legal = numbered-few past few legal.1
+numbered-few (Opened stamp ∷ past) few legal = numbered-few past few legal.1
+numbered-few (Started nodes ∷ past) few legal =
+    (let none : numbered past ≡ 0 = ap numbered legal.0 in omega (arith, few))
+numbered-few (Closed id ∷ past) few legal = numbered-few past few legal.1
+numbered-few (Vacuumed at ∷ past) few legal = numbered-few past few legal.1
+numbered-few (PartVacuumed at dropped ∷ past) few legal = numbered-few past few legal.1
+numbered-few (Joined node start ∷ past) few legal =
+    elim (cases_lt (numbered past) MAX_NODES) [
+      | inl below ↦ (let g : numbered past < MAX_NODES = below in omega arith)
       | inr full ↦ absurd (let g : Some (Join TooManyNodes) ≡ None =
-          sym (cond-true _ _ _ (le-leb MAX_NODES (numbered nodes past) full)) ∙ legal.0 in cc)
+          sym (cond-true _ _ _ (le-leb MAX_NODES (numbered past) full)) ∙ legal.0 in cc)
     ]
 
 -- no head is above the top
-pub heads-low : (nodes : ℕ) (past : List Step) → IsLegal nodes past → (n : ℕ) → head n past ≤ top past
-heads-low nodes [] legal n = omega arith
-heads-low nodes (Opened stamp ∷ past) legal n = heads-low nodes past legal.1 n
-heads-low nodes (Closed id ∷ past) legal n = heads-low nodes past legal.1 n
-heads-low nodes (Vacuumed at ∷ past) legal n = heads-low nodes past legal.1 n
-heads-low nodes (PartVacuumed at dropped ∷ past) legal n = heads-low nodes past legal.1 n
-heads-low nodes (Joined node start ∷ past) legal n =
-    let old : head n past ≤ top past = heads-low nodes past legal.3 n in
+pub heads-low : (past : List Step) → IsLegal past → (n : ℕ) → head n past ≤ top past
+heads-low [] legal n = omega arith
+heads-low (Opened stamp ∷ past) legal n = heads-low past legal.1 n
+heads-low (Started nodes ∷ past) legal n = heads-low past legal.1 n
+heads-low (Closed id ∷ past) legal n = heads-low past legal.1 n
+heads-low (Vacuumed at ∷ past) legal n = heads-low past legal.1 n
+heads-low (PartVacuumed at dropped ∷ past) legal n = heads-low past legal.1 n
+heads-low (Joined node start ∷ past) legal n =
+    let old : head n past ≤ top past = heads-low past legal.3 n in
     elim (cases_eq node n) [
       | inl same ↦
           (let e : head n (Joined node start ∷ past) ≡ start = head-joined n node start past same in
@@ -79,49 +84,51 @@ heads-low nodes (Joined node start ∷ past) legal n =
           head-joined_other n node start past other in
           let goal : head n (Joined node start ∷ past) ≤ max (top past) start = omega arith in goal)
     ]
-heads-low nodes (Took item ∷ past) legal n =
-    let old : head n past ≤ top past = heads-low nodes past legal.1 n in
+heads-low (Took item ∷ past) legal n =
+    let old : head n past ≤ top past = heads-low past legal.1 n in
     elim (cases_eq item.node n) [
       | inl same ↦ (let e : head n (Took item ∷ past) ≡ item.stamp = head-same n item past same in omega arith)
       | inr other ↦ (let e : head n (Took item ∷ past) ≡ head n past = head-other n item past other in omega arith)
     ]
 
 -- and one head is it
-pub top-at : (nodes : ℕ) (past : List Step) → 0 < nodes → IsLegal nodes past
-    → (n : ℕ) × (n < numbered nodes past) × (head n past ≡ top past)
-top-at nodes [] some legal = (0, some, refl)
-top-at nodes (Opened stamp ∷ past) some legal = top-at nodes past some legal.1
-top-at nodes (Closed id ∷ past) some legal = top-at nodes past some legal.1
-top-at nodes (Vacuumed at ∷ past) some legal = top-at nodes past some legal.1
-top-at nodes (PartVacuumed at dropped ∷ past) some legal = top-at nodes past some legal.1
-top-at nodes (Joined node start ∷ past) some legal =
-    let old = top-at nodes past some legal.3 in
-    let within : old.0 < numbered nodes past = old.1 in
+pub top-at : (past : List Step) → 0 < initial_nodes past → IsLegal past
+    → (n : ℕ) × (n < numbered past) × (head n past ≡ top past)
+top-at [] some legal = absurd (omega (arith, some))
+top-at (Opened stamp ∷ past) some legal = top-at past some legal.1
+top-at (Started nodes ∷ past) some legal =
+    rw legal.0 (0, omega (arith, some), refl)
+top-at (Closed id ∷ past) some legal = top-at past some legal.1
+top-at (Vacuumed at ∷ past) some legal = top-at past some legal.1
+top-at (PartVacuumed at dropped ∷ past) some legal = top-at past some legal.1
+top-at (Joined node start ∷ past) some legal =
+    let old = top-at past some legal.3 in
+    let within : old.0 < numbered past = old.1 in
     let was : head old.0 past ≡ top past = old.2 in
-    let is : node ≡ numbered nodes past = legal.1 in
+    let is : node ≡ numbered past = legal.1 in
     elim (cases_lt (top past) start) [
       | inl above ↦ (
         node,
-        (let goal : node < numbered nodes past + 1 = omega arith in goal),
+        (let goal : node < numbered past + 1 = omega arith in goal),
         (let e : head node (Joined node start ∷ past) ≡ start = head-joined node node start past refl in
             let goal : head node (Joined node start ∷ past) ≡ max (top past) start = omega arith in goal),
       )
       | inr below ↦ (
         old.0,
-        (let goal : old.0 < numbered nodes past + 1 = omega arith in goal),
+        (let goal : old.0 < numbered past + 1 = omega arith in goal),
         (let e : head old.0 (Joined node start ∷ past) ≡ head old.0 past =
             head-joined_other old.0 node start past (λ e. omega (arith, e)) in
             let goal : head old.0 (Joined node start ∷ past) ≡ max (top past) start = omega arith in goal),
       )
     ]
-top-at nodes (Took item ∷ past) some legal =
-    let old = top-at nodes past some legal.1 in
+top-at (Took item ∷ past) some legal =
+    let old = top-at past some legal.1 in
     let at : head old.0 past ≡ top past = old.2 in
-    let up : head item.node past < item.stamp = rises nodes past item legal.0 in
+    let up : head item.node past < item.stamp = rises past item legal.0 in
     elim (cases_lt (top past) item.stamp) [
       | inl above ↦ (
         item.node,
-        inside nodes past item legal.0,
+        inside past item legal.0,
         (let e : head item.node (Took item ∷ past) ≡ item.stamp = head-same item.node item past refl in
             let goal : head item.node (Took item ∷ past) ≡ max (top past) item.stamp = omega arith in goal),
       )
@@ -136,18 +143,18 @@ top-at nodes (Took item ∷ past) some legal =
     ]
 
 -- if all nodes have retired, the floor is the greatest stamp of an accepted item
-pub floor-retired : (nodes : ℕ) (past : List Step) → 0 < nodes → IsLegal nodes past
-    → ((n : ℕ) → n < numbered nodes past → retired n past ≡ true) → floor nodes past ≡ greatest_accepted past
-floor-retired nodes past some legal has_retired =
-    elim (floor-some nodes past) [
+pub floor-retired : (past : List Step) → 0 < initial_nodes past → IsLegal past
+    → ((n : ℕ) → n < numbered past → retired n past ≡ true) → floor past ≡ greatest_accepted past
+floor-retired past some legal has_retired =
+    elim (floor-some past) [
       | inl one ↦ absurd (let e : false ≡ true = sym one.2 ∙ has_retired one.0 one.1 in cc)
       | inr all' ↦
-          let one = top-at nodes past some legal in
+          let one = top-at past some legal in
           let e : head one.0 past ≡ top past = one.2 in
           let low : head one.0 past ≤ greatest_accepted past =
-          retired-head nodes past one.0 legal (has_retired one.0 one.1) in
+          retired-head past one.0 legal (has_retired one.0 one.1) in
           let up : greatest_accepted past ≤ top past = accepted-low past in
-          let at : floor nodes past ≡ top past = all'.1 in omega arith
+          let at : floor past ≡ top past = all'.1 in omega arith
     ]
 
 -- the registry of a legal past
@@ -176,50 +183,52 @@ register-open register stamp h none =
       in_range = omega arith;
     }
 
-pub register-of : (nodes : ℕ) (past : List Step) → IsLegal nodes past
+pub register-of : (past : List Step) → IsLegal past
     → IsRegister (record { snapshots = open_snapshots past; opened = opened past })
-register-of nodes [] legal =
+register-of [] legal =
     record {
       rising = λ i j d less within. absurd (omega arith);
       bounded = All-nil _;
       few = omega arith;
       in_range = omega arith;
     }
-register-of nodes (Took item ∷ past) legal = register-of nodes past legal.1
-register-of nodes (Vacuumed at ∷ past) legal = register-of nodes past legal.1
-register-of nodes (PartVacuumed at dropped ∷ past) legal = register-of nodes past legal.1
-register-of nodes (Joined node start ∷ past) legal = register-of nodes past legal.3
-register-of nodes (Closed id ∷ past) legal =
+register-of (Took item ∷ past) legal = register-of past legal.1
+register-of (Vacuumed at ∷ past) legal = register-of past legal.1
+register-of (PartVacuumed at dropped ∷ past) legal = register-of past legal.1
+register-of (Joined node start ∷ past) legal = register-of past legal.3
+register-of (Started nodes ∷ past) legal = register-of past legal.1
+register-of (Closed id ∷ past) legal =
     closed-is_register (record { snapshots = open_snapshots past; opened = opened past }) id
-    (register-of nodes past legal.1)
-register-of nodes (Opened stamp ∷ past) legal =
+    (register-of past legal.1)
+register-of (Opened stamp ∷ past) legal =
     register-open (record { snapshots = open_snapshots past; opened = opened past }) stamp
-    (register-of nodes past legal.1)
-    (of_room-none _ (sym (open-room nodes past stamp (open-below nodes past stamp legal.0)
-    (open-above nodes past stamp legal.0)) ∙ legal.0))
+    (register-of past legal.1)
+    (of_room-none _ (sym (open-room past stamp (open-below past stamp legal.0)
+    (open-above past stamp legal.0)) ∙ legal.0))
 
 -- each item has a stamp of its own above 0.0
-count-low : (nodes : ℕ) (past : List Step) → IsLegal nodes past → (n : ℕ) → count n past ≤ head n past
-count-low nodes [] legal n = omega arith
-count-low nodes (Opened stamp ∷ past) legal n = count-low nodes past legal.1 n
-count-low nodes (Closed id ∷ past) legal n = count-low nodes past legal.1 n
-count-low nodes (Vacuumed at ∷ past) legal n = count-low nodes past legal.1 n
-count-low nodes (PartVacuumed at dropped ∷ past) legal n = count-low nodes past legal.1 n
-count-low nodes (Joined node start ∷ past) legal n =
-    let old : count n past ≤ head n past = count-low nodes past legal.3 n in
+count-low : (past : List Step) → IsLegal past → (n : ℕ) → count n past ≤ head n past
+count-low [] legal n = omega arith
+count-low (Opened stamp ∷ past) legal n = count-low past legal.1 n
+count-low (Started nodes ∷ past) legal n = count-low past legal.1 n
+count-low (Closed id ∷ past) legal n = count-low past legal.1 n
+count-low (Vacuumed at ∷ past) legal n = count-low past legal.1 n
+count-low (PartVacuumed at dropped ∷ past) legal n = count-low past legal.1 n
+count-low (Joined node start ∷ past) legal n =
+    let old : count n past ≤ head n past = count-low past legal.3 n in
     elim (cases_eq node n) [
       | inl same ↦
           let none : count n past ≡ 0 =
-          (fresh nodes past n legal.3 (let is : node ≡ numbered nodes past = legal.1 in omega arith)).0 in
+          (fresh past n legal.3 (let is : node ≡ numbered past = legal.1 in omega arith)).0 in
           (let e : head n (Joined node start ∷ past) ≡ start = head-joined n node start past same in omega arith)
       | inr other ↦ (let e : head n (Joined node start ∷ past) ≡ head n past =
           head-joined_other n node start past other in omega arith)
     ]
-count-low nodes (Took item ∷ past) legal n =
-    let old : count n past ≤ head n past = count-low nodes past legal.1 n in
+count-low (Took item ∷ past) legal n =
+    let old : count n past ≤ head n past = count-low past legal.1 n in
     elim (cases_eq item.node n) [
       | inl same ↦
-          let up : head item.node past < item.stamp = rises nodes past item legal.0 in
+          let up : head item.node past < item.stamp = rises past item legal.0 in
           let at : head item.node past ≡ head n past = ap (λ k. head k past) same in
           let e : head n (Took item ∷ past) ≡ item.stamp = head-same n item past same in
           let f : count n (Took item ∷ past) ≡ count n past + 1 = cond-true _ _ _ (eq-eqb _ _ same) in omega arith
@@ -232,6 +241,7 @@ count-low nodes (Took item ∷ past) legal n =
 count-retired : (past : List Step) (n : ℕ) → retired n past ≡ true → 0 < count n past
 count-retired [] n has_retired = absurd cc
 count-retired (Opened stamp ∷ past) n has_retired = count-retired past n has_retired
+count-retired (Started nodes ∷ past) n has_retired = count-retired past n has_retired
 count-retired (Closed id ∷ past) n has_retired = count-retired past n has_retired
 count-retired (Vacuumed at ∷ past) n has_retired = count-retired past n has_retired
 count-retired (PartVacuumed at dropped ∷ past) n has_retired = count-retired past n has_retired
@@ -258,29 +268,35 @@ link-head : (kept : StoreView) (past : List Step) → Represents kept past → (
 link-head kept past h k d lt = ap (λ (link : IntakeView). link.head) (link-is kept past h k d lt)
 
 -- the floor of a state is that of the past which it represents
-pub floor-in : (kept : StoreView) (past : List Step) → Represents kept past → floor_in kept ≡ floor (nodes kept) past
+pub floor-in : (kept : StoreView) (past : List Step) → Represents kept past → floor_in kept ≡ floor past
 floor-in kept past h =
     low-same (λ k. (link_at kept.links k).head) (λ k. head k past) (λ k. (link_at kept.links k).retired)
-    (λ k. retired k past) (length kept.links) (numbered (nodes kept) past) kept.top (top past) h.many h.top
+    (λ k. retired k past) (length kept.links) (numbered past) kept.top (top past) h.many h.top
     (λ k within.
     let is = link-is kept past h k no_link (let many = h.many in omega (arith, within, many)) in
     (ap (λ (link : IntakeView). link.head) is, ap (λ (link : IntakeView). link.retired) is))
 
-pub checkpoint-sound : (kept : StoreView) (past : List Step) → Represents kept past → 0 < nodes kept
-    → nodes kept ≤ MAX_INITIAL_NODES → RowsAscend kept.rows → IsCheckpoint kept
+pub checkpoint-sound : (kept : StoreView) (past : List Step) → Represents kept past → 0 < kept.start
+    → kept.start ≤ MAX_INITIAL_NODES → RowsAscend kept.rows → IsCheckpoint kept
 checkpoint-sound kept past h some few ascend =
-    let many : length kept.links ≡ numbered (nodes kept) past = h.many in
-    let from = numbered-from (nodes kept) past in
-    let bounded = numbered-few (nodes kept) past few h.legal in
+    let many : length kept.links ≡ numbered past = h.many in
+    let from = numbered-from past in
+    let some' : 0 < initial_nodes past = rw (← h.start) some in
+    let bounded = numbered-few past (rw (← h.start) few) h.legal in
     let has : HasNodes kept.start kept.links =
-    record { some = some; few = few; linked = omega (arith, from); bounded = omega (arith, bounded) } in
-    let at : floor_in kept ≡ floor (nodes kept) past = floor-in kept past h in
-    let most = top-at (nodes kept) past some h.legal in
-    let within : most.0 < length kept.links = (let w : most.0 < numbered (nodes kept) past = most.1 in omega arith) in
+    record {
+      some = some;
+      few = few;
+      linked = (let start = h.start in omega (arith, from, start));
+      bounded = omega (arith, bounded);
+    } in
+    let at : floor_in kept ≡ floor past = floor-in kept past h in
+    let most = top-at past some' h.legal in
+    let within : most.0 < length kept.links = (let w : most.0 < numbered past = most.1 in omega arith) in
     let d : IntakeView = record { next = 0; head = 0; retired = true } in
     record {
       nodes = has;
-      stamps = λ k d lt. subst HasStamps (sym (link-is kept past h k d lt)) (count-low (nodes kept) past h.legal k);
+      stamps = λ k d lt. subst HasStamps (sym (link-is kept past h k d lt)) (count-low past h.legal k);
       last = λ k d lt. subst HasLastItem (sym (link-is kept past h k d lt)) (count-retired past k);
       top =
           (let t : kept.top ≡ top past = h.top in
@@ -291,27 +307,27 @@ checkpoint-sound kept past h some few ascend =
           let e : greatest_head kept.links ≤ top past =
           greatest-le kept.links (top past)
           (λ k d lt. (let f = link-head kept past h k d lt in
-          let g = heads-low (nodes kept) past h.legal k in omega (arith, f, g))) in
+          let g = heads-low past h.legal k in omega (arith, f, g))) in
           omega arith);
       register = subst IsRegister
           (ap (λ xs. record { snapshots = xs; opened = opened past }) (sym h.snapshots)
           ∙ ap (λ n. record { snapshots = kept.snapshots; opened = n }) (sym h.opened))
-          (register-of (nodes kept) past h.legal);
+          (register-of past h.legal);
       opened = subst (λ xs. All (λ (s : Snapshot). s.stamp ≤ floor_in kept) xs) (sym h.snapshots)
           (subst (λ f. All (λ (s : Snapshot). s.stamp ≤ f) (open_snapshots past)) (sym at)
-          (open-low (nodes kept) past h.legal));
-      horizon = (let low = horizon-low (nodes kept) past h.legal in
+          (open-low past h.legal));
+      horizon = (let low = horizon-low past h.legal in
           let e : kept.horizon ≡ horizon past = h.horizon in omega (arith, low, at));
       ascend = ascend;
       under = All-weaker (Contains kept.rows) (IsUnderHead kept.links)
           (λ row m.
           let all' : Contains (writes past) row = h.rows.within row m in
-          let node : row.node < numbered (nodes kept) past = inside-row (nodes kept) past h.legal row all' in
+          let node : row.node < numbered past = inside-row past h.legal row all' in
           subst (λ o. MatchOption o ⊥ (λ link. row.stamp ≤ link.head)) (sym (h.links row.node (omega arith)))
-          (below_head (nodes kept) past h.legal row all'))
+          (below_head past h.legal row all'))
           kept.rows (All-contains_itself kept.rows);
       limits = All-weaker (Contains kept.rows) IsInLimits
-          (λ row m. All-contains IsInLimits (writes past) row (writes-limits (nodes kept) past h.legal)
+          (λ row m. All-contains IsInLimits (writes past) row (writes-limits past h.legal)
           (h.rows.within row m))
           kept.rows (All-contains_itself kept.rows);
     }

@@ -10,7 +10,7 @@ use Rattle.hlc_snapshot.specs.declared.snapshot.Snapshot.{Snapshot}
 use Rattle.hlc_snapshot.specs.RegistryView.{without, stamp_in}
 use Rattle.hlc_snapshot.proofs.RegisterLemmas.{stamp_in-hit}
 use Rattle.hlc_core.specs.Past.{Step, Closed, closed_all}
-use Rattle.hlc_core.specs.StoreView.{StoreView, IsConsistent, nodes, Represents, without_snapshots}
+use Rattle.hlc_core.specs.StoreView.{StoreView, IsConsistent, Represents, without_snapshots}
 use Rattle.hlc_core.proofs.Opening.{closes, less_snapshot}
 use Rattle.hlc_core.proofs.CheckpointLemmas.{register-of}
 
@@ -40,7 +40,7 @@ all-closed [] kept past are h =
       rows = kept.rows;
     }) past) are h
 all-closed (x ∷ xs) kept past are h =
-    let register = register-of (nodes kept) past h.legal in
+    let register = register-of past h.legal in
     let same = sym h.snapshots ∙ are in
     let above : All (λ (snapshot : Snapshot). x.id < snapshot.id) xs =
     λ k d within. (subst (AllPairs (λ (older newer : Snapshot). older.id < newer.id)) same register.rising) 0 (suc k) d

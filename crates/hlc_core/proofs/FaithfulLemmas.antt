@@ -14,7 +14,7 @@ use Rattle.hlc_witness.proofs.CostLemmas.{changes_force_bytes}
 use Rattle.hlc_core.specs.Past.{Step, floor, stamp_of, writes, IsLegal}
 use Rattle.hlc_draft.specs.declared.report.Report.{Report}
 use Rattle.hlc_core.specs.Stored.{IsReport, LeavesFewest}
-use Rattle.hlc_core.specs.StoreView.{StoreView, nodes, Represents}
+use Rattle.hlc_core.specs.StoreView.{StoreView, Represents}
 use Rattle.hlc_events.specs.declared.event.CoreEvent.{CoreEvent}
 use Rattle.hlc_events.specs.declared.event.CoreEvent.TheVariants.{Accept, Join, OpenAt, OpenFloor, Read}
 use Rattle.hlc_events.specs.declared.event.CoreEvent.TheVariants.{List as ListAll}
@@ -52,11 +52,11 @@ answered : (o : Option ℕ) (answers : ℕ → Option (List ℕ)) (value : Optio
 answered None answers value is = absurd is
 answered (Some stamp) answers value is = (stamp, refl, is)
 
-reads-newest : (nodes : ℕ) (h : List (CoreEvent × CoreReply)) → IsLegalHistory nodes h → ReadsAreNewest h
+reads-newest : (nodes : ℕ) (h : List (CoreEvent × CoreReply)) → IsLegalHistory nodes h → ReadsAreNewest nodes h
 reads-newest nodes h legal = λ before id key value moment.
-    let expected : IsExpected nodes (past_of before) (Read id key) (Answer value) =
+    let expected : IsExpected (past_of nodes before) (Read id key) (Answer value) =
     (moment-legal nodes h ((Read id key, Answer value) ∷ before) legal moment).0 in
-    answered (stamp_of id (past_of before)) (answer (writes (past_of before)) key) value expected.1
+    answered (stamp_of id (past_of nodes before)) (answer (writes (past_of nodes before)) key) value expected.1
 
 one-step : (step : Option Step) (more past : List Step)
     → (all : List Step) × (with_step step (more ++ past) ≡ all ++ past)
@@ -64,32 +64,32 @@ one-step None more past = (more, refl)
 one-step (Some step) more past = (step ∷ more, refl)
 
 -- what took place up to a moment of a history comes first in what took place in all of it
-past-before : (later before : List (CoreEvent × CoreReply))
-    → (more : List Step) × (past_of (later ++ before) ≡ more ++ past_of before)
-past-before [] before = ([], refl)
-past-before (entry ∷ later) before =
-    let rest = past-before later before in
-    let all = one-step (step_of entry.0 entry.1) rest.0 (past_of before) in
+past-before : (nodes : ℕ) (later before : List (CoreEvent × CoreReply))
+    → (more : List Step) × (past_of nodes (later ++ before) ≡ more ++ past_of nodes before)
+past-before nodes [] before = ([], refl)
+past-before nodes (entry ∷ later) before =
+    let rest = past-before nodes later before in
+    let all = one-step (step_of entry.0 entry.1) rest.0 (past_of nodes before) in
     (all.0, ap (with_step (step_of entry.0 entry.1)) rest.1 ∙ all.1)
 
 -- so it is legal
-moment-past : (nodes : ℕ) (h before : List (CoreEvent × CoreReply)) → IsLegal nodes (past_of h) → IsMoment h before
-    → IsLegal nodes (past_of before)
+moment-past : (nodes : ℕ) (h before : List (CoreEvent × CoreReply)) → IsLegal (past_of nodes h) → IsMoment h before
+    → IsLegal (past_of nodes before)
 moment-past nodes h before legal moment =
-    let rest = past-before moment.later before in
-    legal-before nodes (past_of before) rest.0
-    (subst (λ past. IsLegal nodes past) (ap past_of moment.order ∙ rest.1) legal)
+    let rest = past-before nodes moment.later before in
+    legal-before (past_of nodes before) rest.0
+    (subst (λ past. IsLegal past) (ap (past_of nodes) moment.order ∙ rest.1) legal)
 
 -- and a snapshot that is open at both moments has the same answers
 still-answers : (nodes : ℕ) (later before : List (CoreEvent × CoreReply)) (id stamp again : ℕ)
-    → IsLegal nodes (past_of (later ++ before)) → stamp_of id (past_of before) ≡ Some stamp
-    → stamp_of id (past_of (later ++ before)) ≡ Some again → (key : List ℕ)
-    → answer (writes (past_of (later ++ before))) key again ≡ answer (writes (past_of before)) key stamp
+    → IsLegal (past_of nodes (later ++ before)) → stamp_of id (past_of nodes before) ≡ Some stamp
+    → stamp_of id (past_of nodes (later ++ before)) ≡ Some again → (key : List ℕ)
+    → answer (writes (past_of nodes (later ++ before))) key again ≡ answer (writes (past_of nodes before)) key stamp
 still-answers nodes later before id stamp again =
-    let rest = past-before later before in
-    subst (λ all. IsLegal nodes all → stamp_of id (past_of before) ≡ Some stamp → stamp_of id all ≡ Some again
-    → (key : List ℕ) → answer (writes all) key again ≡ answer (writes (past_of before)) key stamp) (sym rest.1)
-    (λ legal is there. (snapshots-stay nodes (past_of before) rest.0 id stamp again legal is there).1)
+    let rest = past-before nodes later before in
+    subst (λ all. IsLegal all → stamp_of id (past_of nodes before) ≡ Some stamp → stamp_of id all ≡ Some again
+    → (key : List ℕ) → answer (writes all) key again ≡ answer (writes (past_of nodes before)) key stamp) (sym rest.1)
+    (λ legal is there. (snapshots-stay (past_of nodes before) rest.0 id stamp again legal is there).1)
 
 listed : (o : Option ℕ) (rows : List Row) (listing : List Pair) → IsListed o rows listing
     → (stamp : ℕ) × (o ≡ Some stamp) × IsListing rows stamp listing
@@ -109,16 +109,16 @@ same-listing rows others stamp other listing same is = record {
 }
 
 -- no answer of a snapshot changes
-stays : (nodes : ℕ) (h : List (CoreEvent × CoreReply)) → IsLegalHistory nodes h → IsLegal nodes (past_of h)
+stays : (nodes : ℕ) (h : List (CoreEvent × CoreReply)) → IsLegalHistory nodes h → IsLegal (past_of nodes h)
     → SnapshotsStay h
 stays nodes h legal past = record {
   reads = λ before between id key value again moment.
       let first : List (CoreEvent × CoreReply) = (Read id key, Answer value) ∷ before in
       let all = moment-legal nodes h ((Read id key, Answer again) ∷ (between ++ first)) legal moment in
-      let one = answered (stamp_of id (past_of before)) (answer (writes (past_of before)) key) value
+      let one = answered (stamp_of id (past_of nodes before)) (answer (writes (past_of nodes before)) key) value
       (before-legal nodes between first all.1).0.1 in
-      let two = answered (stamp_of id (past_of (between ++ first))) (answer (writes (past_of (between ++ first))) key)
-      again all.0.1 in
+      let later : List Step = past_of nodes (between ++ first) in
+      let two = answered (stamp_of id later) (answer (writes later) key) again all.0.1 in
       two.2
       ∙ still-answers nodes between first id one.0 two.0
       (moment-past nodes h ((Read id key, Answer again) ∷ (between ++ first)) past moment) one.1 two.1 key
@@ -126,12 +126,12 @@ stays nodes h legal past = record {
   listings = λ before between id listing again moment.
       let first : List (CoreEvent × CoreReply) = (ListAll id, Listing listing) ∷ before in
       let all = moment-legal nodes h ((ListAll id, Listing again) ∷ (between ++ first)) legal moment in
-      let one = listed (stamp_of id (past_of before)) (writes (past_of before)) listing
+      let one = listed (stamp_of id (past_of nodes before)) (writes (past_of nodes before)) listing
       (before-legal nodes between first all.1).0.1 in
-      let two = listed (stamp_of id (past_of (between ++ first))) (writes (past_of (between ++ first))) again
-      all.0.1 in
-      one-listing (writes (past_of before)) one.0 again listing
-      (same-listing (writes (past_of (between ++ first))) (writes (past_of before)) two.0 one.0 again
+      let later : List Step = past_of nodes (between ++ first) in
+      let two = listed (stamp_of id later) (writes later) again all.0.1 in
+      one-listing (writes (past_of nodes before)) one.0 again listing
+      (same-listing (writes (past_of nodes (between ++ first))) (writes (past_of nodes before)) two.0 one.0 again
       (still-answers nodes between first id one.0 two.0
       (moment-past nodes h ((ListAll id, Listing again) ∷ (between ++ first)) past moment) one.1 two.1) two.2) one.2;
 }
@@ -145,13 +145,13 @@ newest-after all stamp row m low (Some seen) is =
     (seen, is, (newest_is_greatest all row.key stamp seen is).greatest row m refl low)
 
 -- each snapshot shows all writes of an item or none of them
-shows-whole : (h : List (CoreEvent × CoreReply)) → SnapshotsShowWhole h
-shows-whole h = λ before id stamp item moment is took.
-    let all = writes (past_of before) in record {
+shows-whole : (nodes : ℕ) (h : List (CoreEvent × CoreReply)) → SnapshotsShowWhole nodes h
+shows-whole nodes h = λ before id stamp item moment is took.
+    let all = writes (past_of nodes before) in record {
       shown = λ below row m.
           let same : row.stamp ≡ item.stamp = (body_rows-are item.node item.stamp item.body row m).1 in
           let low : row.stamp ≤ stamp = omega (arith, below, same) in
-          newest-after all stamp row (took-writes (past_of before) item row took m) low
+          newest-after all stamp row (took-writes (past_of nodes before) item row took m) low
           (newest all row.key stamp) refl;
       hidden = λ above row seen m is.
           let low : seen.stamp ≤ stamp = (newest_is_greatest all row.key stamp seen is).in_bound in
@@ -159,81 +159,83 @@ shows-whole h = λ before id stamp item moment is took.
     }
 
 -- only an event that asks for a vacuum has a report as its reply
-reported : (nodes : ℕ) (past : List Step) (event : CoreEvent) (report : Report)
-    → IsExpected nodes past event (Vacuumed report)
-    → (at : ℕ) × (vacuum_stamp nodes past event ≡ Some at) × IsReport at past report
-reported nodes past (Accept item) report expected = absurd expected.1
-reported nodes past Join report expected = absurd expected.1
-reported nodes past (OpenAt stamp) report expected = absurd expected.1
-reported nodes past OpenFloor report expected = absurd expected.1
-reported nodes past (Read id key) report expected = absurd expected.1
-reported nodes past (ListAll id) report expected = absurd expected.1
-reported nodes past (Close id) report expected = absurd expected.1
-reported nodes past (JoinAt start) report expected = absurd expected.1
-reported nodes past Vacuum report expected = (floor nodes past, refl, expected.1)
-reported nodes past (VacuumTo at) report expected = (at, refl, expected.1)
-reported nodes past (VacuumPart at after most) report expected = absurd expected.1
+reported : (past : List Step) (event : CoreEvent) (report : Report)
+    → IsExpected past event (Vacuumed report)
+    → (at : ℕ) × (vacuum_stamp past event ≡ Some at) × IsReport at past report
+reported past (Accept item) report expected = absurd expected.1
+reported past Join report expected = absurd expected.1
+reported past (OpenAt stamp) report expected = absurd expected.1
+reported past OpenFloor report expected = absurd expected.1
+reported past (Read id key) report expected = absurd expected.1
+reported past (ListAll id) report expected = absurd expected.1
+reported past (Close id) report expected = absurd expected.1
+reported past (JoinAt start) report expected = absurd expected.1
+reported past Vacuum report expected = (floor past, refl, expected.1)
+reported past (VacuumTo at) report expected = (at, refl, expected.1)
+reported past (VacuumPart at after most) report expected = absurd expected.1
 
 vacuums-least : (nodes : ℕ) (h : List (CoreEvent × CoreReply)) → IsLegalHistory nodes h
     → VacuumsAreFewest nodes h
 vacuums-least nodes h legal = λ before event report moment.
-    let bounded = reported nodes (past_of before) event report
+    let bounded = reported (past_of nodes before) event report
     (moment-legal nodes h ((event, Vacuumed report) ∷ before) legal moment).0 in
-    let expected : IsReport bounded.0 (past_of before) report = bounded.2 in (
+    let expected : IsReport bounded.0 (past_of nodes before) report = bounded.2 in (
       bounded.0,
       bounded.1,
       expected,
       λ others set' alike.
           let few : length report.witnesses ≤ length others =
-          changes_force_rows (writes (past_of before)) others report.points report.witnesses expected.witnesses.ascend
-          expected.witnesses.each alike in
+          changes_force_rows (writes (past_of nodes before)) others report.points report.witnesses
+          expected.witnesses.ascend expected.witnesses.each alike in
           let kept : report.kept ≡ length report.witnesses = expected.kept in omega arith,
     )
 
 vacuums-cheapest : (nodes : ℕ) (h : List (CoreEvent × CoreReply)) → IsLegalHistory nodes h
-    → VacuumsAreCheapest h
+    → VacuumsAreCheapest nodes h
 vacuums-cheapest nodes h legal = λ before event report moment others set' alike.
-    let bounded = reported nodes (past_of before) event report
+    let bounded = reported (past_of nodes before) event report
     (moment-legal nodes h ((event, Vacuumed report) ∷ before) legal moment).0 in
-    let expected : IsReport bounded.0 (past_of before) report = bounded.2 in
-    let few : changes_cost (writes (past_of before)) report.witnesses ≤ rows_cost others =
-    changes_force_bytes (writes (past_of before)) others report.points report.witnesses expected.witnesses.ascend
+    let expected : IsReport bounded.0 (past_of nodes before) report = bounded.2 in
+    let few : changes_cost (writes (past_of nodes before)) report.witnesses ≤ rows_cost others =
+    changes_force_bytes (writes (past_of nodes before)) others report.points report.witnesses expected.witnesses.ascend
     expected.witnesses.each alike in
-    let is : report.bytes ≡ changes_cost (writes (past_of before)) report.witnesses = expected.bytes in omega arith
+    let is : report.bytes ≡ changes_cost (writes (past_of nodes before)) report.witnesses = expected.bytes in
+    omega arith
 
 -- the rows that it left are the fewest
-left : (kept : StoreView) (before : List (CoreEvent × CoreReply)) (event : CoreEvent) (report : Report)
-    → IsExpected (nodes kept) (past_of before) event (Vacuumed report)
-    → Represents kept (past_of ((event, Vacuumed report) ∷ before))
-    → LeavesFewest kept.rows (writes (past_of before)) report
-left kept before (Accept item) report expected core = absurd expected.1
-left kept before Join report expected core = absurd expected.1
-left kept before (OpenAt stamp) report expected core = absurd expected.1
-left kept before OpenFloor report expected core = absurd expected.1
-left kept before (Read id key) report expected core = absurd expected.1
-left kept before (ListAll id) report expected core = absurd expected.1
-left kept before (Close id) report expected core = absurd expected.1
-left kept before (JoinAt start) report expected core = absurd expected.1
-left kept before Vacuum report expected core =
-    leaves-fewest kept report.floor (past_of before) report core
-    (subst (λ at. IsReport at (past_of before) report) (sym expected.1.at_stamp) expected.1)
-left kept before (VacuumTo at) report expected core = leaves-fewest kept at (past_of before) report core expected.1
-left kept before (VacuumPart at after most) report expected core = absurd expected.1
+left : (nodes : ℕ) (kept : StoreView) (before : List (CoreEvent × CoreReply)) (event : CoreEvent) (report : Report)
+    → IsExpected (past_of nodes before) event (Vacuumed report)
+    → Represents kept (past_of nodes ((event, Vacuumed report) ∷ before))
+    → LeavesFewest kept.rows (writes (past_of nodes before)) report
+left nodes kept before (Accept item) report expected core = absurd expected.1
+left nodes kept before Join report expected core = absurd expected.1
+left nodes kept before (OpenAt stamp) report expected core = absurd expected.1
+left nodes kept before OpenFloor report expected core = absurd expected.1
+left nodes kept before (Read id key) report expected core = absurd expected.1
+left nodes kept before (ListAll id) report expected core = absurd expected.1
+left nodes kept before (Close id) report expected core = absurd expected.1
+left nodes kept before (JoinAt start) report expected core = absurd expected.1
+left nodes kept before Vacuum report expected core =
+    leaves-fewest kept report.floor (past_of nodes before) report core
+    (subst (λ at. IsReport at (past_of nodes before) report) (sym expected.1.at_stamp) expected.1)
+left nodes kept before (VacuumTo at) report expected core =
+    leaves-fewest kept at (past_of nodes before) report core expected.1
+left nodes kept before (VacuumPart at after most) report expected core = absurd expected.1
 
-fewest-left : (kept : StoreView) (h : List (CoreEvent × CoreReply)) → RepresentsHistory kept h
-    → FewestAreLeft h kept.rows
-fewest-left kept h represents = λ before event report is.
-    let legal : IsLegalHistory (nodes kept) ((event, Vacuumed report) ∷ before) =
-    subst (λ x. IsLegalHistory (nodes kept) x) is represents.legal in
-    left kept before event report legal.0 (subst (λ x. Represents kept (past_of x)) is represents.core)
+fewest-left : (nodes : ℕ) (kept : StoreView) (h : List (CoreEvent × CoreReply)) → RepresentsHistory nodes kept h
+    → FewestAreLeft nodes h kept.rows
+fewest-left nodes kept h represents = λ before event report is.
+    let legal : IsLegalHistory nodes ((event, Vacuumed report) ∷ before) =
+    subst (λ x. IsLegalHistory nodes x) is represents.legal in
+    left nodes kept before event report legal.0 (subst (λ x. Represents kept (past_of nodes x)) is represents.core)
 
 -- each change of the keys of a part forces a row of them
-parts-least : (nodes : ℕ) (h : List (CoreEvent × CoreReply)) → IsLegalHistory nodes h → PartsAreFewest h
+parts-least : (nodes : ℕ) (h : List (CoreEvent × CoreReply)) → IsLegalHistory nodes h → PartsAreFewest nodes h
 parts-least nodes h legal = λ before at after most report end moment.
-    let expected : IsExpected nodes (past_of before) (VacuumPart at after most) (VacuumedPart report end) =
+    let expected : IsExpected (past_of nodes before) (VacuumPart at after most) (VacuumedPart report end) =
     (moment-legal nodes h ((VacuumPart at after most, VacuumedPart report end) ∷ before) legal moment).0 in
-    let part : IsPartReport at (past_of before) (in_part after end) report = expected.1.made.2.expected in
-    let all : List Row = rows_of_keys (in_part after end) (writes (past_of before)) in (
+    let part : IsPartReport at (past_of nodes before) (in_part after end) report = expected.1.made.2.expected in
+    let all : List Row = rows_of_keys (in_part after end) (writes (past_of nodes before)) in (
       part,
       λ others set' alike. (
         (let few : length report.witnesses ≤ length others =
@@ -248,21 +250,21 @@ parts-least nodes h legal = λ before at after most report end moment.
     )
 
 -- the rows that a part left of its keys are the fewest
-parts-left : (kept : StoreView) (h : List (CoreEvent × CoreReply)) → RepresentsHistory kept h
-    → FewestAreLeftByParts h kept.rows
-parts-left kept h represents = λ before at after most report end is.
-    subst (λ x. IsLeft x kept.rows) is represents.left
+parts-left : (nodes : ℕ) (kept : StoreView) (h : List (CoreEvent × CoreReply)) → RepresentsHistory nodes kept h
+    → FewestAreLeftByParts nodes h kept.rows
+parts-left nodes kept h represents = λ before at after most report end is.
+    subst (λ x. IsLeft nodes x kept.rows) is represents.left
 
 -- a core is faithful to each history that it represents
-pub histories_are_faithful : (kept : StoreView) (h : List (CoreEvent × CoreReply))
-    → RepresentsHistory kept h → IsFaithful (nodes kept) h kept.rows
-histories_are_faithful kept h represents = record {
-  reads = reads-newest (nodes kept) h represents.legal;
-  stays = stays (nodes kept) h represents.legal represents.core.legal;
-  whole = shows-whole h;
-  vacuums = vacuums-least (nodes kept) h represents.legal;
-  bytes = vacuums-cheapest (nodes kept) h represents.legal;
-  fewest = fewest-left kept h represents;
-  parts = parts-least (nodes kept) h represents.legal;
-  left_by_parts = parts-left kept h represents;
+pub histories_are_faithful : (nodes : ℕ) (kept : StoreView) (h : List (CoreEvent × CoreReply))
+    → RepresentsHistory nodes kept h → IsFaithful nodes h kept.rows
+histories_are_faithful nodes kept h represents = record {
+  reads = reads-newest nodes h represents.legal;
+  stays = stays nodes h represents.legal represents.core.legal;
+  whole = shows-whole nodes h;
+  vacuums = vacuums-least nodes h represents.legal;
+  bytes = vacuums-cheapest nodes h represents.legal;
+  fewest = fewest-left nodes kept h represents;
+  parts = parts-least nodes h represents.legal;
+  left_by_parts = parts-left nodes kept h represents;
 }

@@ -12,7 +12,7 @@ use Rattle.hlc_heads.specs.declared.heads.JoinFault.{JoinFault}
 use Rattle.hlc_heads.specs.declared.heads.JoinFault.TheVariants.{TooManyNodes, BelowFloor, NoMemory as NoRoom}
 use Rattle.hlc_core.specs.Past.{Step, Joined, numbered, count, head, retired, floor}
 use Rattle.hlc_core.specs.Past.{join_refusal, join_at_refusal}
-use Rattle.hlc_core.specs.StoreView.{StoreView, nodes, Represents}
+use Rattle.hlc_core.specs.StoreView.{StoreView, Represents}
 use Rattle.hlc_core.proofs.PastLemmas.{fresh, head-joined}
 use Rattle.hlc_core.proofs.PastLemmas.{head-joined_other}
 use Rattle.hlc_heads.specs.Heads.{HeadsView, JoinsAt, a_link, floor_of}
@@ -33,19 +33,20 @@ with_link kept start = record {
 
 -- a node whose join is not refused joins
 pub joins : (kept : StoreView) (past : List Step) (node start : ℕ) → Represents kept past
-    → join_refusal (nodes kept) past ≡ None → node ≡ numbered (nodes kept) past → floor (nodes kept) past ≤ start
+    → join_refusal past ≡ None → node ≡ numbered past → floor past ≤ start
     → Represents (with_link kept start) (Joined node start ∷ past)
 joins kept past node start h none is up =
     let link : IntakeView = a_link 0 start false in
     let l : length (kept.links ++ link ∷ []) ≡ length kept.links + 1 = length-append kept.links (link ∷ []) in
     record {
       legal = (none, is, up, h.legal);
+      start = h.start;
       many = l ∙ ap (λ n. n + 1) h.many;
       links = λ n lt.
           elim (cases_eq n (length kept.links)) [
             | inl last ↦
                 let own : node ≡ n = is ∙ sym h.many ∙ sym last in
-                let none' = fresh (nodes kept) past n h.legal (let m = h.many in omega (arith, m)) in
+                let none' = fresh past n h.legal (let m = h.many in omega (arith, m)) in
                 ap (λ k. slice_get (kept.links ++ link ∷ []) k) last
                 ∙ get-push kept.links link
                 ∙ sym (ap (λ k. Some (a_link k (head n (Joined node start ∷ past)) (retired n past))) none'.0
@@ -68,33 +69,33 @@ joins kept past node start h none is up =
     }
 
 -- a join is not refused if a number is left
-pub joins-none : (nodes : ℕ) (past : List Step) (many : ℕ) → many < MAX_NODES → many ≡ numbered nodes past
-    → join_refusal nodes past ≡ None
-joins-none nodes past many few is = cond-false _ _ _ (lt-leb MAX_NODES (numbered nodes past) (omega (arith, is)))
+pub joins-none : (past : List Step) (many : ℕ) → many < MAX_NODES → many ≡ numbered past
+    → join_refusal past ≡ None
+joins-none past many few is = cond-false _ _ _ (lt-leb MAX_NODES (numbered past) (omega (arith, is)))
 
 -- nor if its start is not below the floor
-pub joins-at_none : (nodes : ℕ) (past : List Step) (start : ℕ) → join_refusal nodes past ≡ None
-    → floor nodes past ≤ start → join_at_refusal nodes past start ≡ None
-joins-at_none nodes past start none up =
-    elim (cases_lt (numbered nodes past) MAX_NODES) [
-      | inl few ↦ cond-false _ _ _ (lt-leb MAX_NODES (numbered nodes past) few)
-          ∙ cond-false _ _ _ (le-ltb start (floor nodes past) up)
+pub joins-at_none : (past : List Step) (start : ℕ) → join_refusal past ≡ None
+    → floor past ≤ start → join_at_refusal past start ≡ None
+joins-at_none past start none up =
+    elim (cases_lt (numbered past) MAX_NODES) [
+      | inl few ↦ cond-false _ _ _ (lt-leb MAX_NODES (numbered past) few)
+          ∙ cond-false _ _ _ (le-ltb start (floor past) up)
       | inr full ↦ absurd (let e : Some (Join TooManyNodes) ≡ None =
-          sym (cond-true _ _ _ (le-leb MAX_NODES (numbered nodes past) full)) ∙ none in cc)
+          sym (cond-true _ _ _ (le-leb MAX_NODES (numbered past) full)) ∙ none in cc)
     ]
 
 -- and a refusal of the heads is the expected one
-pub refused : (nodes : ℕ) (past : List Step) (old new : HeadsView) (start : ℕ) (fault : JoinFault)
-    → length old.links ≡ numbered nodes past → floor_of old ≡ floor nodes past → JoinsAt old new start (Err fault)
-    → IsRefusal (join_at_refusal nodes past start) ⊤ (of_join fault)
-refused nodes past old new start TooManyNodes many at h =
-    inl (cond-true _ _ _ (le-leb MAX_NODES (numbered nodes past) (omega (arith, many, h.0))))
-refused nodes past old new start (BelowFloor low) many at h =
-    inl (cond-false _ _ _ (lt-leb MAX_NODES (numbered nodes past) (omega (arith, many, h.0)))
-    ∙ cond-true _ _ _ (lt-ltb start (floor nodes past) (omega (arith, at, h.1, h.2)))
+pub refused : (past : List Step) (old new : HeadsView) (start : ℕ) (fault : JoinFault)
+    → length old.links ≡ numbered past → floor_of old ≡ floor past → JoinsAt old new start (Err fault)
+    → IsRefusal (join_at_refusal past start) ⊤ (of_join fault)
+refused past old new start TooManyNodes many at h =
+    inl (cond-true _ _ _ (le-leb MAX_NODES (numbered past) (omega (arith, many, h.0))))
+refused past old new start (BelowFloor low) many at h =
+    inl (cond-false _ _ _ (lt-leb MAX_NODES (numbered past) (omega (arith, many, h.0)))
+    ∙ cond-true _ _ _ (lt-ltb start (floor past) (omega (arith, at, h.1, h.2)))
     ∙ ap (λ f. Some (Join (BelowFloor f))) (sym (h.1 ∙ at)))
-refused nodes past old new start NoRoom many at h = inr (
-  joins-at_none nodes past start (joins-none nodes past (length old.links) h.0 many) (omega (arith, at, h.1)),
+refused past old new start NoRoom many at h = inr (
+  joins-at_none past start (joins-none past (length old.links) h.0 many) (omega (arith, at, h.1)),
   refl,
   tt,
 )

@@ -12,12 +12,14 @@ use Rattle.std.proofs.Math.Seq.{get_or-append_seam}
 use Rattle.hlc_node.specs.declared.item.Item.{Item}
 use Rattle.hlc_node.specs.Items.{body_refusal, retires}
 use Rattle.hlc_intake.specs.IntakeView.{IntakeView}
-use Rattle.hlc_heads.specs.Heads.{a_link, no_link}
+use Rattle.hlc_values.specs.declared.bounds.TheConstants.{NUMBER_BOUND}
+use Rattle.hlc_heads.specs.Heads.{a_link, no_link, number_after}
 use Rattle.hlc_events.specs.declared.fault.CoreFault.{CoreFault}
 use Rattle.hlc_events.specs.declared.fault.CoreFault.TheVariants.{NoNode}
 use Rattle.hlc_core.specs.Past.{Step, Took, numbered, count, head, retired}
 use Rattle.hlc_core.specs.Past.{item_rows, link_refusal, item_refusal}
-use Rattle.hlc_core.specs.StoreView.{StoreView, nodes, Represents}
+use Rattle.hlc_core.specs.StoreView.{StoreView, Represents}
+use Rattle.hlc_core.specs.Calls.{Checks}
 use Rattle.hlc_core.proofs.PastLemmas.{admissible, on_link, retired-same, retired-other}
 
 -- the link of a node, from the past
@@ -56,67 +58,70 @@ get-set_other links i k link other =
     ]
 
 -- the result of a look-up of an item's link
-abbrev pub LooksUp : Option IntakeView → Item → Result IntakeView CoreFault → Type 0
+abbrev pub LooksUp : Option IntakeView → Item → Result Unit CoreFault → Type 0
 LooksUp found item result =
     MatchOption found (result ≡ Err NoNode)
     (λ link. MatchResult result
-    (λ new. (link_refusal link.retired link.next link.head item ≡ None)
-    × (new ≡ a_link (item.number + 1) item.stamp (retires item.body)))
+    (λ _. link_refusal link.retired link.next link.head item ≡ None)
     (λ fault. link_refusal link.retired link.next link.head item ≡ Some fault))
 
 -- what is true of an item that its link admits, whatever took place
-pub record IsAdmitted (links : List IntakeView) (item : Item) (new : IntakeView) : Type 0 where
+pub record IsAdmitted (links : List IntakeView) (item : Item) : Type 0 where
   pub within : item.node < length links
   pub here : (get_or links item.node no_link).retired ≡ false
   pub number : item.number ≡ (get_or links item.node no_link).next
   pub rising : (get_or links item.node no_link).head < item.stamp
   pub limits : body_refusal item.body ≡ None
-  pub is : new ≡ a_link (item.number + 1) item.stamp (retires item.body)
+  pub after : number_after (get_or links item.node no_link).next ≡ item.number + 1
 
-pub admitted : (links : List IntakeView) (item : Item) (new : IntakeView)
-    → LooksUp (slice_get links item.node) item (Ok new) → IsAdmitted links item new
-admitted links item new looked =
+pub admitted : (links : List IntakeView) (item : Item) {done : Unit {0}}
+    → LooksUp (slice_get links item.node) item (Ok done) → IsAdmitted links item
+admitted links item {done} looked =
     elim (cases_lt item.node (length links)) [
       | inl below ↦
-          let found : LooksUp (Some (get_or links item.node no_link)) item (Ok new) =
-          subst (λ o. LooksUp o item (Ok new)) (slice_get-get_or links item.node no_link below) looked in
-          record {
+          let found = subst (λ o. LooksUp o item (Ok done)) (slice_get-get_or links item.node no_link below) looked in
+          let is = admissible _ _ _ item found in record {
             within = below;
-            here = (admissible _ _ _ item found.0).here;
-            number = (admissible _ _ _ item found.0).number;
-            rising = (admissible _ _ _ item found.0).stamp;
-            limits = (admissible _ _ _ item found.0).limits;
-            is = found.1;
+            here = is.here;
+            number = is.number;
+            rising = is.stamp;
+            limits = is.limits;
+            after = ap number_after (sym is.number) ∙ cond-false _ _ _ (ne_eqb item.number NUMBER_BOUND is.left);
           }
       | inr outside ↦
-          absurd (let missed : ◌≡◌ {A = Result IntakeView CoreFault} (Ok new) (Err NoNode) =
-          subst (λ o. LooksUp o item (Ok new)) (slice_get_past links item.node outside) looked in cc)
+          absurd (let missed : ◌≡◌ {A = Result Unit CoreFault} (Ok done) (Err NoNode) =
+          subst (λ o. LooksUp o item (Ok done)) (slice_get_past links item.node outside) looked in cc)
     ]
 
 -- if the core represents a past, such an item is not refused there
-pub admitted-expected : (kept : StoreView) (past : List Step) (item : Item) (new : IntakeView) → Represents kept past
-    → LooksUp (slice_get kept.links item.node) item (Ok new) → item_refusal (nodes kept) past item ≡ None
-admitted-expected kept past item new h looked =
-    let within : item.node < length kept.links = (admitted kept.links item new looked).within in
-    let found : LooksUp (Some (link_of item.node past)) item (Ok new) =
-    subst (λ o. LooksUp o item (Ok new)) (h.links item.node within) looked in
-    on_link (nodes kept) past item (let m = h.many in omega (arith, m)) ∙ found.0
+pub admitted-expected : (kept : StoreView) (past : List Step) (item : Item) {done : Unit {0}} → Represents kept past
+    → LooksUp (slice_get kept.links item.node) item (Ok done) → item_refusal past item ≡ None
+admitted-expected kept past item {done} h looked =
+    let within : item.node < length kept.links = (admitted kept.links item looked).within in
+    let found = subst (λ o. LooksUp o item (Ok done)) (h.links item.node within) looked in
+    on_link past item (let m = h.many in omega (arith, m)) ∙ found
 
 -- and the fault is the expected refusal there
 pub fault-expected : (kept : StoreView) (past : List Step) (item : Item) (fault : CoreFault) → Represents kept past
-    → LooksUp (slice_get kept.links item.node) item (Err fault) → item_refusal (nodes kept) past item ≡ Some fault
+    → LooksUp (slice_get kept.links item.node) item (Err fault) → item_refusal past item ≡ Some fault
 fault-expected kept past item fault h looked =
     elim (cases_lt item.node (length kept.links)) [
       | inl below ↦
           let found : LooksUp (Some (link_of item.node past)) item (Err fault) =
           subst (λ o. LooksUp o item (Err fault)) (h.links item.node below) looked in
-          on_link (nodes kept) past item (let m = h.many in omega (arith, m)) ∙ found
+          on_link past item (let m = h.many in omega (arith, m)) ∙ found
       | inr outside ↦
-          let missed : ◌≡◌ {A = Result IntakeView CoreFault} (Err fault) (Err NoNode) =
+          let missed : ◌≡◌ {A = Result Unit CoreFault} (Err fault) (Err NoNode) =
           subst (λ o. LooksUp o item (Err fault)) (slice_get_past kept.links item.node outside) looked in
-          cond-true _ _ _ (le-leb (numbered (nodes kept) past) item.node (let m = h.many in omega (arith, m)))
+          cond-true _ _ _ (le-leb (numbered past) item.node (let m = h.many in omega (arith, m)))
           ∙ (let same : NoNode ≡ fault = cc in ap Some same)
     ]
+
+-- so a check returns the expected refusal
+pub checks : (kept : StoreView) (past : List Step) (item : Item) (result : Result Unit CoreFault) → Represents kept past
+    → LooksUp (slice_get kept.links item.node) item result → Checks item past result
+checks kept past item (Ok done) h looked = admitted-expected kept past item h looked
+checks kept past item (Err fault) h looked = fault-expected kept past item fault h looked
 
 pub links-took : (links : List IntakeView) (past : List Step) (item : Item) (number : ℕ)
     → number ≡ count item.node past → item.node < length links

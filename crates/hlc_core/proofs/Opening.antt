@@ -12,7 +12,7 @@ use Rattle.hlc_core.specs.Past.{opened, writes, open_snapshots}
 use Rattle.hlc_core.specs.Past.{of_room, room_refusal, open_refusal}
 use Rattle.hlc_events.specs.Faults.{of_registry}
 use Rattle.hlc_core.specs.Past.{stamp_of}
-use Rattle.hlc_core.specs.StoreView.{StoreView, nodes, Represents}
+use Rattle.hlc_core.specs.StoreView.{StoreView, Represents}
 use Rattle.hlc_snapshot.specs.declared.fault.SnapshotFault.{SnapshotFault}
 use Rattle.hlc_snapshot.specs.declared.snapshot.Snapshot.{Snapshot}
 use Rattle.hlc_vacuum.specs.Representing.{RowsRepresent}
@@ -49,10 +49,11 @@ with_snapshot kept stamp = record {
 
 -- a snapshot whose opening is not refused is opened
 pub opens : (kept : StoreView) (past : List Step) (stamp : ℕ) → Represents kept past
-    → open_refusal (nodes kept) past stamp ≡ None → Represents (with_snapshot kept stamp) (Opened stamp ∷ past)
+    → open_refusal past stamp ≡ None → Represents (with_snapshot kept stamp) (Opened stamp ∷ past)
 opens kept past stamp h none =
     record {
       legal = (none, h.legal);
+      start = h.start;
       many = h.many;
       links = h.links;
       top = h.top;
@@ -63,7 +64,7 @@ opens kept past stamp h none =
           (sym (map-append (λ (snapshot : Snapshot). snapshot.stamp) (open_snapshots past)
           (record { id = opened past + 1; stamp = stamp } ∷ [])))
           (opens_keep_representing kept.rows (writes past) (horizon past) stamp
-          (stamps (open_snapshots past)) h.rows (open-above (nodes kept) past stamp none));
+          (stamps (open_snapshots past)) h.rows (open-above past stamp none));
       stored = h.stored;
       horizon = h.horizon;
     }
@@ -114,6 +115,7 @@ closes kept past id stamp h there =
       is,
       record {
         legal = ((λ none. (let e : Some stamp ≡ None = sym is ∙ none in absurd (cc))), h.legal);
+        start = h.start;
         many = h.many;
         links = h.links;
         top = h.top;

@@ -23,7 +23,7 @@ use Rattle.hlc_vacuum.proofs.RepresentingLemmas.{vacuums_compose, vacuums_are_ce
 use Rattle.hlc_core.specs.Past.{Step, PartVacuumed, floor, horizon, vacuumed, part_dropped, open_snapshots, writes}
 use Rattle.hlc_core.specs.Past.{vacuum_refusal}
 use Rattle.hlc_core.specs.Stored.{AreVacuumPoints}
-use Rattle.hlc_core.specs.StoreView.{StoreView, nodes, with_rows_left, Represents}
+use Rattle.hlc_core.specs.StoreView.{StoreView, with_rows_left, Represents}
 use Rattle.hlc_core.specs.Checkpoint.{floor_in}
 use Rattle.hlc_core.specs.PlanAt.{IsPartPlanAt}
 use Rattle.hlc_core.specs.Parts.{rows_of_keys, VacuumsKeys, VacuumsPart}
@@ -34,7 +34,7 @@ use Rattle.hlc_core.proofs.VacuumLemmas.{fewer-open, more-open, low-open}
 
 -- the rows that it left represent the past with it
 pub part_dropped-represents : (kept new : StoreView) (past : List Step) (at dropped : ℕ) → Represents kept past
-    → vacuum_refusal (nodes kept) past at ≡ None → new ≡ with_rows_left kept new.rows at
+    → vacuum_refusal past at ≡ None → new ≡ with_rows_left kept new.rows at
     → RowsRepresent new.rows (writes past) at (stamps (open_snapshots past))
     → length new.rows + dropped ≡ length kept.rows → Represents new (PartVacuumed at dropped ∷ past)
 part_dropped-represents kept new past at dropped h none is rows count =
@@ -44,6 +44,7 @@ part_dropped-represents kept new past at dropped h none is rows count =
     ≡ length h.stored.0 + count_above (vacuumed past) (writes past) = omega arith in
     let left : Represents (with_rows_left kept new.rows at) (PartVacuumed at dropped ∷ past) = record {
       legal = (none, h.legal);
+      start = h.start;
       many = h.many;
       links = h.links;
       top = h.top;
@@ -73,7 +74,7 @@ represents-part kept at past rows is_of report h high are made =
 -- one, and the remaining rows of these keys at or below its stamp are the fewest.
 pub vacuums_keys : (kept : StoreView) (at : ℕ) (past : List Step) (rows : List Row) (is_of : List ℕ → Bool)
     (report : Report)
-    → Represents kept past → vacuum_refusal (nodes kept) past at ≡ None → AreVacuumPoints at past report.points
+    → Represents kept past → vacuum_refusal past at ≡ None → AreVacuumPoints at past report.points
     → IsRowSet rows
     → rows_of_keys (λ key. not (is_of key)) rows ≡ rows_of_keys (λ key. not (is_of key)) kept.rows
     → IsVacuumOf (rows_of_keys is_of kept.rows) report.points report.witnesses (rows_of_keys is_of rows)
@@ -84,7 +85,7 @@ vacuums_keys kept at past rows is_of report h none are apart others made at_stam
     let opened : List ℕ = stamps_to at (open_snapshots past) in
     let mine : List Row = rows_of_keys is_of rows in
     let all' : List Row = rows_of_keys is_of (writes past) in
-    let high : horizon past ≤ at = vacuum-above (nodes kept) past at none in
+    let high : horizon past ≤ at = vacuum-above past at none in
     let after : RepresentsAfterVacuum mine all' at opened report.points report.witnesses =
     represents-part kept at past rows is_of report h high are made in
     let left : RowsRepresent rows (writes past) at (stamps (open_snapshots past)) =
@@ -119,7 +120,7 @@ vacuums_keys kept at past rows is_of report h none are apart others made at_stam
         certified = λ listed moved up. vacuums_are_certified mine all' listed at opened report.points report.witnesses
             after ascend (points-last opened report.points at are)
             (subst (λ f. IsPermutation (rows_to f mine) listed) at_stamp moved) up
-            (All-filter (λ row. is_of row.key) IsInLimits (writes past) (writes-limits (nodes kept) past h.legal));
+            (All-filter (λ row. is_of row.key) IsInLimits (writes past) (writes-limits past h.legal));
       };
     }
 
@@ -131,9 +132,9 @@ pub part-vacuums_keys : (kept : StoreView) (at : ℕ) (past : List Step) (after 
     → VacuumsPart kept (with_rows_left kept rows at) at after most past (Ok (report_of part.plan, part.end))
 part-vacuums_keys kept at past after most part rows h low high planned made =
     let floor-is = floor-in kept past h in
-    let below : at ≤ floor (nodes kept) past = omega (arith, low, floor-is) in
+    let below : at ≤ floor past = omega (arith, low, floor-is) in
     let above : horizon past ≤ at = (let e = h.horizon in omega (arith, high, e)) in
-    let none = vacuum-none (nodes kept) past at below above in
+    let none = vacuum-none past at below above in
     let points = subst (λ xs. ArePoints (stamps_to at xs) at part.plan.points) h.snapshots planned.points in (
       none,
       record { columns = planned.made.columns; next = planned.made.next; is = planned.made.end },

@@ -25,7 +25,8 @@ use Rattle.hlc_heads.proofs.LowLemmas.{low-is, low-rises, low-joins, low-stays}
 use Rattle.hlc_witness.specs.Cost.{IsInLimits, AreInLimits}
 use Rattle.hlc_core.proofs.BatchLemmas.{rows_written-are, rows_written-set, rows_written-limits}
 use Rattle.hlc_core.proofs.BatchLemmas.{row_set-append}
-use Rattle.hlc_core.specs.Past.{Step, Took, Opened, Closed, Vacuumed, PartVacuumed, Joined, numbered, count, head}
+use Rattle.hlc_core.specs.Past.{Step, Started, Took, Opened, Closed, Vacuumed, PartVacuumed, Joined, numbered, count}
+use Rattle.hlc_core.specs.Past.{head}
 use Rattle.hlc_core.specs.Past.{retired}
 use Rattle.hlc_core.specs.Past.{top, floor, horizon, vacuumed, open_snapshots, room_refusal, open_refusal, body_rows}
 use Rattle.hlc_core.specs.Past.{item_rows, writes, link_refusal, of_body, item_refusal, vacuum_refusal, IsLegal}
@@ -75,20 +76,20 @@ admissible false next last item h =
     ]
 
 -- the node is one of the core's
-pub inside : (nodes : ℕ) (past : List Step) (item : Item) → item_refusal nodes past item ≡ None
-    → item.node < numbered nodes past
-inside nodes past item h =
-    elim (cases_lt item.node (numbered nodes past)) [
+pub inside : (past : List Step) (item : Item) → item_refusal past item ≡ None
+    → item.node < numbered past
+inside past item h =
+    elim (cases_lt item.node (numbered past)) [
       | inl below ↦ below
       | inr outside ↦ absurd (let g : Some NoNode ≡ None =
-          sym (cond-true _ _ _ (le-leb (numbered nodes past) item.node outside)) ∙ h in cc)
+          sym (cond-true _ _ _ (le-leb (numbered past) item.node outside)) ∙ h in cc)
     ]
 
 -- at a node of the core, the item is refused as on its link
-pub on_link : (nodes : ℕ) (past : List Step) (item : Item) → item.node < numbered nodes past
-    → item_refusal nodes past item
+pub on_link : (past : List Step) (item : Item) → item.node < numbered past
+    → item_refusal past item
     ≡ link_refusal (retired item.node past) (count item.node past) (head item.node past) item
-on_link nodes past item below = cond-false _ _ _ (lt-leb (numbered nodes past) item.node below)
+on_link past item below = cond-false _ _ _ (lt-leb (numbered past) item.node below)
 
 pub head-same : (n : ℕ) (item : Item) (past : List Step) → item.node ≡ n → head n (Took item ∷ past) ≡ item.stamp
 head-same n item past e = cond-true _ _ _ (eq-eqb _ _ e)
@@ -118,20 +119,22 @@ pub head-joined_other : (n node start : ℕ) (past : List Step) → (node ≡ n 
 head-joined_other n node start past e = cond-false _ _ _ (ne_eqb _ _ e)
 
 -- a node that does not exist has no accepted item
-pub fresh : (nodes : ℕ) (past : List Step) (n : ℕ) → IsLegal nodes past → numbered nodes past ≤ n
+pub fresh : (past : List Step) (n : ℕ) → IsLegal past → numbered past ≤ n
     → (count n past ≡ 0) × (retired n past ≡ false)
-fresh nodes [] n legal out = (refl, refl)
-fresh nodes (Opened stamp ∷ past) n legal out = fresh nodes past n legal.1 out
-fresh nodes (Closed id ∷ past) n legal out = fresh nodes past n legal.1 out
-fresh nodes (Vacuumed at ∷ past) n legal out = fresh nodes past n legal.1 out
-fresh nodes (PartVacuumed at dropped ∷ past) n legal out = fresh nodes past n legal.1 out
-fresh nodes (Joined node start ∷ past) n legal out =
-    fresh nodes past n legal.3 (let out' : numbered nodes past + 1 ≤ n = out in omega arith)
-fresh nodes (Took item ∷ past) n legal out =
-    let within : item.node < numbered nodes past = inside nodes past item legal.0 in
-    let out' : numbered nodes past ≤ n = out in
+fresh [] n legal out = (refl, refl)
+fresh (Opened stamp ∷ past) n legal out = fresh past n legal.1 out
+fresh (Started nodes ∷ past) n legal out =
+    fresh past n legal.1 (let out' : numbered past + nodes ≤ n = out in omega arith)
+fresh (Closed id ∷ past) n legal out = fresh past n legal.1 out
+fresh (Vacuumed at ∷ past) n legal out = fresh past n legal.1 out
+fresh (PartVacuumed at dropped ∷ past) n legal out = fresh past n legal.1 out
+fresh (Joined node start ∷ past) n legal out =
+    fresh past n legal.3 (let out' : numbered past + 1 ≤ n = out in omega arith)
+fresh (Took item ∷ past) n legal out =
+    let within : item.node < numbered past = inside past item legal.0 in
+    let out' : numbered past ≤ n = out in
     let other : item.node ≡ n → ⊥ = λ e. omega arith in
-    let rest = fresh nodes past n legal.1 out in
+    let rest = fresh past n legal.1 out in
     (count-other n item past other ∙ rest.0, retired-other n item past other ∙ rest.1)
 
 -- each row of an item has its node and its stamp
@@ -156,87 +159,91 @@ head-up n item past up =
     ]
 
 -- an item that is not refused has a stamp above its node's head
-pub rises : (nodes : ℕ) (past : List Step) (item : Item) → item_refusal nodes past item ≡ None
+pub rises : (past : List Step) (item : Item) → item_refusal past item ≡ None
     → head item.node past < item.stamp
-rises nodes past item h = (admissible _ _ _ item (sym (on_link nodes past item (inside nodes past item h)) ∙ h)).stamp
+rises past item h = (admissible _ _ _ item (sym (on_link past item (inside past item h)) ∙ h)).stamp
 
 -- and its node has not retired
-pub still_here : (nodes : ℕ) (past : List Step) (item : Item) → item_refusal nodes past item ≡ None
+pub still_here : (past : List Step) (item : Item) → item_refusal past item ≡ None
     → retired item.node past ≡ false
-still_here nodes past item h =
-    (admissible _ _ _ item (sym (on_link nodes past item (inside nodes past item h)) ∙ h)).here
+still_here past item h =
+    (admissible _ _ _ item (sym (on_link past item (inside past item h)) ∙ h)).here
 
 -- and its body is allowed
-pub good_body : (nodes : ℕ) (past : List Step) (item : Item) → item_refusal nodes past item ≡ None
+pub good_body : (past : List Step) (item : Item) → item_refusal past item ≡ None
     → body_refusal item.body ≡ None
-good_body nodes past item h =
-    (admissible _ _ _ item (sym (on_link nodes past item (inside nodes past item h)) ∙ h)).limits
+good_body past item h =
+    (admissible _ _ _ item (sym (on_link past item (inside past item h)) ∙ h)).limits
 
 -- no head of a node that has not retired is below the floor
-pub floor-le : (nodes : ℕ) (past : List Step) (n : ℕ) → n < numbered nodes past → retired n past ≡ false
-    → floor nodes past ≤ head n past
-floor-le nodes past n within here =
-    (low-is (λ n. head n past) (λ n. retired n past) (numbered nodes past) (top past)).least n within here
+pub floor-le : (past : List Step) (n : ℕ) → n < numbered past → retired n past ≡ false
+    → floor past ≤ head n past
+floor-le past n within here =
+    (low-is (λ n. head n past) (λ n. retired n past) (numbered past) (top past)).least n within here
 
 -- and the floor is one of those, or all have retired and it is the greatest accepted stamp
-pub floor-some : (nodes : ℕ) (past : List Step)
-    → ((n : ℕ) × (n < numbered nodes past) × (retired n past ≡ false) × (head n past ≡ floor nodes past))
-    ⊎ (((n : ℕ) → n < numbered nodes past → retired n past ≡ true) × (floor nodes past ≡ top past))
-floor-some nodes past =
-    (low-is (λ n. head n past) (λ n. retired n past) (numbered nodes past) (top past)).is
+pub floor-some : (past : List Step)
+    → ((n : ℕ) × (n < numbered past) × (retired n past ≡ false) × (head n past ≡ floor past))
+    ⊎ (((n : ℕ) → n < numbered past → retired n past ≡ true) × (floor past ≡ top past))
+floor-some past =
+    (low-is (λ n. head n past) (λ n. retired n past) (numbered past) (top past)).is
 
 -- and so it is above the floor
-pub above_floor : (nodes : ℕ) (past : List Step) (item : Item) → item_refusal nodes past item ≡ None
-    → floor nodes past < item.stamp
-above_floor nodes past item h =
-    let low : floor nodes past ≤ head item.node past =
-    floor-le nodes past item.node (inside nodes past item h) (still_here nodes past item h) in
-    let up : head item.node past < item.stamp = rises nodes past item h in omega arith
+pub above_floor : (past : List Step) (item : Item) → item_refusal past item ≡ None
+    → floor past < item.stamp
+above_floor past item h =
+    let low : floor past ≤ head item.node past =
+    floor-le past item.node (inside past item h) (still_here past item h) in
+    let up : head item.node past < item.stamp = rises past item h in omega arith
 
 -- each accepted write is of a node that exists
-pub inside-row : (nodes : ℕ) (past : List Step) → IsLegal nodes past → (row : Row) → Contains (writes past) row
-    → row.node < numbered nodes past
-inside-row nodes [] legal row m = absurd (Contains-none row m)
-inside-row nodes (Opened stamp ∷ past) legal row m = inside-row nodes past legal.1 row m
-inside-row nodes (Closed id ∷ past) legal row m = inside-row nodes past legal.1 row m
-inside-row nodes (Vacuumed at ∷ past) legal row m = inside-row nodes past legal.1 row m
-inside-row nodes (PartVacuumed at dropped ∷ past) legal row m = inside-row nodes past legal.1 row m
-inside-row nodes (Joined node start ∷ past) legal row m =
-    let within : row.node < numbered nodes past = inside-row nodes past legal.3 row m in
-    let goal : row.node < numbered nodes past + 1 = omega arith in goal
-inside-row nodes (Took item ∷ past) legal row m =
+pub inside-row : (past : List Step) → IsLegal past → (row : Row) → Contains (writes past) row
+    → row.node < numbered past
+inside-row [] legal row m = absurd (Contains-none row m)
+inside-row (Opened stamp ∷ past) legal row m = inside-row past legal.1 row m
+inside-row (Started nodes ∷ past) legal row m =
+    let within : row.node < numbered past = inside-row past legal.1 row m in
+    let goal : row.node < numbered past + nodes = omega arith in goal
+inside-row (Closed id ∷ past) legal row m = inside-row past legal.1 row m
+inside-row (Vacuumed at ∷ past) legal row m = inside-row past legal.1 row m
+inside-row (PartVacuumed at dropped ∷ past) legal row m = inside-row past legal.1 row m
+inside-row (Joined node start ∷ past) legal row m =
+    let within : row.node < numbered past = inside-row past legal.3 row m in
+    let goal : row.node < numbered past + 1 = omega arith in goal
+inside-row (Took item ∷ past) legal row m =
     elim (Contains-append_cases (writes past) (item_rows item) row m) [
-      | inl earlier ↦ inside-row nodes past legal.1 row earlier
+      | inl earlier ↦ inside-row past legal.1 row earlier
       | inr here ↦
           let are : (row.node ≡ item.node) × (row.stamp ≡ item.stamp) =
           body_rows-are item.node item.stamp item.body row here in
-          let within : item.node < numbered nodes past = inside nodes past item legal.0 in
-          let goal : row.node < numbered nodes past = omega (arith, are.0) in goal
+          let within : item.node < numbered past = inside past item legal.0 in
+          let goal : row.node < numbered past = omega (arith, are.0) in goal
     ]
 
 -- each accepted write is at or below its node's head
-pub below_head : (nodes : ℕ) (past : List Step) → IsLegal nodes past → (row : Row) → Contains (writes past) row
+pub below_head : (past : List Step) → IsLegal past → (row : Row) → Contains (writes past) row
     → row.stamp ≤ head row.node past
-below_head nodes [] legal row m = absurd (Contains-none row m)
-below_head nodes (Opened stamp ∷ past) legal row m = below_head nodes past legal.1 row m
-below_head nodes (Closed id ∷ past) legal row m = below_head nodes past legal.1 row m
-below_head nodes (Vacuumed at ∷ past) legal row m = below_head nodes past legal.1 row m
-below_head nodes (PartVacuumed at dropped ∷ past) legal row m = below_head nodes past legal.1 row m
-below_head nodes (Joined node start ∷ past) legal row m =
-    let old : row.stamp ≤ head row.node past = below_head nodes past legal.3 row m in
+below_head [] legal row m = absurd (Contains-none row m)
+below_head (Opened stamp ∷ past) legal row m = below_head past legal.1 row m
+below_head (Started nodes ∷ past) legal row m = below_head past legal.1 row m
+below_head (Closed id ∷ past) legal row m = below_head past legal.1 row m
+below_head (Vacuumed at ∷ past) legal row m = below_head past legal.1 row m
+below_head (PartVacuumed at dropped ∷ past) legal row m = below_head past legal.1 row m
+below_head (Joined node start ∷ past) legal row m =
+    let old : row.stamp ≤ head row.node past = below_head past legal.3 row m in
     elim (cases_eq node row.node) [
       | inr other ↦
           let e : head row.node (Joined node start ∷ past) ≡ head row.node past =
           head-joined_other row.node node start past other in omega arith
       | inl same ↦
-          absurd (let within : row.node < numbered nodes past = inside-row nodes past legal.3 row m in
-          let e : node ≡ numbered nodes past = legal.1 in omega arith)
+          absurd (let within : row.node < numbered past = inside-row past legal.3 row m in
+          let e : node ≡ numbered past = legal.1 in omega arith)
     ]
-below_head nodes (Took item ∷ past) legal row m =
-    let up : head item.node past < item.stamp = rises nodes past item legal.0 in
+below_head (Took item ∷ past) legal row m =
+    let up : head item.node past < item.stamp = rises past item legal.0 in
     elim (Contains-append_cases (writes past) (item_rows item) row m) [
       | inl earlier ↦
-          let old : row.stamp ≤ head row.node past = below_head nodes past legal.1 row earlier in
+          let old : row.stamp ≤ head row.node past = below_head past legal.1 row earlier in
           let g = head-up row.node item past up in omega (arith, g)
       | inr here ↦
           let are : (row.node ≡ item.node) × (row.stamp ≡ item.stamp) =
@@ -251,6 +258,11 @@ pub took-writes : (past : List Step) (item : Item) (row : Row) → Contains past
 took-writes [] item row m r = absurd (Contains-none (Took item) m)
 took-writes (Opened stamp ∷ past) item row m r =
     elim (Contains-cons_cases (Opened stamp) (Took item) past m) [
+      | inl same ↦ absurd cc
+      | inr rest ↦ took-writes past item row rest r
+    ]
+took-writes (Started nodes ∷ past) item row m r =
+    elim (Contains-cons_cases (Started nodes) (Took item) past m) [
       | inl same ↦ absurd cc
       | inr rest ↦ took-writes past item row rest r
     ]
@@ -283,12 +295,12 @@ took-writes (Took last ∷ past) item row m r =
       | inr rest ↦ Contains-append_left (writes past) (item_rows last) row (took-writes past item row rest r)
     ]
 
-new_version : (nodes : ℕ) (past : List Step) (item : Item) → IsLegal nodes past → item_refusal nodes past item ≡ None
+new_version : (past : List Step) (item : Item) → IsLegal past → item_refusal past item ≡ None
     → (row other : Row) → Contains (item_rows item) row → Contains (writes past) other → IsSameVersion other row → ⊥
-new_version nodes past item legal none row other m k v =
-    let up : head item.node past < item.stamp = rises nodes past item none in
+new_version past item legal none row other m k v =
+    let up : head item.node past < item.stamp = rises past item none in
     let are : (row.node ≡ item.node) × (row.stamp ≡ item.stamp) = body_rows-are item.node item.stamp item.body row m in
-    let low : other.stamp ≤ head other.node past = below_head nodes past legal other k in
+    let low : other.stamp ≤ head other.node past = below_head past legal other k in
     let e : head other.node past ≡ head item.node past = ap (λ j. head j past) (v.node ∙ are.0) in
     omega (arith, v.stamp, are.1)
 
@@ -307,16 +319,17 @@ row_set-body node stamp body rows good fresh set' =
     row_set-append rows (body_rows node stamp body) set' (body_rows-set node stamp body good) fresh
 
 -- no two accepted writes are alike in key, stamp and node
-pub writes-row_set : (nodes : ℕ) (past : List Step) → IsLegal nodes past → IsRowSet (writes past)
-writes-row_set nodes [] legal = tt
-writes-row_set nodes (Opened stamp ∷ past) legal = writes-row_set nodes past legal.1
-writes-row_set nodes (Closed id ∷ past) legal = writes-row_set nodes past legal.1
-writes-row_set nodes (Vacuumed at ∷ past) legal = writes-row_set nodes past legal.1
-writes-row_set nodes (PartVacuumed at dropped ∷ past) legal = writes-row_set nodes past legal.1
-writes-row_set nodes (Joined node start ∷ past) legal = writes-row_set nodes past legal.3
-writes-row_set nodes (Took item ∷ past) legal =
-    row_set-body item.node item.stamp item.body (writes past) (good_body nodes past item legal.0)
-    (new_version nodes past item legal.1 legal.0) (writes-row_set nodes past legal.1)
+pub writes-row_set : (past : List Step) → IsLegal past → IsRowSet (writes past)
+writes-row_set [] legal = tt
+writes-row_set (Opened stamp ∷ past) legal = writes-row_set past legal.1
+writes-row_set (Started nodes ∷ past) legal = writes-row_set past legal.1
+writes-row_set (Closed id ∷ past) legal = writes-row_set past legal.1
+writes-row_set (Vacuumed at ∷ past) legal = writes-row_set past legal.1
+writes-row_set (PartVacuumed at dropped ∷ past) legal = writes-row_set past legal.1
+writes-row_set (Joined node start ∷ past) legal = writes-row_set past legal.3
+writes-row_set (Took item ∷ past) legal =
+    row_set-body item.node item.stamp item.body (writes past) (good_body past item legal.0)
+    (new_version past item legal.1 legal.0) (writes-row_set past legal.1)
 
 -- the rows of a body that is not refused are in the limits
 body_rows-limits : (node stamp : ℕ) (body : Body) → body_refusal body ≡ None → AreInLimits (body_rows node stamp body)
@@ -333,24 +346,25 @@ limits-body node stamp body rows good all' =
     All-append IsInLimits rows (body_rows node stamp body) all' (body_rows-limits node stamp body good)
 
 -- the keys and values of all accepted writes are in the limits
-pub writes-limits : (nodes : ℕ) (past : List Step) → IsLegal nodes past → AreInLimits (writes past)
-writes-limits nodes [] legal = All-nil _
-writes-limits nodes (Opened stamp ∷ past) legal = writes-limits nodes past legal.1
-writes-limits nodes (Closed id ∷ past) legal = writes-limits nodes past legal.1
-writes-limits nodes (Vacuumed at ∷ past) legal = writes-limits nodes past legal.1
-writes-limits nodes (PartVacuumed at dropped ∷ past) legal = writes-limits nodes past legal.1
-writes-limits nodes (Joined node start ∷ past) legal = writes-limits nodes past legal.3
-writes-limits nodes (Took item ∷ past) legal =
-    limits-body item.node item.stamp item.body (writes past) (good_body nodes past item legal.0)
-    (writes-limits nodes past legal.1)
+pub writes-limits : (past : List Step) → IsLegal past → AreInLimits (writes past)
+writes-limits [] legal = All-nil _
+writes-limits (Opened stamp ∷ past) legal = writes-limits past legal.1
+writes-limits (Started nodes ∷ past) legal = writes-limits past legal.1
+writes-limits (Closed id ∷ past) legal = writes-limits past legal.1
+writes-limits (Vacuumed at ∷ past) legal = writes-limits past legal.1
+writes-limits (PartVacuumed at dropped ∷ past) legal = writes-limits past legal.1
+writes-limits (Joined node start ∷ past) legal = writes-limits past legal.3
+writes-limits (Took item ∷ past) legal =
+    limits-body item.node item.stamp item.body (writes past) (good_body past item legal.0)
+    (writes-limits past legal.1)
 
 -- the floor never falls: not with an item
-pub floor-grows : (nodes : ℕ) (past : List Step) (item : Item) → item_refusal nodes past item ≡ None
-    → floor nodes past ≤ floor nodes (Took item ∷ past)
-floor-grows nodes past item none =
+pub floor-grows : (past : List Step) (item : Item) → item_refusal past item ≡ None
+    → floor past ≤ floor (Took item ∷ past)
+floor-grows past item none =
     low-rises (λ n. head n past) (λ n. head n (Took item ∷ past)) (λ n. retired n past)
-    (λ n. retired n (Took item ∷ past)) (numbered nodes past) (top past) (top (Took item ∷ past)) item.node item.stamp
-    (inside nodes past item none) (still_here nodes past item none) (rises nodes past item none)
+    (λ n. retired n (Took item ∷ past)) (numbered past) (top past) (top (Took item ∷ past)) item.node item.stamp
+    (inside past item none) (still_here past item none) (rises past item none)
     (head-same item.node item past refl)
     (λ k other. (
       head-other k item past (λ e. other (sym e)),
@@ -359,140 +373,143 @@ floor-grows nodes past item none =
     (let e : top (Took item ∷ past) ≡ max (top past) item.stamp = refl in omega arith)
 
 -- nor with a node that joins at or above it
-pub floor-joins : (nodes : ℕ) (past : List Step) (node start : ℕ) → node ≡ numbered nodes past
-    → floor nodes past ≤ start → floor nodes past ≤ floor nodes (Joined node start ∷ past)
-floor-joins nodes past node start is up =
-    let at : head (numbered nodes past) (Joined node start ∷ past) ≡ start =
-    head-joined (numbered nodes past) node start past is in
+pub floor-joins : (past : List Step) (node start : ℕ) → node ≡ numbered past
+    → floor past ≤ start → floor past ≤ floor (Joined node start ∷ past)
+floor-joins past node start is up =
+    let at : head (numbered past) (Joined node start ∷ past) ≡ start =
+    head-joined (numbered past) node start past is in
     low-joins (λ n. head n past) (λ n. head n (Joined node start ∷ past)) (λ n. retired n past)
-    (λ n. retired n (Joined node start ∷ past)) (numbered nodes past) (top past) (max (top past) start)
+    (λ n. retired n (Joined node start ∷ past)) (numbered past) (top past) (max (top past) start)
     (omega arith) (omega arith)
     (λ k within. (head-joined_other k node start past (λ e. omega (arith, is)), refl))
 
 -- and it does not move if some node has not retired
-pub floor-stays : (nodes : ℕ) (past : List Step) (node start n : ℕ) → node ≡ numbered nodes past
-    → floor nodes past ≤ start → n < numbered nodes past → retired n past ≡ false
-    → floor nodes (Joined node start ∷ past) ≡ floor nodes past
-floor-stays nodes past node start n is up within here =
-    let at : head (numbered nodes past) (Joined node start ∷ past) ≡ start =
-    head-joined (numbered nodes past) node start past is in
+pub floor-stays : (past : List Step) (node start n : ℕ) → node ≡ numbered past
+    → floor past ≤ start → n < numbered past → retired n past ≡ false
+    → floor (Joined node start ∷ past) ≡ floor past
+floor-stays past node start n is up within here =
+    let at : head (numbered past) (Joined node start ∷ past) ≡ start =
+    head-joined (numbered past) node start past is in
     low-stays (λ n. head n past) (λ n. head n (Joined node start ∷ past)) (λ n. retired n past)
-    (λ n. retired n (Joined node start ∷ past)) (numbered nodes past) (top past) (max (top past) start) n within here
+    (λ n. retired n (Joined node start ∷ past)) (numbered past) (top past) (max (top past) start) n within here
     (omega arith) (λ k within. (head-joined_other k node start past (λ e. omega (arith, is)), refl))
 
 -- a stamp at which an opening is not refused is not above the floor
-pub open-below : (nodes : ℕ) (past : List Step) (stamp : ℕ) → open_refusal nodes past stamp ≡ None
-    → stamp ≤ floor nodes past
-open-below nodes past stamp none =
-    elim (cases_lt (floor nodes past) stamp) [
-      | inl above ↦ absurd (let e : Some (AboveFloor (floor nodes past)) ≡ None =
-          sym (cond-true _ _ _ (lt-ltb (floor nodes past) stamp above)) ∙ none in cc)
+pub open-below : (past : List Step) (stamp : ℕ) → open_refusal past stamp ≡ None
+    → stamp ≤ floor past
+open-below past stamp none =
+    elim (cases_lt (floor past) stamp) [
+      | inl above ↦ absurd (let e : Some (AboveFloor (floor past)) ≡ None =
+          sym (cond-true _ _ _ (lt-ltb (floor past) stamp above)) ∙ none in cc)
       | inr low ↦ low
     ]
 
 -- no open snapshot is above the floor
-pub open-low : (nodes : ℕ) (past : List Step) → IsLegal nodes past
-    → All (λ snapshot. snapshot.stamp ≤ floor nodes past) (open_snapshots past)
-open-low nodes [] legal = All-nil _
-open-low nodes (Took item ∷ past) legal =
-    let up : floor nodes past ≤ floor nodes (Took item ∷ past) = floor-grows nodes past item legal.0 in
-    All-weaker (λ snapshot. snapshot.stamp ≤ floor nodes past)
-    (λ snapshot. snapshot.stamp ≤ floor nodes (Took item ∷ past))
-    (λ snapshot low. (let low' : snapshot.stamp ≤ floor nodes past = low in omega arith)) _
-    (open-low nodes past legal.1)
-open-low nodes (Opened stamp ∷ past) legal = All-push (λ snapshot. snapshot.stamp ≤ floor nodes past) _ _
-    (open-low nodes past legal.1) (open-below nodes past stamp legal.0)
-open-low nodes (Closed id ∷ past) legal =
-    All-filter _ (λ snapshot. snapshot.stamp ≤ floor nodes past) _ (open-low nodes past legal.1)
-open-low nodes (Vacuumed at ∷ past) legal = open-low nodes past legal.1
-open-low nodes (PartVacuumed at dropped ∷ past) legal = open-low nodes past legal.1
-open-low nodes (Joined node start ∷ past) legal =
-    let up : floor nodes past ≤ floor nodes (Joined node start ∷ past) =
-    floor-joins nodes past node start legal.1 legal.2 in
-    All-weaker (λ snapshot. snapshot.stamp ≤ floor nodes past)
-    (λ snapshot. snapshot.stamp ≤ floor nodes (Joined node start ∷ past))
-    (λ snapshot low. (let low' : snapshot.stamp ≤ floor nodes past = low in omega arith)) _
-    (open-low nodes past legal.3)
+pub open-low : (past : List Step) → IsLegal past
+    → All (λ snapshot. snapshot.stamp ≤ floor past) (open_snapshots past)
+open-low [] legal = All-nil _
+open-low (Took item ∷ past) legal =
+    let up : floor past ≤ floor (Took item ∷ past) = floor-grows past item legal.0 in
+    All-weaker (λ snapshot. snapshot.stamp ≤ floor past)
+    (λ snapshot. snapshot.stamp ≤ floor (Took item ∷ past))
+    (λ snapshot low. (let low' : snapshot.stamp ≤ floor past = low in omega arith)) _
+    (open-low past legal.1)
+open-low (Opened stamp ∷ past) legal = All-push (λ snapshot. snapshot.stamp ≤ floor past) _ _
+    (open-low past legal.1) (open-below past stamp legal.0)
+open-low (Started nodes ∷ past) legal = rw legal.0 (All-nil _)
+open-low (Closed id ∷ past) legal =
+    All-filter _ (λ snapshot. snapshot.stamp ≤ floor past) _ (open-low past legal.1)
+open-low (Vacuumed at ∷ past) legal = open-low past legal.1
+open-low (PartVacuumed at dropped ∷ past) legal = open-low past legal.1
+open-low (Joined node start ∷ past) legal =
+    let up : floor past ≤ floor (Joined node start ∷ past) =
+    floor-joins past node start legal.1 legal.2 in
+    All-weaker (λ snapshot. snapshot.stamp ≤ floor past)
+    (λ snapshot. snapshot.stamp ≤ floor (Joined node start ∷ past))
+    (λ snapshot low. (let low' : snapshot.stamp ≤ floor past = low in omega arith)) _
+    (open-low past legal.3)
 
 -- nor below the horizon
-pub open-above : (nodes : ℕ) (past : List Step) (stamp : ℕ) → open_refusal nodes past stamp ≡ None
+pub open-above : (past : List Step) (stamp : ℕ) → open_refusal past stamp ≡ None
     → horizon past ≤ stamp
-open-above nodes past stamp none =
+open-above past stamp none =
     elim (cases_lt stamp (horizon past)) [
       | inl low ↦
-          let low_floor : stamp ≤ floor nodes past = open-below nodes past stamp none in
+          let low_floor : stamp ≤ floor past = open-below past stamp none in
           absurd (let e : Some (BelowHorizon (horizon past)) ≡ None =
           sym (cond-true _ _ _ (lt-ltb stamp (horizon past) low))
-          ∙ sym (cond-false _ _ _ (le-ltb (floor nodes past) stamp low_floor)) ∙ none in cc)
+          ∙ sym (cond-false _ _ _ (le-ltb (floor past) stamp low_floor)) ∙ none in cc)
       | inr high ↦ high
     ]
 
 -- a stamp to which a vacuum is not refused is not above the floor
-pub vacuum-below : (nodes : ℕ) (past : List Step) (at : ℕ) → vacuum_refusal nodes past at ≡ None → at ≤ floor nodes past
-vacuum-below nodes past at none =
-    elim (cases_lt (floor nodes past) at) [
-      | inl above ↦ absurd (let e : Some (AboveFloor (floor nodes past)) ≡ None =
-          sym (cond-true _ _ _ (lt-ltb (floor nodes past) at above)) ∙ none in cc)
+pub vacuum-below : (past : List Step) (at : ℕ) → vacuum_refusal past at ≡ None → at ≤ floor past
+vacuum-below past at none =
+    elim (cases_lt (floor past) at) [
+      | inl above ↦ absurd (let e : Some (AboveFloor (floor past)) ≡ None =
+          sym (cond-true _ _ _ (lt-ltb (floor past) at above)) ∙ none in cc)
       | inr low ↦ low
     ]
 
 -- nor below the horizon
-pub vacuum-above : (nodes : ℕ) (past : List Step) (at : ℕ) → vacuum_refusal nodes past at ≡ None → horizon past ≤ at
-vacuum-above nodes past at none =
+pub vacuum-above : (past : List Step) (at : ℕ) → vacuum_refusal past at ≡ None → horizon past ≤ at
+vacuum-above past at none =
     elim (cases_lt at (horizon past)) [
       | inl low ↦
-          let low_floor : at ≤ floor nodes past = vacuum-below nodes past at none in
+          let low_floor : at ≤ floor past = vacuum-below past at none in
           absurd (let e : Some (BelowHorizon (horizon past)) ≡ None =
           sym (cond-true _ _ _ (lt-ltb at (horizon past) low))
-          ∙ sym (cond-false _ _ _ (le-ltb (floor nodes past) at low_floor)) ∙ none in cc)
+          ∙ sym (cond-false _ _ _ (le-ltb (floor past) at low_floor)) ∙ none in cc)
       | inr high ↦ high
     ]
 
 -- and a stamp between them is not refused
-pub vacuum-none : (nodes : ℕ) (past : List Step) (at : ℕ) → at ≤ floor nodes past → horizon past ≤ at
-    → vacuum_refusal nodes past at ≡ None
-vacuum-none nodes past at low high = cond-false _ _ _ (le-ltb (floor nodes past) at low)
+pub vacuum-none : (past : List Step) (at : ℕ) → at ≤ floor past → horizon past ≤ at
+    → vacuum_refusal past at ≡ None
+vacuum-none past at low high = cond-false _ _ _ (le-ltb (floor past) at low)
     ∙ cond-false _ _ _ (le-ltb at (horizon past) high)
 
 -- the horizon is not above the floor
-pub horizon-low : (nodes : ℕ) (past : List Step) → IsLegal nodes past → horizon past ≤ floor nodes past
-horizon-low nodes [] legal = omega arith
-horizon-low nodes (Took item ∷ past) legal =
-    let low : horizon past ≤ floor nodes past = horizon-low nodes past legal.1 in
-    let up : floor nodes past ≤ floor nodes (Took item ∷ past) = floor-grows nodes past item legal.0 in omega arith
-horizon-low nodes (Opened stamp ∷ past) legal = horizon-low nodes past legal.1
-horizon-low nodes (Closed id ∷ past) legal = horizon-low nodes past legal.1
-horizon-low nodes (Vacuumed at ∷ past) legal = vacuum-below nodes past at legal.0
-horizon-low nodes (PartVacuumed at dropped ∷ past) legal = vacuum-below nodes past at legal.0
-horizon-low nodes (Joined node start ∷ past) legal =
-    let low : horizon past ≤ floor nodes past = horizon-low nodes past legal.3 in
-    let up : floor nodes past ≤ floor nodes (Joined node start ∷ past) =
-    floor-joins nodes past node start legal.1 legal.2 in omega arith
+pub horizon-low : (past : List Step) → IsLegal past → horizon past ≤ floor past
+horizon-low [] legal = omega arith
+horizon-low (Took item ∷ past) legal =
+    let low : horizon past ≤ floor past = horizon-low past legal.1 in
+    let up : floor past ≤ floor (Took item ∷ past) = floor-grows past item legal.0 in omega arith
+horizon-low (Opened stamp ∷ past) legal = horizon-low past legal.1
+horizon-low (Started nodes ∷ past) legal = rw legal.0 (omega arith)
+horizon-low (Closed id ∷ past) legal = horizon-low past legal.1
+horizon-low (Vacuumed at ∷ past) legal = vacuum-below past at legal.0
+horizon-low (PartVacuumed at dropped ∷ past) legal = vacuum-below past at legal.0
+horizon-low (Joined node start ∷ past) legal =
+    let low : horizon past ≤ floor past = horizon-low past legal.3 in
+    let up : floor past ≤ floor (Joined node start ∷ past) =
+    floor-joins past node start legal.1 legal.2 in omega arith
 
 -- nor is the stamp of the last whole vacuum above the horizon
-pub vacuumed-low : (nodes : ℕ) (past : List Step) → IsLegal nodes past → vacuumed past ≤ horizon past
-vacuumed-low nodes [] legal = omega arith
-vacuumed-low nodes (Took item ∷ past) legal = vacuumed-low nodes past legal.1
-vacuumed-low nodes (Opened stamp ∷ past) legal = vacuumed-low nodes past legal.1
-vacuumed-low nodes (Closed id ∷ past) legal = vacuumed-low nodes past legal.1
-vacuumed-low nodes (Vacuumed at ∷ past) legal = omega arith
-vacuumed-low nodes (PartVacuumed at dropped ∷ past) legal =
-    let low : vacuumed past ≤ horizon past = vacuumed-low nodes past legal.1 in
-    let up : horizon past ≤ at = vacuum-above nodes past at legal.0 in
+pub vacuumed-low : (past : List Step) → IsLegal past → vacuumed past ≤ horizon past
+vacuumed-low [] legal = omega arith
+vacuumed-low (Took item ∷ past) legal = vacuumed-low past legal.1
+vacuumed-low (Opened stamp ∷ past) legal = vacuumed-low past legal.1
+vacuumed-low (Started nodes ∷ past) legal = vacuumed-low past legal.1
+vacuumed-low (Closed id ∷ past) legal = vacuumed-low past legal.1
+vacuumed-low (Vacuumed at ∷ past) legal = omega arith
+vacuumed-low (PartVacuumed at dropped ∷ past) legal =
+    let low : vacuumed past ≤ horizon past = vacuumed-low past legal.1 in
+    let up : horizon past ≤ at = vacuum-above past at legal.0 in
     let goal : vacuumed past ≤ at = omega arith in goal
-vacuumed-low nodes (Joined node start ∷ past) legal = vacuumed-low nodes past legal.3
+vacuumed-low (Joined node start ∷ past) legal = vacuumed-low past legal.3
 
 -- an item that is accepted is above the horizon
-pub above-horizon : (nodes : ℕ) (past : List Step) (item : Item) → IsLegal nodes past
-    → item_refusal nodes past item ≡ None → horizon past < item.stamp
-above-horizon nodes past item legal none =
-    let low : horizon past ≤ floor nodes past = horizon-low nodes past legal in
-    let up : floor nodes past < item.stamp = above_floor nodes past item none in omega arith
+pub above-horizon : (past : List Step) (item : Item) → IsLegal past
+    → item_refusal past item ≡ None → horizon past < item.stamp
+above-horizon past item legal none =
+    let low : horizon past ≤ floor past = horizon-low past legal in
+    let up : floor past < item.stamp = above_floor past item none in omega arith
 
 -- a stamp that is neither above the floor nor below the horizon is refused only if no more snapshot can be opened
-pub open-room : (nodes : ℕ) (past : List Step) (stamp : ℕ) → stamp ≤ floor nodes past → horizon past ≤ stamp
-    → open_refusal nodes past stamp ≡ room_refusal past
-open-room nodes past stamp low high = cond-false _ _ _ (le-ltb (floor nodes past) stamp low)
+pub open-room : (past : List Step) (stamp : ℕ) → stamp ≤ floor past → horizon past ≤ stamp
+    → open_refusal past stamp ≡ room_refusal past
+open-room past stamp low high = cond-false _ _ _ (le-ltb (floor past) stamp low)
     ∙ cond-false _ _ _ (le-ltb stamp (horizon past) high)
 
 -- the greatest accepted stamp is not above the top, which also counts starts
@@ -502,6 +519,7 @@ accepted-low (Took item ∷ past) =
     let old : greatest_accepted past ≤ top past = accepted-low past in
     let goal : max (greatest_accepted past) item.stamp ≤ max (top past) item.stamp = omega arith in goal
 accepted-low (Opened stamp ∷ past) = accepted-low past
+accepted-low (Started nodes ∷ past) = accepted-low past
 accepted-low (Closed id ∷ past) = accepted-low past
 accepted-low (Vacuumed at ∷ past) = accepted-low past
 accepted-low (PartVacuumed at dropped ∷ past) = accepted-low past
@@ -510,23 +528,24 @@ accepted-low (Joined node start ∷ past) =
     let goal : greatest_accepted past ≤ max (top past) start = omega arith in goal
 
 -- a node that has retired issued its head
-pub retired-head : (nodes : ℕ) (past : List Step) (n : ℕ) → IsLegal nodes past → retired n past ≡ true
+pub retired-head : (past : List Step) (n : ℕ) → IsLegal past → retired n past ≡ true
     → head n past ≤ greatest_accepted past
-retired-head nodes [] n legal has_retired = omega arith
-retired-head nodes (Opened stamp ∷ past) n legal has_retired = retired-head nodes past n legal.1 has_retired
-retired-head nodes (Closed id ∷ past) n legal has_retired = retired-head nodes past n legal.1 has_retired
-retired-head nodes (Vacuumed at ∷ past) n legal has_retired = retired-head nodes past n legal.1 has_retired
-retired-head nodes (PartVacuumed at dropped ∷ past) n legal has_retired = retired-head nodes past n legal.1 has_retired
-retired-head nodes (Joined node start ∷ past) n legal has_retired =
+retired-head [] n legal has_retired = omega arith
+retired-head (Opened stamp ∷ past) n legal has_retired = retired-head past n legal.1 has_retired
+retired-head (Started nodes ∷ past) n legal has_retired = retired-head past n legal.1 has_retired
+retired-head (Closed id ∷ past) n legal has_retired = retired-head past n legal.1 has_retired
+retired-head (Vacuumed at ∷ past) n legal has_retired = retired-head past n legal.1 has_retired
+retired-head (PartVacuumed at dropped ∷ past) n legal has_retired = retired-head past n legal.1 has_retired
+retired-head (Joined node start ∷ past) n legal has_retired =
     elim (cases_eq node n) [
       | inl same ↦
-          let none = fresh nodes past n legal.3 (let is : node ≡ numbered nodes past = legal.1 in omega arith) in
+          let none = fresh past n legal.3 (let is : node ≡ numbered past = legal.1 in omega arith) in
           absurd (let e : false ≡ true = sym none.1 ∙ has_retired in cc)
       | inr other ↦
           let e : head n (Joined node start ∷ past) ≡ head n past = head-joined_other n node start past other in
-          let old : head n past ≤ greatest_accepted past = retired-head nodes past n legal.3 has_retired in omega arith
+          let old : head n past ≤ greatest_accepted past = retired-head past n legal.3 has_retired in omega arith
     ]
-retired-head nodes (Took item ∷ past) n legal has_retired =
+retired-head (Took item ∷ past) n legal has_retired =
     elim (cases_eq item.node n) [
       | inl same ↦
           let e : head n (Took item ∷ past) ≡ item.stamp = head-same n item past same in
@@ -534,31 +553,31 @@ retired-head nodes (Took item ∷ past) n legal has_retired =
       | inr other ↦
           let e : head n (Took item ∷ past) ≡ head n past = head-other n item past other in
           let old : head n past ≤ greatest_accepted past =
-          retired-head nodes past n legal.1 (sym (retired-other n item past other) ∙ has_retired) in
+          retired-head past n legal.1 (sym (retired-other n item past other) ∙ has_retired) in
           let goal : head n (Took item ∷ past) ≤ max (greatest_accepted past) item.stamp = omega arith in goal
     ]
 
 -- a join at the floor does not move it
-pub floor-at_floor : (nodes : ℕ) (past : List Step) (node : ℕ) → IsLegal nodes past → node ≡ numbered nodes past
-    → floor nodes (Joined node (floor nodes past) ∷ past) ≡ floor nodes past
-floor-at_floor nodes past node legal is =
-    let start : ℕ = floor nodes past in
-    let up : floor nodes past ≤ floor nodes (Joined node start ∷ past) =
-    floor-joins nodes past node start is (omega arith) in
+pub floor-at_floor : (past : List Step) (node : ℕ) → IsLegal past → node ≡ numbered past
+    → floor (Joined node (floor past) ∷ past) ≡ floor past
+floor-at_floor past node legal is =
+    let start : ℕ = floor past in
+    let up : floor past ≤ floor (Joined node start ∷ past) =
+    floor-joins past node start is (omega arith) in
     let at : head node (Joined node start ∷ past) ≡ start = head-joined node node start past refl in
-    let within : node < numbered nodes past + 1 = omega arith in
-    let here = fresh nodes past node legal (omega arith) in
-    let low : floor nodes (Joined node start ∷ past) ≤ head node (Joined node start ∷ past) =
-    floor-le nodes (Joined node start ∷ past) node within here.1 in omega arith
+    let within : node < numbered past + 1 = omega arith in
+    let here = fresh past node legal (omega arith) in
+    let low : floor (Joined node start ∷ past) ≤ head node (Joined node start ∷ past) =
+    floor-le (Joined node start ∷ past) node within here.1 in omega arith
 
 -- and is refused as a join without a start
-pub join-at_floor : (nodes : ℕ) (past : List Step)
-    → join_at_refusal nodes past (floor nodes past) ≡ join_refusal nodes past
-join-at_floor nodes past =
-    elim (cases_lt (numbered nodes past) MAX_NODES) [
+pub join-at_floor : (past : List Step)
+    → join_at_refusal past (floor past) ≡ join_refusal past
+join-at_floor past =
+    elim (cases_lt (numbered past) MAX_NODES) [
       | inl few ↦
-          let f = lt-leb MAX_NODES (numbered nodes past) few in
-          cond-false _ _ _ f ∙ cond-false _ _ _ (le-ltb (floor nodes past) (floor nodes past) (omega arith))
+          let f = lt-leb MAX_NODES (numbered past) few in
+          cond-false _ _ _ f ∙ cond-false _ _ _ (le-ltb (floor past) (floor past) (omega arith))
           ∙ sym (cond-false _ _ _ f)
-      | inr full ↦ let f = le-leb MAX_NODES (numbered nodes past) full in cond-true _ _ _ f ∙ sym (cond-true _ _ _ f)
+      | inr full ↦ let f = le-leb MAX_NODES (numbered past) full in cond-true _ _ _ f ∙ sym (cond-true _ _ _ f)
     ]

@@ -17,11 +17,12 @@ use Rattle.hlc_heads.specs.declared.heads.TheConstants.{MAX_NODES}
 use Rattle.hlc_events.specs.declared.fault.CoreFault.{CoreFault}
 use Rattle.hlc_events.specs.declared.fault.CoreFault.TheVariants.{Join}
 use Rattle.hlc_heads.specs.declared.heads.JoinFault.TheVariants.{TooManyNodes, BelowFloor}
-use Rattle.hlc_core.specs.Past.{Step, Took, Opened, Closed, Vacuumed, PartVacuumed, Joined, numbered, count, head}
+use Rattle.hlc_core.specs.Past.{Step, initial_nodes, Started, Took, Opened, Closed, Vacuumed, PartVacuumed, Joined}
+use Rattle.hlc_core.specs.Past.{numbered, count, head}
 use Rattle.hlc_core.specs.Past.{retired}
 use Rattle.hlc_core.specs.Past.{top, floor, horizon, writes, item_rows, item_refusal, join_at_refusal, IsLegal}
 use Rattle.hlc_core.specs.Past.{open_snapshots}
-use Rattle.hlc_core.specs.StoreView.{StoreView, nodes, Represents}
+use Rattle.hlc_core.specs.StoreView.{StoreView, Represents}
 use Rattle.hlc_core.specs.Replicas.{items_of, joins_of, AreReplicas, CanMeet}
 use Rattle.hlc_core.proofs.PastLemmas.{inside, head-same, head-other, head-joined, head-joined_other}
 use Rattle.hlc_core.proofs.PastLemmas.{retired-same, retired-other, count-other, body_rows-are, writes-row_set}
@@ -37,19 +38,21 @@ items-other : (n : ℕ) (item : Item) (past : List Step) → (item.node ≡ n �
 items-other n item past e = cond-false _ _ _ (ne_eqb _ _ e)
 
 -- no item is of a node that does not exist
-items-none : (nodes : ℕ) (past : List Step) (n : ℕ) → IsLegal nodes past → numbered nodes past ≤ n
+items-none : (past : List Step) (n : ℕ) → IsLegal past → numbered past ≤ n
     → items_of n past ≡ []
-items-none nodes [] n legal out = refl
-items-none nodes (Opened stamp ∷ past) n legal out = items-none nodes past n legal.1 out
-items-none nodes (Closed id ∷ past) n legal out = items-none nodes past n legal.1 out
-items-none nodes (Vacuumed at ∷ past) n legal out = items-none nodes past n legal.1 out
-items-none nodes (PartVacuumed at dropped ∷ past) n legal out = items-none nodes past n legal.1 out
-items-none nodes (Joined node start ∷ past) n legal out =
-    items-none nodes past n legal.3 (let out' : numbered nodes past + 1 ≤ n = out in omega arith)
-items-none nodes (Took item ∷ past) n legal out =
-    let within : item.node < numbered nodes past = inside nodes past item legal.0 in
-    let out' : numbered nodes past ≤ n = out in
-    items-other n item past (λ e. omega arith) ∙ items-none nodes past n legal.1 out
+items-none [] n legal out = refl
+items-none (Opened stamp ∷ past) n legal out = items-none past n legal.1 out
+items-none (Started nodes ∷ past) n legal out =
+    items-none past n legal.1 (let out' : numbered past + nodes ≤ n = out in omega arith)
+items-none (Closed id ∷ past) n legal out = items-none past n legal.1 out
+items-none (Vacuumed at ∷ past) n legal out = items-none past n legal.1 out
+items-none (PartVacuumed at dropped ∷ past) n legal out = items-none past n legal.1 out
+items-none (Joined node start ∷ past) n legal out =
+    items-none past n legal.3 (let out' : numbered past + 1 ≤ n = out in omega arith)
+items-none (Took item ∷ past) n legal out =
+    let within : item.node < numbered past = inside past item legal.0 in
+    let out' : numbered past ≤ n = out in
+    items-other n item past (λ e. omega arith) ∙ items-none past n legal.1 out
 
 -- the start of a node, from the joins
 abbrev start_in : ℕ → List (ℕ × ℕ) → ℕ
@@ -70,36 +73,38 @@ head-skips : (n node start : ℕ) (items : List Item) (joins : List (ℕ × ℕ)
 head-skips n node start [] joins e = cond-false _ _ _ (ne_eqb _ _ e)
 head-skips n node start (item ∷ items) joins e = refl
 
-head-by : (nodes : ℕ) (past : List Step) (n : ℕ) → IsLegal nodes past
+head-by : (past : List Step) (n : ℕ) → IsLegal past
     → head n past ≡ last_head n (items_of n past) (joins_of past)
-head-by nodes [] n legal = refl
-head-by nodes (Opened stamp ∷ past) n legal = head-by nodes past n legal.1
-head-by nodes (Closed id ∷ past) n legal = head-by nodes past n legal.1
-head-by nodes (Vacuumed at ∷ past) n legal = head-by nodes past n legal.1
-head-by nodes (PartVacuumed at dropped ∷ past) n legal = head-by nodes past n legal.1
-head-by nodes (Joined node start ∷ past) n legal =
+head-by [] n legal = refl
+head-by (Opened stamp ∷ past) n legal = head-by past n legal.1
+head-by (Started nodes ∷ past) n legal = head-by past n legal.1
+head-by (Closed id ∷ past) n legal = head-by past n legal.1
+head-by (Vacuumed at ∷ past) n legal = head-by past n legal.1
+head-by (PartVacuumed at dropped ∷ past) n legal = head-by past n legal.1
+head-by (Joined node start ∷ past) n legal =
     elim (cases_eq node n) [
       | inl same ↦
-          let out : numbered nodes past ≤ n = (let is : node ≡ numbered nodes past = legal.1 in omega arith) in
-          let none = items-none nodes past n legal.3 out in
+          let out : numbered past ≤ n = (let is : node ≡ numbered past = legal.1 in omega arith) in
+          let none = items-none past n legal.3 out in
           head-joined n node start past same
           ∙ sym (ap (λ items. last_head n items ((node, start) ∷ joins_of past)) none
           ∙ cond-true _ _ _ (eq-eqb _ _ same))
       | inr other ↦
-          head-joined_other n node start past other ∙ head-by nodes past n legal.3
+          head-joined_other n node start past other ∙ head-by past n legal.3
           ∙ sym (head-skips n node start (items_of n past) (joins_of past) other)
     ]
-head-by nodes (Took item ∷ past) n legal =
+head-by (Took item ∷ past) n legal =
     elim (cases_eq item.node n) [
       | inl same ↦ head-same n item past same
           ∙ sym (ap (λ items. last_head n items (joins_of past)) (items-same n item past same))
-      | inr other ↦ head-other n item past other ∙ head-by nodes past n legal.1
+      | inr other ↦ head-other n item past other ∙ head-by past n legal.1
           ∙ sym (ap (λ items. last_head n items (joins_of past)) (items-other n item past other))
     ]
 
 retired-by : (past : List Step) (n : ℕ) → retired n past ≡ last_retires (items_of n past)
 retired-by [] n = refl
 retired-by (Opened stamp ∷ past) n = retired-by past n
+retired-by (Started nodes ∷ past) n = retired-by past n
 retired-by (Closed id ∷ past) n = retired-by past n
 retired-by (Vacuumed at ∷ past) n = retired-by past n
 retired-by (PartVacuumed at dropped ∷ past) n = retired-by past n
@@ -114,6 +119,7 @@ retired-by (Took item ∷ past) n =
 count-by : (past : List Step) (n : ℕ) → count n past ≡ length (items_of n past)
 count-by [] n = refl
 count-by (Opened stamp ∷ past) n = count-by past n
+count-by (Started nodes ∷ past) n = count-by past n
 count-by (Closed id ∷ past) n = count-by past n
 count-by (Vacuumed at ∷ past) n = count-by past n
 count-by (PartVacuumed at dropped ∷ past) n = count-by past n
@@ -127,25 +133,27 @@ count-by (Took item ∷ past) n =
           ∙ sym (ap length (items-other n item past other))
     ]
 
-numbered-by : (nodes : ℕ) (past : List Step) → numbered nodes past ≡ nodes + length (joins_of past)
-numbered-by nodes [] = omega arith
-numbered-by nodes (Took item ∷ past) = numbered-by nodes past
-numbered-by nodes (Opened stamp ∷ past) = numbered-by nodes past
-numbered-by nodes (Closed id ∷ past) = numbered-by nodes past
-numbered-by nodes (Vacuumed at ∷ past) = numbered-by nodes past
-numbered-by nodes (PartVacuumed at dropped ∷ past) = numbered-by nodes past
-numbered-by nodes (Joined node start ∷ past) = (let h = numbered-by nodes past in omega (arith, h))
+numbered-by : (past : List Step) → IsLegal past → numbered past ≡ initial_nodes past + length (joins_of past)
+numbered-by [] legal = omega arith
+numbered-by (Took item ∷ past) legal = numbered-by past legal.1
+numbered-by (Opened stamp ∷ past) legal = numbered-by past legal.1
+numbered-by (Started nodes ∷ past) legal = rw legal.0 (omega arith)
+numbered-by (Closed id ∷ past) legal = numbered-by past legal.1
+numbered-by (Vacuumed at ∷ past) legal = numbered-by past legal.1
+numbered-by (PartVacuumed at dropped ∷ past) legal = numbered-by past legal.1
+numbered-by (Joined node start ∷ past) legal = (let h = numbered-by past legal.3 in omega (arith, h))
 
-numbered-same : (nodes : ℕ) (past other : List Step) → joins_of past ≡ joins_of other
-    → numbered nodes past ≡ numbered nodes other
-numbered-same nodes past other joins =
-    numbered-by nodes past ∙ ap (λ js. nodes + length js) joins ∙ sym (numbered-by nodes other)
+numbered-same : (past other : List Step) → IsLegal past → IsLegal other → initial_nodes past ≡ initial_nodes other
+    → joins_of past ≡ joins_of other → numbered past ≡ numbered other
+numbered-same past other legal legal' start joins =
+    numbered-by past legal ∙ ap (λ js. initial_nodes past + length js) joins
+    ∙ ap (λ nodes. nodes + length (joins_of other)) start ∙ sym (numbered-by other legal')
 
-head-agrees : (nodes : ℕ) (past other : List Step) (n : ℕ) → IsLegal nodes past → IsLegal nodes other
+head-agrees : (past other : List Step) (n : ℕ) → IsLegal past → IsLegal other
     → joins_of past ≡ joins_of other → items_of n past ≡ items_of n other → head n past ≡ head n other
-head-agrees nodes past other n legal legal' joins items =
-    head-by nodes past n legal ∙ ap (λ js. last_head n (items_of n past) js) joins
-    ∙ ap (λ is. last_head n is (joins_of other)) items ∙ sym (head-by nodes other n legal')
+head-agrees past other n legal legal' joins items =
+    head-by past n legal ∙ ap (λ js. last_head n (items_of n past) js) joins
+    ∙ ap (λ is. last_head n is (joins_of other)) items ∙ sym (head-by other n legal')
 
 retired-agrees : (past other : List Step) (n : ℕ) → items_of n past ≡ items_of n other
     → retired n past ≡ retired n other
@@ -155,36 +163,37 @@ count-agrees : (past other : List Step) (n : ℕ) → items_of n past ≡ items_
 count-agrees past other n items = count-by past n ∙ ap length items ∙ sym (count-by other n)
 
 -- an item is refused alike if the items of its node are the same
-pub refusals-agree : (nodes : ℕ) (past other : List Step) (item : Item) → IsLegal nodes past → IsLegal nodes other
-    → joins_of past ≡ joins_of other → items_of item.node past ≡ items_of item.node other
-    → item_refusal nodes past item ≡ item_refusal nodes other item
-refusals-agree nodes past other item legal legal' joins items =
+pub refusals-agree : (past other : List Step) (item : Item) → IsLegal past → IsLegal other
+    → initial_nodes past ≡ initial_nodes other → joins_of past ≡ joins_of other
+    → items_of item.node past ≡ items_of item.node other
+    → item_refusal past item ≡ item_refusal other item
+refusals-agree past other item legal legal' start joins items =
     rw (
-      numbered-same nodes past other joins,
+      numbered-same past other legal legal' start joins,
       retired-agrees past other item.node items,
       count-agrees past other item.node items,
-      head-agrees nodes past other item.node legal legal' joins items,
+      head-agrees past other item.node legal legal' joins items,
     ) refl
 
-top-le : (nodes : ℕ) (past other : List Step) → 0 < nodes → IsLegal nodes past → IsLegal nodes other
+top-le : (past other : List Step) → 0 < initial_nodes past → IsLegal past → IsLegal other
     → ((n : ℕ) → head n past ≡ head n other) → top past ≤ top other
-top-le nodes past other some legal legal' same =
-    let one = top-at nodes past some legal in
+top-le past other some legal legal' same =
+    let one = top-at past some legal in
     let at : head one.0 past ≡ top past = one.2 in
     let e : head one.0 past ≡ head one.0 other = same one.0 in
-    let low : head one.0 other ≤ top other = heads-low nodes other legal' one.0 in omega arith
+    let low : head one.0 other ≤ top other = heads-low other legal' one.0 in omega arith
 
 -- the floor is the same
-pub floors-agree : (nodes : ℕ) (past other : List Step) → 0 < nodes → IsLegal nodes past → IsLegal nodes other
-    → AreReplicas past other → floor nodes past ≡ floor nodes other
-floors-agree nodes past other some legal legal' are =
+pub floors-agree : (past other : List Step) → 0 < initial_nodes past → IsLegal past → IsLegal other
+    → AreReplicas past other → floor past ≡ floor other
+floors-agree past other some legal legal' are =
     let heads : (n : ℕ) → head n past ≡ head n other =
-    λ n. head-agrees nodes past other n legal legal' are.joins (are.items n) in
-    let a : top past ≤ top other = top-le nodes past other some legal legal' heads in
-    let b : top other ≤ top past = top-le nodes other past some legal' legal (λ n. sym (heads n)) in
+    λ n. head-agrees past other n legal legal' are.joins (are.items n) in
+    let a : top past ≤ top other = top-le past other some legal legal' heads in
+    let b : top other ≤ top past = top-le other past (rw (← are.start) some) legal' legal (λ n. sym (heads n)) in
     let tops : top past ≡ top other = omega arith in
-    low-same (λ k. head k past) (λ k. head k other) (λ k. retired k past) (λ k. retired k other) (numbered nodes past)
-    (numbered nodes other) (top past) (top other) (numbered-same nodes past other are.joins) tops
+    low-same (λ k. head k past) (λ k. head k other) (λ k. retired k past) (λ k. retired k other) (numbered past)
+    (numbered other) (top past) (top other) (numbered-same past other legal legal' are.start are.joins) tops
     (λ k within. (heads k, retired-agrees past other k (are.items k)))
 
 -- why no node joins at a start, from the number of assigned node numbers and the floor
@@ -194,18 +203,19 @@ refusal_of many low start =
     else if nat_lt start low then Some (Join (BelowFloor low)) else None
 
 -- so a join at a start is refused alike
-pub joins-agree : (nodes : ℕ) (past other : List Step) (start : ℕ) → 0 < nodes → IsLegal nodes past
-    → IsLegal nodes other → AreReplicas past other
-    → join_at_refusal nodes past start ≡ join_at_refusal nodes other start
-joins-agree nodes past other start some legal legal' are =
-    ap (λ many. refusal_of many (floor nodes past) start) (numbered-same nodes past other are.joins)
-    ∙ ap (λ low. refusal_of (numbered nodes other) low start) (floors-agree nodes past other some legal legal' are)
+pub joins-agree : (past other : List Step) (start : ℕ) → 0 < initial_nodes past → IsLegal past
+    → IsLegal other → AreReplicas past other
+    → join_at_refusal past start ≡ join_at_refusal other start
+joins-agree past other start some legal legal' are =
+    ap (λ many. refusal_of many (floor past) start) (numbered-same past other legal legal' are.start are.joins)
+    ∙ ap (λ low. refusal_of (numbered other) low start) (floors-agree past other some legal legal' are)
 
 -- each accepted write is that of an item of its node
 writes-from : (past : List Step) (row : Row) → Contains (writes past) row
     → (item : Item) × Contains (items_of row.node past) item × Contains (item_rows item) row
 writes-from [] row m = absurd (Contains-none row m)
 writes-from (Opened stamp ∷ past) row m = writes-from past row m
+writes-from (Started nodes ∷ past) row m = writes-from past row m
 writes-from (Closed id ∷ past) row m = writes-from past row m
 writes-from (Vacuumed at ∷ past) row m = writes-from past row m
 writes-from (PartVacuumed at dropped ∷ past) row m = writes-from past row m
@@ -237,6 +247,7 @@ writes-to : (past : List Step) (n : ℕ) (item : Item) (row : Row) → Contains 
     → Contains (item_rows item) row → Contains (writes past) row
 writes-to [] n item row m r = absurd (Contains-none item m)
 writes-to (Opened stamp ∷ past) n item row m r = writes-to past n item row m r
+writes-to (Started nodes ∷ past) n item row m r = writes-to past n item row m r
 writes-to (Closed id ∷ past) n item row m r = writes-to past n item row m r
 writes-to (Vacuumed at ∷ past) n item row m r = writes-to past n item row m r
 writes-to (PartVacuumed at dropped ∷ past) n item row m r = writes-to past n item row m r
@@ -262,10 +273,10 @@ writes-part past other items row m =
     writes-to other row.node found.0 row (subst (λ is. Contains is found.0) (items row.node) found.1) found.2
 
 -- the accepted writes answer alike
-pub answers-agree : (nodes : ℕ) (past other : List Step) → IsLegal nodes past → AreReplicas past other
+pub answers-agree : (past other : List Step) → IsLegal past → AreReplicas past other
     → (key : List ℕ) (stamp : ℕ) → answer (writes past) key stamp ≡ answer (writes other) key stamp
-answers-agree nodes past other legal are =
-    same_rows (writes past) (writes other) (writes-row_set nodes past legal) (writes-part past other are.items)
+answers-agree past other legal are =
+    same_rows (writes past) (writes other) (writes-row_set past legal) (writes-part past other are.items)
     (writes-part other past (λ n. sym (are.items n)))
 
 -- and so do the stores, at each stamp from both horizons on
@@ -273,17 +284,17 @@ pub stores-agree : (kept copy : StoreView) (past other : List Step) → Represen
     → AreReplicas past other → (key : List ℕ) (stamp : ℕ) → horizon past ≤ stamp → horizon other ≤ stamp
     → answer kept.rows key stamp ≡ answer copy.rows key stamp
 stores-agree kept copy past other h h' are key stamp up up' =
-    h.rows.from_horizon key stamp up ∙ answers-agree (nodes kept) past other h.legal are key stamp
+    h.rows.from_horizon key stamp up ∙ answers-agree past other h.legal are key stamp
     ∙ sym (h'.rows.from_horizon key stamp up')
 
 -- pasts that can meet answer alike up to the lesser floor
-pub lagging-agree : (nodes : ℕ) (past other : List Step) → CanMeet nodes past other → (key : List ℕ) (stamp : ℕ)
-    → stamp ≤ floor nodes past → stamp ≤ floor nodes other
+pub lagging-agree : (past other : List Step) → CanMeet past other → (key : List ℕ) (stamp : ℕ)
+    → stamp ≤ floor past → stamp ≤ floor other
     → answer (writes past) key stamp ≡ answer (writes other) key stamp
-lagging-agree nodes past other meet key stamp low low' =
-    sym (answers-stay nodes past meet.more meet.legal key stamp low)
-    ∙ answers-agree nodes (meet.more ++ past) (meet.rest ++ other) meet.legal meet.meet key stamp
-    ∙ answers-stay nodes other meet.rest meet.other_legal key stamp low'
+lagging-agree past other meet key stamp low low' =
+    sym (answers-stay past meet.more meet.legal key stamp low)
+    ∙ answers-agree (meet.more ++ past) (meet.rest ++ other) meet.legal meet.meet key stamp
+    ∙ answers-stay other meet.rest meet.other_legal key stamp low'
 
 -- a store answers as all accepted writes do where it may be read
 answers-there : (kept : StoreView) (past : List Step) → Represents kept past → (key : List ℕ) (stamp : ℕ)
@@ -294,11 +305,11 @@ answers-there kept past h key stamp (inr is_open) = h.rows.at_open key stamp is_
 
 -- and so do their stores, at each stamp from its horizon on or at which it has a snapshot open
 pub lagging_stores-agree : (kept copy : StoreView) (past other : List Step) → Represents kept past
-    → Represents copy other → CanMeet (nodes kept) past other → (key : List ℕ) (stamp : ℕ)
-    → stamp ≤ floor (nodes kept) past → stamp ≤ floor (nodes kept) other
+    → Represents copy other → CanMeet past other → (key : List ℕ) (stamp : ℕ)
+    → stamp ≤ floor past → stamp ≤ floor other
     → (horizon past ≤ stamp) ⊎ Contains (stamps (open_snapshots past)) stamp
     → (horizon other ≤ stamp) ⊎ Contains (stamps (open_snapshots other)) stamp
     → answer kept.rows key stamp ≡ answer copy.rows key stamp
 lagging_stores-agree kept copy past other h h' meet key stamp low low' may may' =
-    answers-there kept past h key stamp may ∙ lagging-agree (nodes kept) past other meet key stamp low low'
+    answers-there kept past h key stamp may ∙ lagging-agree past other meet key stamp low low'
     ∙ sym (answers-there copy other h' key stamp may')

@@ -11,19 +11,20 @@ use Rattle.hlc_witness.specs.AllChanges.{all_changes}
 use Rattle.hlc_draft.specs.declared.report.Report.{Report}
 use Rattle.hlc_clock.proofs.PointLemmas.{ArePoints-unique, points-ascend}
 use Rattle.hlc_witness.proofs.ChangeLemmas.{changes_are_one}
-use Rattle.hlc_core.specs.Past.{Step, Took, Opened, Closed, Vacuumed, PartVacuumed, Joined, floor, open_snapshots}
+use Rattle.hlc_core.specs.Past.{Step, Started, Took, Opened, Closed, Vacuumed, PartVacuumed, Joined, floor}
+use Rattle.hlc_core.specs.Past.{open_snapshots}
 use Rattle.hlc_core.specs.Past.{writes}
 use Rattle.hlc_core.specs.Past.{IsLegal}
 use Rattle.hlc_core.specs.Stored.{AreVacuumPoints, AreLastChanges, IsStoredCount, IsReport}
 use Rattle.hlc_core.proofs.PastLemmas.{open-low}
 
 -- no open stamp is above the floor
-pub open-stamps-low : (nodes : ℕ) (past : List Step) → IsLegal nodes past → (stamp : ℕ)
-    → Contains (stamps (open_snapshots past)) stamp → stamp ≤ floor nodes past
-open-stamps-low nodes past legal stamp m =
-    All-contains (λ stamp. stamp ≤ floor nodes past) (stamps (open_snapshots past)) stamp
-    (All-map (λ stamp. stamp ≤ floor nodes past) (λ (snapshot : Snapshot). snapshot.stamp) (open_snapshots past)
-    (open-low nodes past legal)) m
+pub open-stamps-low : (past : List Step) → IsLegal past → (stamp : ℕ)
+    → Contains (stamps (open_snapshots past)) stamp → stamp ≤ floor past
+open-stamps-low past legal stamp m =
+    All-contains (λ stamp. stamp ≤ floor past) (stamps (open_snapshots past)) stamp
+    (All-map (λ stamp. stamp ≤ floor past) (λ (snapshot : Snapshot). snapshot.stamp) (open_snapshots past)
+    (open-low past legal)) m
 
 -- the changes of one vacuum are one list
 pub one-changes : (at : ℕ) (past : List Step) (points others : List ℕ) (changes before : List Witness)
@@ -42,6 +43,7 @@ pub one-last : (past : List Step) (changes before : List Witness)
 one-last [] changes before are were = are ∙ sym were
 one-last (Took item ∷ past) changes before are were = one-last past changes before are were
 one-last (Opened stamp ∷ past) changes before are were = one-last past changes before are were
+one-last (Started nodes ∷ past) changes before are were = one-last past changes before are were
 one-last (Closed id ∷ past) changes before are were = one-last past changes before are were
 one-last (Joined node start ∷ past) changes before are were = one-last past changes before are were
 one-last (PartVacuumed at dropped ∷ past) changes before are were = one-last past changes before are were

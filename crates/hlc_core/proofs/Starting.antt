@@ -1,5 +1,5 @@
--- A new core represents the empty past.
-use Rattle.std.proofs.Common.{◌≡◌, ℕ, zero, suc, ◌<◌, ◌≤◌, [], length}
+-- A new core represents the past of its start.
+use Rattle.std.proofs.Common.{◌≡◌, ℕ, zero, suc, ◌<◌, ◌≤◌, [], ◌∷◌, length}
 use Rattle.std.proofs.Common.{false, Some, None, refl, ap}
 use Rattle.std.proofs.Common.{arith, replicate}
 use Rattle.std.specs.Prelude.{slice_get}
@@ -7,7 +7,8 @@ use Rattle.std.proofs.lemmas.Bool.{cond-false, ne_eqb, le-ltb, or_from}
 use Rattle.hlc_intake.specs.IntakeView.{IntakeView}
 use Rattle.hlc_heads.specs.Heads.{a_link}
 use Rattle.hlc_heads.specs.declared.heads.TheConstants.{MAX_INITIAL_NODES}
-use Rattle.hlc_core.specs.StoreView.{StoreView, nodes, Represents}
+use Rattle.hlc_core.specs.Past.{Started}
+use Rattle.hlc_core.specs.StoreView.{StoreView, Represents}
 use Rattle.hlc_core.specs.Calls.{new_refusal}
 
 abbrev pub new_core : ℕ → StoreView
@@ -30,30 +31,28 @@ replicate-length : (count : ℕ) (link : IntakeView) → length (replicate count
 replicate-length zero link = refl
 replicate-length (suc n) link = ap suc (replicate-length n link)
 
--- a new core represents the empty past
-pub starts : (many : ℕ) → (nodes (new_core many) ≡ many) × Represents (new_core many) []
+-- a new core represents the past of its start
+pub starts : (many : ℕ) → Represents (new_core many) (Started many ∷ [])
 starts many =
-    let l : length (replicate many (a_link 0 0 false)) ≡ many = replicate-length many (a_link 0 0 false) in (
-      refl,
-      record {
-        legal = tt;
-        many = l;
-        links = λ n lt. get-replicate many n (a_link 0 0 false) (omega arith);
-        top = refl;
-        snapshots = refl;
-        opened = refl;
-        rows = record {
-          row_set = tt;
-          all_row_set = tt;
-          within = λ row m. m;
-          above = λ row m up. m;
-          at_open = λ key stamp m. refl;
-          from_horizon = λ key stamp le. refl;
-        };
-        stored = ([], refl, refl);
-        horizon = refl;
-      },
-    )
+    let l : length (replicate many (a_link 0 0 false)) ≡ many = replicate-length many (a_link 0 0 false) in record {
+      legal = (refl, tt);
+      start = refl;
+      many = omega (arith, l);
+      links = λ n lt. get-replicate many n (a_link 0 0 false) (omega arith);
+      top = refl;
+      snapshots = refl;
+      opened = refl;
+      rows = record {
+        row_set = tt;
+        all_row_set = tt;
+        within = λ row m. m;
+        above = λ row m up. m;
+        at_open = λ key stamp m. refl;
+        from_horizon = λ key stamp le. refl;
+      };
+      stored = ([], refl, refl);
+      horizon = refl;
+    }
 
 -- no core of 1 to 64 nodes is refused
 pub new_refusal-none : (many : ℕ) → 0 < many → many ≤ MAX_INITIAL_NODES → new_refusal many ≡ None

@@ -1,7 +1,7 @@
 -- What is accepted after a past lies above its floor, so no answer at or below that changes. An id is never used again,
 -- so an open snapshot keeps its stamp, which is not above the floor, and with it its answers.
 use Rattle.std.proofs.Common.{◌≡◌, ℕ, ◌+◌, ◌<◌, ◌≤◌, List, [], ◌∷◌, ◌++◌, Some, None, refl, ap, sym, ◌∙◌, inl, inr}
-use Rattle.std.proofs.Common.{arith, append-nil}
+use Rattle.std.proofs.Common.{arith, append-nil, subst}
 use Rattle.std.specs.Prelude.{nat_le, Contains}
 use Rattle.std.proofs.lemmas.Bool.{cond-false, lt-leb, cases_eq}
 use Rattle.std.proofs.lemmas.List.Elements.{filter-append}
@@ -14,37 +14,45 @@ use Rattle.hlc_snapshot.proofs.RegisterLemmas.{open_before, stamp_in-push_cases,
 use Rattle.hlc_snapshot.proofs.RegisterLemmas.{stamp_in-without_itself, stamp_in-without_other}
 use Rattle.hlc_draft.specs.Vacuumed.{rows_to}
 use Rattle.hlc_draft.proofs.PartLemmas.{answer-rows_to}
-use Rattle.hlc_core.specs.Past.{Step, Took, Opened, Closed, Vacuumed, PartVacuumed, Joined, floor, opened}
+use Rattle.hlc_core.specs.Past.{Step, Started, Took, Opened, Closed, Vacuumed, PartVacuumed, Joined, floor, opened}
 use Rattle.hlc_core.specs.Past.{open_snapshots}
 use Rattle.hlc_core.specs.Past.{stamp_of, writes, body_rows, IsLegal}
 use Rattle.hlc_core.proofs.PastLemmas.{writes-row_set, above_floor, floor-grows, floor-joins, open-low, body_rows-are}
 
 -- what took place before a legal past's last steps is legal
-pub legal-before : (nodes : ℕ) (past more : List Step) → IsLegal nodes (more ++ past) → IsLegal nodes past
-legal-before nodes past [] legal = legal
-legal-before nodes past (Took item ∷ more) legal = legal-before nodes past more legal.1
-legal-before nodes past (Opened stamp ∷ more) legal = legal-before nodes past more legal.1
-legal-before nodes past (Closed id ∷ more) legal = legal-before nodes past more legal.1
-legal-before nodes past (Vacuumed at ∷ more) legal = legal-before nodes past more legal.1
-legal-before nodes past (PartVacuumed at dropped ∷ more) legal = legal-before nodes past more legal.1
-legal-before nodes past (Joined node start ∷ more) legal = legal-before nodes past more legal.3
+pub legal-before : (past more : List Step) → IsLegal (more ++ past) → IsLegal past
+legal-before past [] legal = legal
+legal-before past (Took item ∷ more) legal = legal-before past more legal.1
+legal-before past (Opened stamp ∷ more) legal = legal-before past more legal.1
+legal-before past (Started nodes ∷ more) legal = legal-before past more legal.1
+legal-before past (Closed id ∷ more) legal = legal-before past more legal.1
+legal-before past (Vacuumed at ∷ more) legal = legal-before past more legal.1
+legal-before past (PartVacuumed at dropped ∷ more) legal = legal-before past more legal.1
+legal-before past (Joined node start ∷ more) legal = legal-before past more legal.3
+
+-- if all is nothing, so is what came first
+nothing-before : (more past : List Step) → more ++ past ≡ [] → past ≡ []
+nothing-before [] past none = none
+nothing-before (step ∷ more) past none = absurd (cc)
 
 -- however much takes place later, the floor never falls
-pub floor-never_falls : (nodes : ℕ) (past more : List Step) → IsLegal nodes (more ++ past)
-    → floor nodes past ≤ floor nodes (more ++ past)
-floor-never_falls nodes past [] legal = omega arith
-floor-never_falls nodes past (Took item ∷ more) legal =
-    let low : floor nodes past ≤ floor nodes (more ++ past) = floor-never_falls nodes past more legal.1 in
-    let up : floor nodes (more ++ past) ≤ floor nodes (Took item ∷ (more ++ past)) =
-    floor-grows nodes (more ++ past) item legal.0 in omega arith
-floor-never_falls nodes past (Opened stamp ∷ more) legal = floor-never_falls nodes past more legal.1
-floor-never_falls nodes past (Closed id ∷ more) legal = floor-never_falls nodes past more legal.1
-floor-never_falls nodes past (Vacuumed at ∷ more) legal = floor-never_falls nodes past more legal.1
-floor-never_falls nodes past (PartVacuumed at dropped ∷ more) legal = floor-never_falls nodes past more legal.1
-floor-never_falls nodes past (Joined node start ∷ more) legal =
-    let low : floor nodes past ≤ floor nodes (more ++ past) = floor-never_falls nodes past more legal.3 in
-    let up : floor nodes (more ++ past) ≤ floor nodes (Joined node start ∷ (more ++ past)) =
-    floor-joins nodes (more ++ past) node start legal.1 legal.2 in omega arith
+pub floor-never_falls : (past more : List Step) → IsLegal (more ++ past)
+    → floor past ≤ floor (more ++ past)
+floor-never_falls past [] legal = omega arith
+floor-never_falls past (Took item ∷ more) legal =
+    let low : floor past ≤ floor (more ++ past) = floor-never_falls past more legal.1 in
+    let up : floor (more ++ past) ≤ floor (Took item ∷ (more ++ past)) =
+    floor-grows (more ++ past) item legal.0 in omega arith
+floor-never_falls past (Opened stamp ∷ more) legal = floor-never_falls past more legal.1
+floor-never_falls past (Started nodes ∷ more) legal =
+    subst (λ p. floor p ≤ floor (Started nodes ∷ (more ++ past))) (sym (nothing-before more past legal.0)) (omega arith)
+floor-never_falls past (Closed id ∷ more) legal = floor-never_falls past more legal.1
+floor-never_falls past (Vacuumed at ∷ more) legal = floor-never_falls past more legal.1
+floor-never_falls past (PartVacuumed at dropped ∷ more) legal = floor-never_falls past more legal.1
+floor-never_falls past (Joined node start ∷ more) legal =
+    let low : floor past ≤ floor (more ++ past) = floor-never_falls past more legal.3 in
+    let up : floor (more ++ past) ≤ floor (Joined node start ∷ (more ++ past)) =
+    floor-joins (more ++ past) node start legal.1 legal.2 in omega arith
 
 -- rows above a stamp are not among those at or below it
 none-below : (stamp : ℕ) (rows : List Row) → ((row : Row) → Contains rows row → stamp < row.stamp)
@@ -70,23 +78,24 @@ above-misses node at body rows key stamp set' pushed up =
     ∙ ap (λ rs. answer rs key stamp) out ∙ answer-rows_to rows stamp key stamp set' same
 
 -- no answer at or below the floor changes
-pub answers-stay : (nodes : ℕ) (past more : List Step) → IsLegal nodes (more ++ past) → (key : List ℕ) (stamp : ℕ)
-    → stamp ≤ floor nodes past → answer (writes (more ++ past)) key stamp ≡ answer (writes past) key stamp
-answers-stay nodes past [] legal key stamp low = refl
-answers-stay nodes past (Opened at ∷ more) legal key stamp low = answers-stay nodes past more legal.1 key stamp low
-answers-stay nodes past (Closed id ∷ more) legal key stamp low = answers-stay nodes past more legal.1 key stamp low
-answers-stay nodes past (Vacuumed at ∷ more) legal key stamp low = answers-stay nodes past more legal.1 key stamp low
-answers-stay nodes past (PartVacuumed at dropped ∷ more) legal key stamp low =
-    answers-stay nodes past more legal.1 key stamp low
-answers-stay nodes past (Joined node start ∷ more) legal key stamp low =
-    answers-stay nodes past more legal.3 key stamp low
-answers-stay nodes past (Took item ∷ more) legal key stamp low =
-    let up : floor nodes (more ++ past) < item.stamp = above_floor nodes (more ++ past) item legal.0 in
-    let rose : floor nodes past ≤ floor nodes (more ++ past) = floor-never_falls nodes past more legal.1 in
+pub answers-stay : (past more : List Step) → IsLegal (more ++ past) → (key : List ℕ) (stamp : ℕ)
+    → stamp ≤ floor past → answer (writes (more ++ past)) key stamp ≡ answer (writes past) key stamp
+answers-stay past [] legal key stamp low = refl
+answers-stay past (Opened at ∷ more) legal key stamp low = answers-stay past more legal.1 key stamp low
+answers-stay past (Started nodes ∷ more) legal key stamp low = answers-stay past more legal.1 key stamp low
+answers-stay past (Closed id ∷ more) legal key stamp low = answers-stay past more legal.1 key stamp low
+answers-stay past (Vacuumed at ∷ more) legal key stamp low = answers-stay past more legal.1 key stamp low
+answers-stay past (PartVacuumed at dropped ∷ more) legal key stamp low =
+    answers-stay past more legal.1 key stamp low
+answers-stay past (Joined node start ∷ more) legal key stamp low =
+    answers-stay past more legal.3 key stamp low
+answers-stay past (Took item ∷ more) legal key stamp low =
+    let up : floor (more ++ past) < item.stamp = above_floor (more ++ past) item legal.0 in
+    let rose : floor past ≤ floor (more ++ past) = floor-never_falls past more legal.1 in
     above-misses item.node item.stamp item.body (writes (more ++ past)) key stamp
-    (writes-row_set nodes (more ++ past) legal.1) (writes-row_set nodes (Took item ∷ (more ++ past)) legal)
+    (writes-row_set (more ++ past) legal.1) (writes-row_set (Took item ∷ (more ++ past)) legal)
     (omega arith)
-    ∙ answers-stay nodes past more legal.1 key stamp low
+    ∙ answers-stay past more legal.1 key stamp low
 
 -- the register of a past
 abbrev register : List Step → RegistryView
@@ -96,6 +105,7 @@ register past = record { snapshots = open_snapshots past; opened = opened past }
 follows : (past more : List Step) → Follows (register past) (register (more ++ past))
 follows past [] = at_once
 follows past (Opened stamp ∷ more) = opening stamp (follows past more)
+follows past (Started nodes ∷ more) = follows past more
 follows past (Closed id ∷ more) = closing id (follows past more)
 follows past (Took item ∷ more) = follows past more
 follows past (Vacuumed at ∷ more) = follows past more
@@ -110,6 +120,7 @@ id-low (Opened at ∷ past) id stamp is =
       | inl before ↦ (let low = id-low past id stamp before in omega (arith, low))
       | inr last ↦ (let same : opened past + 1 ≡ id = last.0 in omega (arith, same))
     ]
+id-low (Started nodes ∷ past) id stamp is = id-low past id stamp is
 id-low (Closed other ∷ past) id stamp is =
     elim (cases_eq id other) [
       | inl same ↦ absurd (let none : stamp_of id (Closed id ∷ past) ≡ None =
@@ -125,18 +136,18 @@ id-low (PartVacuumed at dropped ∷ past) id stamp is = id-low past id stamp is
 id-low (Joined node start ∷ past) id stamp is = id-low past id stamp is
 
 -- a snapshot that is open later has the stamp and the answers that it had
-pub snapshots-stay : (nodes : ℕ) (past more : List Step) (id stamp again : ℕ) → IsLegal nodes (more ++ past)
+pub snapshots-stay : (past more : List Step) (id stamp again : ℕ) → IsLegal (more ++ past)
     → stamp_of id past ≡ Some stamp → stamp_of id (more ++ past) ≡ Some again
     → (again ≡ stamp)
     × ((key : List ℕ) → answer (writes (more ++ past)) key again ≡ answer (writes past) key stamp)
-snapshots-stay nodes past more id stamp again legal is later =
+snapshots-stay past more id stamp again legal is later =
     let before : stamp_of id past ≡ Some again =
     open_before id again (follows past more) (id-low past id stamp is) later in
     let e : Some again ≡ Some stamp = sym before ∙ is in
     let same : again ≡ stamp = cc in
-    let low : stamp ≤ floor nodes past =
-    stamp_in-all (λ at. at ≤ floor nodes past) id stamp (open_snapshots past)
-    (open-low nodes past (legal-before nodes past more legal)) is in (
+    let low : stamp ≤ floor past =
+    stamp_in-all (λ at. at ≤ floor past) id stamp (open_snapshots past)
+    (open-low past (legal-before past more legal)) is in (
       same,
-      λ key. ap (answer (writes (more ++ past)) key) same ∙ answers-stay nodes past more legal key stamp low,
+      λ key. ap (answer (writes (more ++ past)) key) same ∙ answers-stay past more legal key stamp low,
     )

@@ -22,29 +22,26 @@ use Rattle.hlc_events.specs.declared.event.CoreEvent.TheVariants.{VacuumPart}
 use Rattle.hlc_draft.specs.declared.report.Report.{Report}
 use Rattle.hlc_core.specs.declared.reply.CoreReply.{CoreReply}
 use Rattle.hlc_core.specs.declared.reply.CoreReply.TheVariants.{VacuumedPart}
-use Rattle.hlc_core.specs.StoreView.{StoreView, nodes}
+use Rattle.hlc_core.specs.StoreView.{StoreView}
 use Rattle.hlc_core.specs.Parts.{VacuumsPart}
 use Rattle.hlc_core.specs.Calls.{IsRefusal}
 use Rattle.hlc_core.specs.Past.{Step, of_body, of_room, item_refusal, join_at_refusal, open_refusal}
 use Rattle.hlc_core.specs.History.{RepresentsHistory, IsStep, Steps, IsExpected, IsLegalHistory, MayRunOutOfMemory}
 use Rattle.hlc_core.specs.History.{past_of, expected_refusal}
 
-pub part_is_step : (old new : StoreView) (at : ℕ) (after : List ℕ) (most : ℕ)
+pub part_is_step : (nodes : ℕ) (old new : StoreView) (at : ℕ) (after : List ℕ) (most : ℕ)
     (history : List (CoreEvent × CoreReply)) (report : Report) (end : Option (List ℕ))
-    → nodes new ≡ nodes old → RepresentsHistory old history
-    → VacuumsPart old new at after most (past_of history) (Ok (report, end))
-    → IsStep old new (VacuumPart at after most) history (VacuumedPart report end)
-part_is_step old new at after most history report end same represents made =
-    let expected : IsExpected (nodes old) (past_of history) (VacuumPart at after most) (VacuumedPart report end) = (
+    → RepresentsHistory nodes old history
+    → VacuumsPart old new at after most (past_of nodes history) (Ok (report, end))
+    → IsStep nodes old new (VacuumPart at after most) history (VacuumedPart report end)
+part_is_step nodes old new at after most history report end represents made =
+    let expected : IsExpected (past_of nodes history) (VacuumPart at after most) (VacuumedPart report end) = (
       made.0,
-      record { old = old; new = new; start_is = refl; represents = represents.core; made = made },
+      record { old = old; new = new; represents = represents.core; made = made },
     ) in (
       expected,
       record {
-        legal = subst
-            (λ n. IsExpected n (past_of history) (VacuumPart at after most) (VacuumedPart report end)
-            × IsLegalHistory n history)
-            (sym same) (expected, represents.legal);
+        legal = (expected, represents.legal);
         core = made.2.represents;
         left = made.2.fewest;
       },
@@ -52,53 +49,53 @@ part_is_step old new at after most history report end same represents made =
     )
 
 -- a refusal is no step: the core is as it was
-pub refused_is_step : (old : StoreView) (event : CoreEvent) (history : List (CoreEvent × CoreReply))
-    (fault : CoreFault) → RepresentsHistory old history
-    → expected_refusal (nodes old) (past_of history) event ≡ Some fault
-    → IsStep old old event history (Refused fault)
-refused_is_step old (Accept item) history fault h is =
+pub refused_is_step : (nodes : ℕ) (old : StoreView) (event : CoreEvent) (history : List (CoreEvent × CoreReply))
+    (fault : CoreFault) → RepresentsHistory nodes old history
+    → expected_refusal (past_of nodes history) event ≡ Some fault
+    → IsStep nodes old old event history (Refused fault)
+refused_is_step nodes old (Accept item) history fault h is =
     (is, record { legal = (is, h.legal); core = h.core; left = tt }, tt)
-refused_is_step old Join history fault h is =
+refused_is_step nodes old Join history fault h is =
     (is, record { legal = (is, h.legal); core = h.core; left = tt }, tt)
-refused_is_step old (OpenAt at) history fault h is =
+refused_is_step nodes old (OpenAt at) history fault h is =
     (is, record { legal = (is, h.legal); core = h.core; left = tt }, tt)
-refused_is_step old OpenFloor history fault h is =
+refused_is_step nodes old OpenFloor history fault h is =
     (is, record { legal = (is, h.legal); core = h.core; left = tt }, tt)
-refused_is_step old (Read id key) history fault h is =
+refused_is_step nodes old (Read id key) history fault h is =
     (is, record { legal = (is, h.legal); core = h.core; left = tt }, tt)
-refused_is_step old (ListAll id) history fault h is =
+refused_is_step nodes old (ListAll id) history fault h is =
     (is, record { legal = (is, h.legal); core = h.core; left = tt }, tt)
-refused_is_step old (Close id) history fault h is =
+refused_is_step nodes old (Close id) history fault h is =
     (is, record { legal = (is, h.legal); core = h.core; left = tt }, tt)
-refused_is_step old Vacuum history fault h is =
+refused_is_step nodes old Vacuum history fault h is =
     (is, record { legal = (is, h.legal); core = h.core; left = tt }, tt)
-refused_is_step old (JoinAt at) history fault h is =
+refused_is_step nodes old (JoinAt at) history fault h is =
     (is, record { legal = (is, h.legal); core = h.core; left = tt }, tt)
-refused_is_step old (VacuumTo at) history fault h is =
+refused_is_step nodes old (VacuumTo at) history fault h is =
     (is, record { legal = (is, h.legal); core = h.core; left = tt }, tt)
-refused_is_step old (VacuumPart at after most) history fault h is =
+refused_is_step nodes old (VacuumPart at after most) history fault h is =
     (is, record { legal = (is, h.legal); core = h.core; left = tt }, tt)
 
 -- no call is refused for memory but where memory runs out
-pub refused_steps : (old new : StoreView) (event : CoreEvent) (history : List (CoreEvent × CoreReply))
-    (fault : CoreFault) (result : Result CoreReply AllocError) → new ≡ old → RepresentsHistory old history
-    → expected_refusal (nodes old) (past_of history) event ≢ Some NoMemory
-    → IsRefusal (expected_refusal (nodes old) (past_of history) event) (MayRunOutOfMemory (past_of history) event)
-    fault
+pub refused_steps : (nodes : ℕ) (old new : StoreView) (event : CoreEvent) (history : List (CoreEvent × CoreReply))
+    (fault : CoreFault) (result : Result CoreReply AllocError) → new ≡ old → RepresentsHistory nodes old history
+    → expected_refusal (past_of nodes history) event ≢ Some NoMemory
+    → IsRefusal (expected_refusal (past_of nodes history) event)
+    (MayRunOutOfMemory (past_of nodes history) event) fault
     → IfOk result (λ reply. (reply ≡ Refused fault) × (fault ≢ NoMemory)) → OnErr result (fault ≡ NoMemory)
-    → Steps old new event history result
-refused_steps old new event history fault (Ok reply) same h never (inl expected) ok err =
-    subst (λ kept. IsStep old kept event history reply) (sym same)
-    (subst (λ r. IsStep old old event history r) (sym ok.0)
-    (refused_is_step old event history fault h expected))
-refused_steps old new event history fault (Ok reply) same h never (inr lost) ok err = absurd (ok.1 lost.1)
-refused_steps old new event history fault (Err shortage) same h never (inl expected) ok err =
+    → Steps nodes old new event history result
+refused_steps nodes old new event history fault (Ok reply) same h never (inl expected) ok err =
+    subst (λ kept. IsStep nodes old kept event history reply) (sym same)
+    (subst (λ r. IsStep nodes old old event history r) (sym ok.0)
+    (refused_is_step nodes old event history fault h expected))
+refused_steps nodes old new event history fault (Ok reply) same h never (inr lost) ok err = absurd (ok.1 lost.1)
+refused_steps nodes old new event history fault (Err shortage) same h never (inl expected) ok err =
     absurd (never (expected ∙ ap Some err))
-refused_steps old new event history fault (Err shortage) same h never (inr lost) ok err = (lost.0, lost.2)
+refused_steps nodes old new event history fault (Err shortage) same h never (inr lost) ok err = (lost.0, lost.2)
 
 -- no expected refusal of an item is that memory runs out
-pub item_takes_none : (start : ℕ) (past : List Step) (item : Item) → item_refusal start past item ≢ Some NoMemory
-item_takes_none start past item = first _ _ _ _ _ _ _ (body_refusal item.body)
+pub item_takes_none : (past : List Step) (item : Item) → item_refusal past item ≢ Some NoMemory
+item_takes_none past item = first _ _ _ _ _ _ _ (body_refusal item.body)
   where
     first : (away gone skips spent low : Bool) (next last : ℕ) (body : Option BodyFault)
         → (if away then Some NoNode
@@ -116,8 +113,8 @@ item_takes_none start past item = first _ _ _ _ _ _ _ (body_refusal item.body)
     first false false false false false next last (Some fault) = λ e. absurd (cc)
 
 -- nor of a join at a start
-pub join_takes_none : (start : ℕ) (past : List Step) (at : ℕ) → join_at_refusal start past at ≢ Some NoMemory
-join_takes_none start past at = first _ _ _
+pub join_takes_none : (past : List Step) (at : ℕ) → join_at_refusal past at ≢ Some NoMemory
+join_takes_none past at = first _ _ _
   where
     first : (full low : Bool) (least : ℕ)
         → (if full then Some (joining TooManyNodes) else if low then Some (joining (BelowFloor least)) else None)
@@ -127,8 +124,8 @@ join_takes_none start past at = first _ _ _
     first false false least = λ e. absurd (cc)
 
 -- nor of an opening
-pub open_takes_none : (start : ℕ) (past : List Step) (stamp : ℕ) → open_refusal start past stamp ≢ Some NoMemory
-open_takes_none start past stamp = first _ _ _ _ _ _
+pub open_takes_none : (past : List Step) (stamp : ℕ) → open_refusal past stamp ≢ Some NoMemory
+open_takes_none past stamp = first _ _ _ _ _ _
   where
     first : (high low full spent : Bool) (most least : ℕ)
         → (if high then Some (AboveFloor most)

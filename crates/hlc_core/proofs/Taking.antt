@@ -16,7 +16,7 @@ use Rattle.hlc_intake.specs.IntakeView.{IntakeView}
 use Rattle.hlc_core.specs.Past.{Step, Took, numbered, count, head, retired, horizon, vacuumed, part_dropped}
 use Rattle.hlc_core.specs.Past.{opened, writes, body_rows, open_snapshots, item_refusal}
 use Rattle.hlc_core.specs.Past.{IsLegal}
-use Rattle.hlc_core.specs.StoreView.{StoreView, nodes, Represents}
+use Rattle.hlc_core.specs.StoreView.{StoreView, Represents}
 use Rattle.hlc_vacuum.specs.Representing.{RowsRepresent, count_above}
 use Rattle.hlc_vacuum.proofs.RepresentingLemmas.{writes_keep_representing}
 use Rattle.hlc_snapshot.specs.RegistryView.{stamps}
@@ -81,28 +81,29 @@ count-body stored all bound dropped changes node stamp body is up =
 
 -- an item that is not refused is accepted
 pub took : (kept : StoreView) (past : List Step) (item : Item) → Represents kept past
-    → item_refusal (nodes kept) past item ≡ None → Represents (after_item kept item) (Took item ∷ past)
+    → item_refusal past item ≡ None → Represents (after_item kept item) (Took item ∷ past)
 took kept past item h none =
-    let inside' : item.node < numbered (nodes kept) past = inside (nodes kept) past item none in
+    let inside' : item.node < numbered past = inside past item none in
     let within : item.node < length kept.links = (let m = h.many in omega (arith, m)) in
     let next : item.number ≡ count item.node past =
     (admissible (retired item.node past) (count item.node past) (head item.node past) item
-    (sym (on_link (nodes kept) past item inside') ∙ none)).number in
+    (sym (on_link past item inside') ∙ none)).number in
     let link : IntakeView = a_link (item.number + 1) item.stamp (retires item.body) in
     let same : length (slice_set kept.links item.node link) ≡ length kept.links =
     length-set kept.links item.node link in
-    let legal : IsLegal (nodes kept) (Took item ∷ past) = (none, h.legal) in
-    let up : horizon past < item.stamp = above-horizon (nodes kept) past item h.legal none in
-    let low : vacuumed past ≤ horizon past = vacuumed-low (nodes kept) past h.legal in
+    let legal : IsLegal (Took item ∷ past) = (none, h.legal) in
+    let up : horizon past < item.stamp = above-horizon past item h.legal none in
+    let low : vacuumed past ≤ horizon past = vacuumed-low past h.legal in
     record {
       legal = legal;
+      start = h.start;
       many = same ∙ h.many;
       links = λ n lt. links-took kept.links past item item.number next within h.links n (rw same at lt);
       top = ap (λ t. max t item.stamp) h.top;
       snapshots = h.snapshots;
       opened = h.opened;
       rows = rows-body kept.rows (writes past) (horizon past) (stamps (open_snapshots past)) item.node
-          item.stamp item.body h.rows up (writes-row_set (nodes kept) (Took item ∷ past) legal);
+          item.stamp item.body h.rows up (writes-row_set (Took item ∷ past) legal);
       stored = (
         h.stored.0,
         h.stored.1,

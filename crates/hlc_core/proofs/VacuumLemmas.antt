@@ -22,7 +22,7 @@ use Rattle.hlc_vacuum.proofs.RepresentingLemmas.{rows_above_are_counted}
 use Rattle.hlc_draft.specs.declared.report.Report.{Report}
 use Rattle.hlc_core.specs.Past.{Step, Vacuumed, horizon, vacuumed, part_dropped, open_snapshots, writes, vacuum_refusal}
 use Rattle.hlc_core.specs.Stored.{AreVacuumPoints, IsReport, LeavesFewest}
-use Rattle.hlc_core.specs.StoreView.{StoreView, nodes, with_rows_left, Represents}
+use Rattle.hlc_core.specs.StoreView.{StoreView, with_rows_left, Represents}
 use Rattle.hlc_core.specs.Calls.{Vacuums}
 use Rattle.hlc_core.proofs.PastLemmas.{vacuum-above, vacuumed-low, writes-limits}
 use Rattle.hlc_column.proofs.FlagLemmas.{filter-IsRowSet}
@@ -95,7 +95,7 @@ leaves-fewest kept at past report h expected =
       certified = λ listed moved up. vacuums_are_certified kept.rows (writes past) listed at opened report.points
           report.witnesses after ascend (points-last opened report.points at expected.points)
           (subst (λ f. IsPermutation (rows_to f kept.rows) listed) expected.at_stamp moved) up
-          (writes-limits (nodes kept) past h.legal.1);
+          (writes-limits past h.legal.1);
     }
 
 -- the rows that a vacuum of the stored rows leaves represent the past with it
@@ -110,18 +110,19 @@ represents-vacuumed kept at past rows report h high are made =
     (low-open at (open_snapshots past)) made
 
 pub vacuums : (kept : StoreView) (at : ℕ) (past : List Step) (rows : List Row) (report : Report)
-    → Represents kept past → vacuum_refusal (nodes kept) past at ≡ None → AreVacuumPoints at past report.points
+    → Represents kept past → vacuum_refusal past at ≡ None → AreVacuumPoints at past report.points
     → IsVacuumOf kept.rows report.points report.witnesses rows → report.floor ≡ at
     → report.kept ≡ length report.witnesses → report.dropped + length rows ≡ length kept.rows
     → report.bytes ≡ rows_cost (rows_to report.floor rows)
     → Vacuums kept (with_rows_left kept rows at) at past report
 vacuums kept at past rows report h none are made at_stamp number dropped bytes =
-    let high : horizon past ≤ at = vacuum-above (nodes kept) past at none in
+    let high : horizon past ≤ at = vacuum-above past at none in
     let after : RepresentsAfterVacuum rows (writes past) at (stamps_to at (open_snapshots past)) report.points
     report.witnesses = represents-vacuumed kept at past rows report h high are made in
     let now : length rows ≡ length report.witnesses + count_above at (writes past) = after.stored_count in
     let represents : Represents (with_rows_left kept rows at) (Vacuumed at ∷ past) = record {
       legal = (none, h.legal);
+      start = h.start;
       many = h.many;
       links = h.links;
       top = h.top;
@@ -148,7 +149,7 @@ vacuums kept at past rows report h none are made at_stamp number dropped bytes =
         h.stored.1,
         let was : length kept.rows + part_dropped past ≡ length h.stored.0 + count_above (vacuumed past) (writes past) =
             h.stored.2 in
-            let low : vacuumed past ≤ horizon past = vacuumed-low (nodes kept) past h.legal in
+            let low : vacuumed past ≤ horizon past = vacuumed-low past h.legal in
             let parts : count_above (vacuumed past) (writes past)
             ≡ count_between (vacuumed past) at (writes past) + count_above at (writes past) =
             rows_above_are_counted (vacuumed past) at (writes past) (omega arith) in

@@ -16,14 +16,15 @@ use Rattle.hlc_draft.specs.declared.report.Numbers.{Numbers}
 use Rattle.hlc_draft.specs.declared.report.Report.{Report as AReport}
 use Rattle.hlc_draft.specs.Report.{numbers_of}
 use Rattle.hlc_core.specs.Listing.{IsListing}
-use Rattle.hlc_core.specs.Past.{Step, Took, Opened, Closed, Vacuumed, Joined, numbered, count, floor, opened, stamp_of}
+use Rattle.hlc_core.specs.Past.{Step, Started, Took, Opened, Closed, Vacuumed, Joined, numbered, count, floor, opened}
+use Rattle.hlc_core.specs.Past.{stamp_of}
 use Rattle.hlc_core.specs.Past.{writes, item_refusal, join_refusal, join_at_refusal, room_refusal, open_refusal}
 use Rattle.hlc_core.specs.Past.{vacuum_refusal}
 pub use Rattle.hlc_checkpoint.specs.Sorted.{AreRowsTo}
 pub use Rattle.hlc_columns.specs.Sizes.{AreSizes}
 pub use Rattle.hlc_column.specs.Versions.{AreVersions}
 use Rattle.hlc_core.specs.Stored.{IsReport, LeavesFewest}
-use Rattle.hlc_core.specs.StoreView.{StoreView, nodes, Represents}
+use Rattle.hlc_core.specs.StoreView.{StoreView, Represents}
 
 -- the fault of a refused call: the first expected refusal; or, if none is expected, that memory runs out, if the call
 -- may need memory
@@ -34,9 +35,9 @@ IsRefusal expected MayGrow fault = (expected ≡ Some fault) ⊎ ((expected ≡ 
 abbrev pub new_refusal : ℕ → Option CoreFault
 new_refusal count = if count == 0 || nat_lt MAX_INITIAL_NODES count then Some NoNode else None
 
--- a new core has these nodes and represents the past in which nothing took place
+-- a new core represents the past in which it started with these nodes, and nothing else took place
 abbrev pub Makes : ℕ → Result StoreView CoreFault → Type 0
-Makes count (Ok core) = (new_refusal count ≡ None) × (nodes core ≡ count) × Represents core []
+Makes count (Ok core) = (new_refusal count ≡ None) × Represents core (Started count ∷ [])
 Makes count (Err fault) = IsRefusal (new_refusal count) ⊤ fault
 
 -- a write, a deletion or a batch of them: only these need rows
@@ -47,56 +48,56 @@ IsWrite Report = ⊥
 IsWrite Retire = ⊥
 
 -- the item was accepted, or refused with the first expected refusal
-abbrev pub Accepts : StoreView → StoreView → Item → List Step → Result AcceptedView (CoreFault × Item) → Type 0
-Accepts old new item past (Ok accepted) = (item_refusal (nodes old) past item ≡ None)
+abbrev pub Accepts : StoreView → Item → List Step → Result AcceptedView (CoreFault × Item) → Type 0
+Accepts new item past (Ok accepted) = (item_refusal past item ≡ None)
     × Represents new (Took item ∷ past)
-Accepts old new item past (Err refused) = IsRefusal (item_refusal (nodes old) past item) (IsWrite item.body) refused.0
+Accepts new item past (Err refused) = IsRefusal (item_refusal past item) (IsWrite item.body) refused.0
 
 -- the same for a borrowed item
-abbrev pub AcceptsCopy : StoreView → StoreView → Item → List Step → Result AcceptedView CoreFault → Type 0
-AcceptsCopy old new item past (Ok accepted) =
-    (item_refusal (nodes old) past item ≡ None) × Represents new (Took item ∷ past)
-AcceptsCopy old new item past (Err fault) = IsRefusal (item_refusal (nodes old) past item) (IsWrite item.body) fault
+abbrev pub AcceptsCopy : StoreView → Item → List Step → Result AcceptedView CoreFault → Type 0
+AcceptsCopy new item past (Ok accepted) =
+    (item_refusal past item ≡ None) × Represents new (Took item ∷ past)
+AcceptsCopy new item past (Err fault) = IsRefusal (item_refusal past item) (IsWrite item.body) fault
 
 -- the result of a check of an item is the expected refusal
-abbrev pub Checks : StoreView → Item → List Step → Result Unit CoreFault → Type 0
-Checks kept item past result =
-    MatchResult result (λ _. item_refusal (nodes kept) past item ≡ None)
-    (λ fault. item_refusal (nodes kept) past item ≡ Some fault)
+abbrev pub Checks : Item → List Step → Result Unit CoreFault → Type 0
+Checks item past result =
+    MatchResult result (λ _. item_refusal past item ≡ None)
+    (λ fault. item_refusal past item ≡ Some fault)
 
 -- the number of a node's accepted items, or that there is no such node
-abbrev pub Counts : ℕ → ℕ → List Step → Result ℕ NoSuchNode → Type 0
-Counts nodes node past (Ok number) = (node < numbered nodes past) × (number ≡ count node past)
-Counts nodes node past (Err fault) = numbered nodes past ≤ node
+abbrev pub Counts : ℕ → List Step → Result ℕ NoSuchNode → Type 0
+Counts node past (Ok number) = (node < numbered past) × (number ≡ count node past)
+Counts node past (Err fault) = numbered past ≤ node
 
 -- a node joined: it was assigned the next number, and starts at the floor; or it was refused
-abbrev pub Joins : StoreView → StoreView → List Step → Result (ℕ × ℕ) CoreFault → Type 0
-Joins old new past (Ok made) =
-    (join_refusal (nodes old) past ≡ None)
-    × (made ≡ (numbered (nodes old) past, floor (nodes old) past))
+abbrev pub Joins : StoreView → List Step → Result (ℕ × ℕ) CoreFault → Type 0
+Joins new past (Ok made) =
+    (join_refusal past ≡ None)
+    × (made ≡ (numbered past, floor past))
     × Represents new (Joined made.0 made.1 ∷ past)
-Joins old new past (Err fault) = IsRefusal (join_refusal (nodes old) past) ⊤ fault
+Joins new past (Err fault) = IsRefusal (join_refusal past) ⊤ fault
 
 -- a node joined at this start: it was assigned the next number; or it was refused
-abbrev pub JoinsAt : StoreView → StoreView → ℕ → List Step → Result ℕ CoreFault → Type 0
-JoinsAt old new start past (Ok node) =
-    (join_at_refusal (nodes old) past start ≡ None)
-    × (node ≡ numbered (nodes old) past)
+abbrev pub JoinsAt : StoreView → ℕ → List Step → Result ℕ CoreFault → Type 0
+JoinsAt new start past (Ok node) =
+    (join_at_refusal past start ≡ None)
+    × (node ≡ numbered past)
     × Represents new (Joined node start ∷ past)
-JoinsAt old new start past (Err fault) = IsRefusal (join_at_refusal (nodes old) past start) ⊤ fault
+JoinsAt new start past (Err fault) = IsRefusal (join_at_refusal past start) ⊤ fault
 
 -- a snapshot was opened at the stamp, with an id one above the number of those opened before, or refused
-abbrev pub Opens : StoreView → StoreView → ℕ → List Step → Result ℕ CoreFault → Type 0
-Opens old new stamp past (Ok id) =
-    (open_refusal (nodes old) past stamp ≡ None) × (id ≡ opened past + 1) × Represents new (Opened stamp ∷ past)
-Opens old new stamp past (Err fault) = IsRefusal (open_refusal (nodes old) past stamp) ⊤ fault
+abbrev pub Opens : StoreView → ℕ → List Step → Result ℕ CoreFault → Type 0
+Opens new stamp past (Ok id) =
+    (open_refusal past stamp ≡ None) × (id ≡ opened past + 1) × Represents new (Opened stamp ∷ past)
+Opens new stamp past (Err fault) = IsRefusal (open_refusal past stamp) ⊤ fault
 
 -- a snapshot was opened at the floor, with an id one above the number of those opened before, or refused
-abbrev pub OpensAtFloor : StoreView → StoreView → List Step → Result (ℕ × ℕ) CoreFault → Type 0
-OpensAtFloor old new past (Ok opening) =
-    (room_refusal past ≡ None) × (opening ≡ (opened past + 1, floor (nodes old) past))
-    × Represents new (Opened (floor (nodes old) past) ∷ past)
-OpensAtFloor old new past (Err fault) = IsRefusal (room_refusal past) ⊤ fault
+abbrev pub OpensAtFloor : StoreView → List Step → Result (ℕ × ℕ) CoreFault → Type 0
+OpensAtFloor new past (Ok opening) =
+    (room_refusal past ≡ None) × (opening ≡ (opened past + 1, floor past))
+    × Represents new (Opened (floor past) ∷ past)
+OpensAtFloor new past (Err fault) = IsRefusal (room_refusal past) ⊤ fault
 
 -- the snapshot was closed, and this was its stamp; or there was none with this id
 abbrev pub Closes : StoreView → ℕ → List Step → Result ℕ NoSuchSnapshot → Type 0
@@ -126,16 +127,16 @@ pub record Vacuums (old new : StoreView) (at : ℕ) (past : List Step) (report :
   pub fewest : LeavesFewest new.rows (writes past) report
 
 -- the result of a check of a stamp is the first reason to refuse a vacuum up to it, if there is one
-abbrev pub ChecksVacuum : StoreView → ℕ → List Step → Result Unit CoreFault → Type 0
-ChecksVacuum kept at past result =
-    MatchResult result (λ _. vacuum_refusal (nodes kept) past at ≡ None)
-    (λ fault. vacuum_refusal (nodes kept) past at ≡ Some fault)
+abbrev pub ChecksVacuum : ℕ → List Step → Result Unit CoreFault → Type 0
+ChecksVacuum at past result =
+    MatchResult result (λ _. vacuum_refusal past at ≡ None)
+    (λ fault. vacuum_refusal past at ≡ Some fault)
 
 -- a vacuum to the stamp took place, or was refused
 abbrev pub VacuumsTo : StoreView → StoreView → ℕ → List Step → Result AReport CoreFault → Type 0
 VacuumsTo old new at past (Ok report) =
-    (vacuum_refusal (nodes old) past at ≡ None) × Vacuums old new at past report
-VacuumsTo old new at past (Err fault) = IsRefusal (vacuum_refusal (nodes old) past at) ⊤ fault
+    (vacuum_refusal past at ≡ None) × Vacuums old new at past report
+VacuumsTo old new at past (Err fault) = IsRefusal (vacuum_refusal past at) ⊤ fault
 
 -- a vacuum to a stamp took place, and these are the numbers of its report
 pub record VacuumsCounted (old new : StoreView) (at : ℕ) (past : List Step) (numbers : Numbers) : Type 0 where
@@ -146,5 +147,5 @@ pub record VacuumsCounted (old new : StoreView) (at : ℕ) (past : List Step) (n
 -- the same, or it was refused
 abbrev pub VacuumsToCounted : StoreView → StoreView → ℕ → List Step → Result Numbers CoreFault → Type 0
 VacuumsToCounted old new at past (Ok numbers) =
-    (vacuum_refusal (nodes old) past at ≡ None) × VacuumsCounted old new at past numbers
-VacuumsToCounted old new at past (Err fault) = IsRefusal (vacuum_refusal (nodes old) past at) ⊤ fault
+    (vacuum_refusal past at ≡ None) × VacuumsCounted old new at past numbers
+VacuumsToCounted old new at past (Err fault) = IsRefusal (vacuum_refusal past at) ⊤ fault

@@ -9,7 +9,7 @@ use Rattle.hlc_events.specs.declared.certificate_fault.CertificateFault.{Certifi
 use Rattle.hlc_events.specs.declared.certificate_fault.CertificateFault.TheVariants.{Vacuum, NotFewest}
 use Rattle.hlc_core.specs.Past.{Step, writes, vacuum_refusal}
 use Rattle.hlc_core.specs.Stored.{AreVacuumPoints}
-use Rattle.hlc_core.specs.StoreView.{StoreView, nodes, with_rows_left}
+use Rattle.hlc_core.specs.StoreView.{StoreView, with_rows_left}
 use Rattle.hlc_core.specs.Calls.{IsRefusal, Vacuums}
 
 -- This is the report of a vacuum to the stamp that leaves all of these stored rows and moves only the horizon. So the
@@ -32,7 +32,7 @@ pub record AreNotFewest (kept : StoreView) (at : ℕ) (past : List Step) : Type 
 -- The rows at or below the stamp are certified, and this is the report; or a vacuum to the stamp is refused; or the
 -- rows are not the fewest; or memory ran out.
 abbrev pub Certifies : StoreView → ℕ → List Step → Result Report CertificateFault → Type 0
-Certifies kept at past (Ok report) = (vacuum_refusal (nodes kept) past at ≡ None) × IsCertified kept at past report
-Certifies kept at past (Err (Vacuum fault)) = IsRefusal (vacuum_refusal (nodes kept) past at) ⊤ fault
+Certifies kept at past (Ok report) = (vacuum_refusal past at ≡ None) × IsCertified kept at past report
+Certifies kept at past (Err (Vacuum fault)) = IsRefusal (vacuum_refusal past at) ⊤ fault
 Certifies kept at past (Err NotFewest) =
-    (vacuum_refusal (nodes kept) past at ≡ None) × AreNotFewest kept at past
+    (vacuum_refusal past at ≡ None) × AreNotFewest kept at past

@@ -26,11 +26,12 @@ pub record IsMoment (history before : List (CoreEvent × CoreReply)) : Type 0 wh
 
 -- each read at an open snapshot returned the value of the newest accepted write, by stamp and node, at or below the
 -- snapshot's stamp
-abbrev pub ReadsAreNewest : List (CoreEvent × CoreReply) → Type 0
-ReadsAreNewest history =
+abbrev pub ReadsAreNewest : ℕ → List (CoreEvent × CoreReply) → Type 0
+ReadsAreNewest nodes history =
     (before : List (CoreEvent × CoreReply)) (id : ℕ) (key : List ℕ) (value : Option (List ℕ))
     → IsMoment history ((Read id key, Answer value) ∷ before)
-    → (stamp : ℕ) × (stamp_of id (past_of before) ≡ Some stamp) × (value ≡ answer (writes (past_of before)) key stamp)
+    → (stamp : ℕ) × (stamp_of id (past_of nodes before) ≡ Some stamp)
+    × (value ≡ answer (writes (past_of nodes before)) key stamp)
 
 -- The answers of a snapshot never change: whatever came between, two reads of one key in it returned the same, and so
 -- did two listings. No id is used again, so one id is one snapshot.
@@ -51,19 +52,19 @@ pub record IsSeenWhole (all : List Row) (stamp : ℕ) (item : Item) : Type 0 whe
       → newest all row.key stamp ≡ Some seen → seen.stamp < item.stamp
 
 -- each snapshot shows, of each item accepted so far, all its writes or later ones of their keys, or none of them
-abbrev pub SnapshotsShowWhole : List (CoreEvent × CoreReply) → Type 0
-SnapshotsShowWhole history =
+abbrev pub SnapshotsShowWhole : ℕ → List (CoreEvent × CoreReply) → Type 0
+SnapshotsShowWhole nodes history =
     (before : List (CoreEvent × CoreReply)) (id stamp : ℕ) (item : Item)
     → IsMoment history before
-    → stamp_of id (past_of before) ≡ Some stamp
-    → Contains (past_of before) (Took item)
-    → IsSeenWhole (writes (past_of before)) stamp item
+    → stamp_of id (past_of nodes before) ≡ Some stamp
+    → Contains (past_of nodes before) (Took item)
+    → IsSeenWhole (writes (past_of nodes before)) stamp item
 
 -- the stamp up to which an event asks to vacuum, if it does
-abbrev pub vacuum_stamp : ℕ → List Step → CoreEvent → Option ℕ
-vacuum_stamp nodes past Vacuum = Some (floor nodes past)
-vacuum_stamp nodes past (VacuumTo at) = Some at
-vacuum_stamp nodes past _ = None
+abbrev pub vacuum_stamp : List Step → CoreEvent → Option ℕ
+vacuum_stamp past Vacuum = Some (floor past)
+vacuum_stamp past (VacuumTo at) = Some at
+vacuum_stamp past _ = None
 
 -- each vacuum reported its points up to the requested stamp, the changes of all accepted writes there and their number,
 -- and no row set that answers alike at the points is smaller than the number of rows that it kept
@@ -71,56 +72,56 @@ abbrev pub VacuumsAreFewest : ℕ → List (CoreEvent × CoreReply) → Type 0
 VacuumsAreFewest nodes history =
     (before : List (CoreEvent × CoreReply)) (event : CoreEvent) (report : Report)
     → IsMoment history ((event, Vacuumed report) ∷ before)
-    → (at : ℕ) × (vacuum_stamp nodes (past_of before) event ≡ Some at) × IsReport at (past_of before) report
-    × ((others : List Row) → IsRowSet others → Alike others (writes (past_of before)) report.points
+    → (at : ℕ) × (vacuum_stamp (past_of nodes before) event ≡ Some at) × IsReport at (past_of nodes before) report
+    × ((others : List Row) → IsRowSet others → Alike others (writes (past_of nodes before)) report.points
     → report.kept ≤ length others)
 
 -- and no row set that answers alike at the points costs less than the rows that it kept
-abbrev pub VacuumsAreCheapest : List (CoreEvent × CoreReply) → Type 0
-VacuumsAreCheapest history =
+abbrev pub VacuumsAreCheapest : ℕ → List (CoreEvent × CoreReply) → Type 0
+VacuumsAreCheapest nodes history =
     (before : List (CoreEvent × CoreReply)) (event : CoreEvent) (report : Report)
     → IsMoment history ((event, Vacuumed report) ∷ before)
-    → (others : List Row) → IsRowSet others → Alike others (writes (past_of before)) report.points
+    → (others : List Row) → IsRowSet others → Alike others (writes (past_of nodes before)) report.points
     → report.bytes ≤ rows_cost others
 
 -- just after a vacuum the stored rows at or below its stamp answer alike at its points, are as many as it kept and cost
 -- what it reported, and are the fewest and the cheapest
-abbrev pub FewestAreLeft : List (CoreEvent × CoreReply) → List Row → Type 0
-FewestAreLeft history rows =
+abbrev pub FewestAreLeft : ℕ → List (CoreEvent × CoreReply) → List Row → Type 0
+FewestAreLeft nodes history rows =
     (before : List (CoreEvent × CoreReply)) (event : CoreEvent) (report : Report)
     → history ≡ (event, Vacuumed report) ∷ before
-    → LeavesFewest rows (writes (past_of before)) report
+    → LeavesFewest rows (writes (past_of nodes before)) report
 
 -- each part of a vacuum reported its points up to the requested stamp, the changes there of all accepted writes of its
 -- keys and their number; and no row set that answers alike for these keys at the points is smaller than the number of
 -- rows that it kept of them, or costs less
-abbrev pub PartsAreFewest : List (CoreEvent × CoreReply) → Type 0
-PartsAreFewest history =
+abbrev pub PartsAreFewest : ℕ → List (CoreEvent × CoreReply) → Type 0
+PartsAreFewest nodes history =
     (before : List (CoreEvent × CoreReply)) (at : ℕ) (after : List ℕ) (most : ℕ) (report : Report)
     (end : Option (List ℕ))
     → IsMoment history ((VacuumPart at after most, VacuumedPart report end) ∷ before)
-    → IsPartReport at (past_of before) (in_part after end) report
+    → IsPartReport at (past_of nodes before) (in_part after end) report
     × ((others : List Row) → IsRowSet others
-    → Alike others (rows_of_keys (in_part after end) (writes (past_of before))) report.points
+    → Alike others (rows_of_keys (in_part after end) (writes (past_of nodes before))) report.points
     → (report.kept ≤ length others) × (report.bytes ≤ rows_cost others))
 
 -- just after part of a vacuum the stored rows of its keys at or below its stamp answer alike at its points, are as many
 -- as it kept and cost what it reported, and are the fewest and the cheapest
-abbrev pub FewestAreLeftByParts : List (CoreEvent × CoreReply) → List Row → Type 0
-FewestAreLeftByParts history rows =
+abbrev pub FewestAreLeftByParts : ℕ → List (CoreEvent × CoreReply) → List Row → Type 0
+FewestAreLeftByParts nodes history rows =
     (before : List (CoreEvent × CoreReply)) (at : ℕ) (after : List ℕ) (most : ℕ) (report : Report)
     (end : Option (List ℕ))
     → history ≡ (VacuumPart at after most, VacuumedPart report end) ∷ before
     → LeavesFewest (rows_of_keys (in_part after end) rows)
-    (rows_of_keys (in_part after end) (writes (past_of before))) report
+    (rows_of_keys (in_part after end) (writes (past_of nodes before))) report
 
 -- all of this is true of a history with this many nodes at the start, after which these rows are stored
 pub record IsFaithful (nodes : ℕ) (history : List (CoreEvent × CoreReply)) (rows : List Row) : Type 0 where
-  pub reads : ReadsAreNewest history
+  pub reads : ReadsAreNewest nodes history
   pub stays : SnapshotsStay history
-  pub whole : SnapshotsShowWhole history
+  pub whole : SnapshotsShowWhole nodes history
   pub vacuums : VacuumsAreFewest nodes history
-  pub bytes : VacuumsAreCheapest history
-  pub fewest : FewestAreLeft history rows
-  pub parts : PartsAreFewest history
-  pub left_by_parts : FewestAreLeftByParts history rows
+  pub bytes : VacuumsAreCheapest nodes history
+  pub fewest : FewestAreLeft nodes history rows
+  pub parts : PartsAreFewest nodes history
+  pub left_by_parts : FewestAreLeftByParts nodes history rows

@@ -13,11 +13,11 @@ use Rattle.hlc_events.specs.declared.event.CoreEvent.TheVariants.{Close, Vacuum,
 use Rattle.hlc_core.specs.declared.reply.CoreReply.{CoreReply}
 use Rattle.hlc_core.specs.declared.reply.CoreReply.TheVariants.{Accepted, Joined, Opened, Answer, Listing, Closed}
 use Rattle.hlc_core.specs.declared.reply.CoreReply.TheVariants.{Vacuumed, VacuumedPart, Refused}
-use Rattle.hlc_core.specs.Past.{Step, Took, Joined as JoinedAt, Opened as OpenedAt, Closed as ClosedOf}
+use Rattle.hlc_core.specs.Past.{Step, Started, Took, Joined as JoinedAt, Opened as OpenedAt, Closed as ClosedOf}
 use Rattle.hlc_core.specs.Past.{Vacuumed as VacuumedTo, PartVacuumed, numbered, floor, opened, stamp_of, writes}
 use Rattle.hlc_core.specs.Past.{item_refusal, join_refusal, join_at_refusal, room_refusal, open_refusal, vacuum_refusal}
 use Rattle.hlc_core.specs.Stored.{IsReport, LeavesFewest}
-use Rattle.hlc_core.specs.StoreView.{StoreView, nodes, Represents}
+use Rattle.hlc_core.specs.StoreView.{StoreView, Represents}
 use Rattle.hlc_core.specs.Calls.{IsWrite, IsListed, list_refusal}
 use Rattle.hlc_core.specs.Parts.{MayVacuumPart, VacuumsPart, rows_of_keys}
 
@@ -42,24 +42,24 @@ abbrev pub with_step : Option Step → List Step → List Step
 with_step None past = past
 with_step (Some step) past = step ∷ past
 
--- what took place, the last step first
-abbrev pub past_of : List (CoreEvent × CoreReply) → List Step
-past_of [] = []
-past_of (entry ∷ history) = with_step (step_of entry.0 entry.1) (past_of history)
+-- what took place in a store with this many nodes at the start, the last step first
+abbrev pub past_of : ℕ → List (CoreEvent × CoreReply) → List Step
+past_of nodes [] = Started nodes ∷ []
+past_of nodes (entry ∷ history) = with_step (step_of entry.0 entry.1) (past_of nodes history)
 
 -- the first expected refusal, apart from memory
-abbrev pub expected_refusal : ℕ → List Step → CoreEvent → Option CoreFault
-expected_refusal nodes past (Accept item) = item_refusal nodes past item
-expected_refusal nodes past Join = join_refusal nodes past
-expected_refusal nodes past (OpenAt stamp) = open_refusal nodes past stamp
-expected_refusal nodes past OpenFloor = room_refusal past
-expected_refusal nodes past (Read id key) = list_refusal (stamp_of id past)
-expected_refusal nodes past (ListAll id) = list_refusal (stamp_of id past)
-expected_refusal nodes past (Close id) = list_refusal (stamp_of id past)
-expected_refusal nodes past Vacuum = None
-expected_refusal nodes past (JoinAt start) = join_at_refusal nodes past start
-expected_refusal nodes past (VacuumTo at) = vacuum_refusal nodes past at
-expected_refusal nodes past (VacuumPart at after most) = vacuum_refusal nodes past at
+abbrev pub expected_refusal : List Step → CoreEvent → Option CoreFault
+expected_refusal past (Accept item) = item_refusal past item
+expected_refusal past Join = join_refusal past
+expected_refusal past (OpenAt stamp) = open_refusal past stamp
+expected_refusal past OpenFloor = room_refusal past
+expected_refusal past (Read id key) = list_refusal (stamp_of id past)
+expected_refusal past (ListAll id) = list_refusal (stamp_of id past)
+expected_refusal past (Close id) = list_refusal (stamp_of id past)
+expected_refusal past Vacuum = None
+expected_refusal past (JoinAt start) = join_at_refusal past start
+expected_refusal past (VacuumTo at) = vacuum_refusal past at
+expected_refusal past (VacuumPart at after most) = vacuum_refusal past at
 
 -- the value is that of these answers at the snapshot's stamp
 abbrev pub IsAnswer : Option ℕ → (ℕ → Option (List ℕ)) → Option (List ℕ) → Type 0
@@ -67,31 +67,31 @@ IsAnswer None answers value = ⊥
 IsAnswer (Some stamp) answers value = value ≡ answers stamp
 
 -- the expected reply if no refusal is expected
-abbrev pub IsExpectedReply : ℕ → List Step → CoreEvent → CoreReply → Type 0
-IsExpectedReply nodes past (Accept item) (Accepted accepted) =
+abbrev pub IsExpectedReply : List Step → CoreEvent → CoreReply → Type 0
+IsExpectedReply past (Accept item) (Accepted accepted) =
     accepted ≡ record { node = item.node; stamp = item.stamp; retires = retires item.body }
-IsExpectedReply nodes past Join (Joined node start) = (node ≡ numbered nodes past) × (start ≡ floor nodes past)
-IsExpectedReply nodes past (OpenAt at) (Opened id stamp) = (id ≡ opened past + 1) × (stamp ≡ at)
-IsExpectedReply nodes past OpenFloor (Opened id stamp) = (id ≡ opened past + 1) × (stamp ≡ floor nodes past)
-IsExpectedReply nodes past (Read id key) (Answer value) = IsAnswer (stamp_of id past) (answer (writes past) key) value
-IsExpectedReply nodes past (ListAll id) (Listing pairs) = IsListed (stamp_of id past) (writes past) pairs
-IsExpectedReply nodes past (Close id) (Closed stamp) = stamp_of id past ≡ Some stamp
-IsExpectedReply nodes past Vacuum (Vacuumed report) = IsReport (floor nodes past) past report
-IsExpectedReply nodes past (JoinAt at) (Joined node start) = (node ≡ numbered nodes past) × (start ≡ at)
-IsExpectedReply nodes past (VacuumTo at) (Vacuumed report) = IsReport at past report
-IsExpectedReply nodes past (VacuumPart at after most) (VacuumedPart report end) =
-    MayVacuumPart nodes at after most past report end
-IsExpectedReply nodes past _ _ = ⊥
+IsExpectedReply past Join (Joined node start) = (node ≡ numbered past) × (start ≡ floor past)
+IsExpectedReply past (OpenAt at) (Opened id stamp) = (id ≡ opened past + 1) × (stamp ≡ at)
+IsExpectedReply past OpenFloor (Opened id stamp) = (id ≡ opened past + 1) × (stamp ≡ floor past)
+IsExpectedReply past (Read id key) (Answer value) = IsAnswer (stamp_of id past) (answer (writes past) key) value
+IsExpectedReply past (ListAll id) (Listing pairs) = IsListed (stamp_of id past) (writes past) pairs
+IsExpectedReply past (Close id) (Closed stamp) = stamp_of id past ≡ Some stamp
+IsExpectedReply past Vacuum (Vacuumed report) = IsReport (floor past) past report
+IsExpectedReply past (JoinAt at) (Joined node start) = (node ≡ numbered past) × (start ≡ at)
+IsExpectedReply past (VacuumTo at) (Vacuumed report) = IsReport at past report
+IsExpectedReply past (VacuumPart at after most) (VacuumedPart report end) =
+    MayVacuumPart at after most past report end
+IsExpectedReply past _ _ = ⊥
 
 -- the reply is the expected refusal; or, if none is expected, an expected reply
-abbrev pub IsExpected : ℕ → List Step → CoreEvent → CoreReply → Type 0
-IsExpected nodes past event (Refused fault) = expected_refusal nodes past event ≡ Some fault
-IsExpected nodes past event reply = (expected_refusal nodes past event ≡ None) × IsExpectedReply nodes past event reply
+abbrev pub IsExpected : List Step → CoreEvent → CoreReply → Type 0
+IsExpected past event (Refused fault) = expected_refusal past event ≡ Some fault
+IsExpected past event reply = (expected_refusal past event ≡ None) × IsExpectedReply past event reply
 
--- each reply was expected
+-- each reply was expected, in a store with this many nodes at the start
 abbrev pub IsLegalHistory : ℕ → List (CoreEvent × CoreReply) → Type 0
 IsLegalHistory nodes [] = ⊤
-IsLegalHistory nodes (entry ∷ history) = IsExpected nodes (past_of history) entry.0 entry.1
+IsLegalHistory nodes (entry ∷ history) = IsExpected (past_of nodes history) entry.0 entry.1
     × IsLegalHistory nodes history
 
 -- where part of a vacuum took place after this past, the fewest and cheapest rows of its keys are among these rows
@@ -101,16 +101,16 @@ LeavesPart past (VacuumPart at after most) (VacuumedPart report end) rows =
 LeavesPart past _ _ rows = ⊤
 
 -- if the last event was part of a vacuum, these are the rows just after it
-abbrev pub IsLeft : List (CoreEvent × CoreReply) → List Row → Type 0
-IsLeft [] rows = ⊤
-IsLeft (entry ∷ history) rows = LeavesPart (past_of history) entry.0 entry.1 rows
+abbrev pub IsLeft : ℕ → List (CoreEvent × CoreReply) → List Row → Type 0
+IsLeft nodes [] rows = ⊤
+IsLeft nodes (entry ∷ history) rows = LeavesPart (past_of nodes history) entry.0 entry.1 rows
 
--- the core represents the history: each reply was expected, the core represents what took place, and just after part of
--- a vacuum it has the rows that this leaves
-pub record RepresentsHistory (kept : StoreView) (history : List (CoreEvent × CoreReply)) : Type 0 where
-  pub legal : IsLegalHistory (nodes kept) history
-  pub core : Represents kept (past_of history)
-  pub left : IsLeft history kept.rows
+-- the core had this many nodes at the start and represents the history: each reply was expected, the core represents
+-- what took place, and just after part of a vacuum it has the rows that this leaves
+pub record RepresentsHistory (nodes : ℕ) (kept : StoreView) (history : List (CoreEvent × CoreReply)) : Type 0 where
+  pub legal : IsLegalHistory nodes history
+  pub core : Represents kept (past_of nodes history)
+  pub left : IsLeft nodes history kept.rows
 
 -- the answer is a value, which is copied out of the store
 abbrev pub TakesValue : Option ℕ → (ℕ → Option (List ℕ)) → Type 0
@@ -132,18 +132,18 @@ IsPartMade old new past (VacuumPart at after most) (VacuumedPart report end) =
 IsPartMade old new past _ _ = ⊤
 
 -- after a history that the core represented, the reply is expected, and the core represents the history with it
-abbrev pub IsStep : StoreView → StoreView → CoreEvent → List (CoreEvent × CoreReply) → CoreReply → Type 0
-IsStep old new event history reply =
-    IsExpected (nodes old) (past_of history) event reply
-    × RepresentsHistory new ((event, reply) ∷ history)
-    × IsPartMade old new (past_of history) event reply
+abbrev pub IsStep : ℕ → StoreView → StoreView → CoreEvent → List (CoreEvent × CoreReply) → CoreReply → Type 0
+IsStep nodes old new event history reply =
+    IsExpected (past_of nodes history) event reply
+    × RepresentsHistory nodes new ((event, reply) ∷ history)
+    × IsPartMade old new (past_of nodes history) event reply
 
 -- the event had its step; or no refusal is expected, and it ran out of memory, which it may
-abbrev pub Steps : {E : Type 0} → StoreView → StoreView → CoreEvent → List (CoreEvent × CoreReply)
+abbrev pub Steps : {E : Type 0} → ℕ → StoreView → StoreView → CoreEvent → List (CoreEvent × CoreReply)
     → Result CoreReply E → Type 0
-Steps old new event history (Ok reply) = IsStep old new event history reply
-Steps old new event history (Err shortage) =
-    (expected_refusal (nodes old) (past_of history) event ≡ None) × MayRunOutOfMemory (past_of history) event
+Steps nodes old new event history (Ok reply) = IsStep nodes old new event history reply
+Steps nodes old new event history (Err shortage) =
+    (expected_refusal (past_of nodes history) event ≡ None) × MayRunOutOfMemory (past_of nodes history) event
 
 -- the event only reads
 abbrev pub IsQuestion : CoreEvent → Type 0

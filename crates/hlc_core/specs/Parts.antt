@@ -13,7 +13,7 @@ use Rattle.hlc_events.specs.declared.fault.CoreFault.{CoreFault}
 use Rattle.hlc_core.specs.Calls.{IsRefusal}
 use Rattle.hlc_core.specs.Past.{Step, PartVacuumed, writes, vacuum_refusal}
 use Rattle.hlc_core.specs.Stored.{AreVacuumPoints, LeavesFewest}
-use Rattle.hlc_core.specs.StoreView.{StoreView, nodes, Represents}
+use Rattle.hlc_core.specs.StoreView.{StoreView, Represents}
 
 -- among some rows, those of the keys of a kind
 abbrev pub rows_of_keys : (List ℕ → Bool) → List Row → List Row
@@ -52,9 +52,9 @@ abbrev pub VacuumsPart
     : StoreView → StoreView → ℕ → List ℕ → ℕ → List Step
     → Result (Report × Option (List ℕ)) CoreFault → Type 0
 VacuumsPart old new at after most past (Ok made) =
-    (vacuum_refusal (nodes old) past at ≡ None) × EndsAt old after most made.1
+    (vacuum_refusal past at ≡ None) × EndsAt old after most made.1
     × VacuumsKeys old new at past (in_part after made.1) made.0
-VacuumsPart old new at after most past (Err fault) = IsRefusal (vacuum_refusal (nodes old) past at) ⊤ fault
+VacuumsPart old new at after most past (Err fault) = IsRefusal (vacuum_refusal past at) ⊤ fault
 
 -- part of a vacuum to the stamp took place, and these are the numbers of its report
 pub record VacuumsKeysCounted (old new : StoreView) (at : ℕ) (past : List Step) (is_of : List ℕ → Bool)
@@ -68,17 +68,15 @@ abbrev pub VacuumsPartCounted
     : StoreView → StoreView → ℕ → List ℕ → ℕ → List Step
     → Result (Numbers × Option (List ℕ)) CoreFault → Type 0
 VacuumsPartCounted old new at after most past (Ok made) =
-    (vacuum_refusal (nodes old) past at ≡ None) × EndsAt old after most made.1
+    (vacuum_refusal past at ≡ None) × EndsAt old after most made.1
     × VacuumsKeysCounted old new at past (in_part after made.1) made.0
-VacuumsPartCounted old new at after most past (Err fault) = IsRefusal (vacuum_refusal (nodes old) past at) ⊤ fault
+VacuumsPartCounted old new at after most past (Err fault) = IsRefusal (vacuum_refusal past at) ⊤ fault
 
--- After this past, with this many nodes at the start, part of a vacuum may have this report and end there: in some
--- store that represents the past it does. Which keys have stored rows also depends on the keys of the parts before it,
--- which a past does not have.
-pub record MayVacuumPart (start at : ℕ) (after : List ℕ) (most : ℕ) (past : List Step) (report : Report)
+-- After this past part of a vacuum may have this report and end there: in some store that represents the past it does.
+-- Which keys have stored rows also depends on the keys of the parts before it, which a past does not have.
+pub record MayVacuumPart (at : ℕ) (after : List ℕ) (most : ℕ) (past : List Step) (report : Report)
     (end : Option (List ℕ)) : Type 0 where
   pub old : StoreView
   pub new : StoreView
-  pub start_is : nodes old ≡ start
   pub represents : Represents old past
   pub made : VacuumsPart old new at after most past (Ok (report, end))

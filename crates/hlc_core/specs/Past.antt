@@ -21,10 +21,12 @@ use Rattle.hlc_snapshot.specs.RegistryView.{stamp_in, without, room_refusal as r
 use Rattle.hlc_events.specs.declared.fault.CoreFault.TheVariants.{NoNode, Link, Body as bad_body, Join, AboveFloor}
 use Rattle.hlc_events.specs.declared.fault.CoreFault.TheVariants.{BelowHorizon}
 
--- an event that took place: an item was accepted; a snapshot was opened at a stamp; the snapshot with an id was closed;
--- rows were vacuumed up to this stamp; a node with this number joined, and starts at this stamp; the horizon was moved
--- to this stamp, and this many rows that no reader needs were dropped: part of a vacuum
+-- an event that took place: a store was made with this many nodes; an item was accepted; a snapshot was opened at a
+-- stamp; the snapshot with an id was closed; rows were vacuumed up to this stamp; a node with this number joined, and
+-- starts at this stamp; the horizon was moved to this stamp, and this many rows that no reader needs were dropped: part
+-- of a vacuum
 pub data Step : Type 0 where
+  Started : ℕ → Step
   Took : Item → Step
   Opened : ℕ → Step
   Closed : ℕ → Step
@@ -32,14 +34,21 @@ pub data Step : Type 0 where
   Joined : ℕ → ℕ → Step
   PartVacuumed : ℕ → ℕ → Step
 
--- Below, a past is the list of the steps that took place, the last one first. Refused calls and reads are no steps.
--- `nodes` is the number of nodes at the start, which are numbered from 0; those that join have the numbers after them.
+-- Below, a past is the list of the steps that took place, the last one first. The first of all is the start, with the
+-- nodes that are numbered from 0; those that join have the numbers after them. Refused calls and reads are no steps.
 
--- the number of assigned node numbers: those of the nodes at the start, and those of the nodes that joined
-abbrev pub numbered : ℕ → List Step → ℕ
-numbered nodes [] = nodes
-numbered nodes (Joined node start ∷ past) = numbered nodes past + 1
-numbered nodes (_ ∷ past) = numbered nodes past
+-- the number of nodes at the start
+abbrev pub initial_nodes : List Step → ℕ
+initial_nodes [] = 0
+initial_nodes (Started nodes ∷ past) = nodes
+initial_nodes (_ ∷ past) = initial_nodes past
+
+-- the number of assigned node numbers: the start assigns one to each of its nodes, and a join the next one
+abbrev pub numbered : List Step → ℕ
+numbered [] = 0
+numbered (Started nodes ∷ past) = numbered past + nodes
+numbered (Joined node start ∷ past) = numbered past + 1
+numbered (_ ∷ past) = numbered past
 
 -- the number of accepted items of a node
 abbrev pub count : ℕ → List Step → ℕ
@@ -75,8 +84,8 @@ top (_ ∷ past) = top past
 
 -- The least head of the nodes that have not retired; if all have, the greatest head. Each of them retired by an item
 -- above its start, so that is the greatest stamp of an accepted item.
-abbrev pub floor : ℕ → List Step → ℕ
-floor nodes past = low (λ n. head n past) (λ n. retired n past) (numbered nodes past) (top past)
+abbrev pub floor : List Step → ℕ
+floor past = low (λ n. head n past) (λ n. retired n past) (numbered past) (top past)
 
 -- the stamp of the last vacuum or part of one, 0 before the first
 abbrev pub horizon : List Step → ℕ
@@ -153,20 +162,20 @@ link_refusal has_retired next last item =
     else of_body (body_refusal item.body)
 
 -- the first reason to refuse an item, apart from memory
-abbrev pub item_refusal : ℕ → List Step → Item → Option CoreFault
-item_refusal nodes past item =
-    if nat_le (numbered nodes past) item.node then Some NoNode
+abbrev pub item_refusal : List Step → Item → Option CoreFault
+item_refusal past item =
+    if nat_le (numbered past) item.node then Some NoNode
     else link_refusal (retired item.node past) (count item.node past) (head item.node past) item
 
 -- why no node joins, apart from memory: all numbers are assigned
-abbrev pub join_refusal : ℕ → List Step → Option CoreFault
-join_refusal nodes past = if nat_le MAX_NODES (numbered nodes past) then Some (Join TooManyNodes) else None
+abbrev pub join_refusal : List Step → Option CoreFault
+join_refusal past = if nat_le MAX_NODES (numbered past) then Some (Join TooManyNodes) else None
 
 -- the first reason that no node joins at a start, apart from memory
-abbrev pub join_at_refusal : ℕ → List Step → ℕ → Option CoreFault
-join_at_refusal nodes past start =
-    if nat_le MAX_NODES (numbered nodes past) then Some (Join TooManyNodes)
-    else if nat_lt start (floor nodes past) then Some (Join (BelowFloor (floor nodes past)))
+abbrev pub join_at_refusal : List Step → ℕ → Option CoreFault
+join_at_refusal past start =
+    if nat_le MAX_NODES (numbered past) then Some (Join TooManyNodes)
+    else if nat_lt start (floor past) then Some (Join (BelowFloor (floor past)))
     else None
 
 -- a registry's refusal, if there is one, as a refusal of the core
@@ -186,20 +195,21 @@ open_after top bottom room stamp =
     else room
 
 -- the first reason to open no snapshot at a stamp, apart from memory
-abbrev pub open_refusal : ℕ → List Step → ℕ → Option CoreFault
-open_refusal nodes past stamp = open_after (floor nodes past) (horizon past) (room_refusal past) stamp
+abbrev pub open_refusal : List Step → ℕ → Option CoreFault
+open_refusal past stamp = open_after (floor past) (horizon past) (room_refusal past) stamp
 
 -- the first reason to vacuum no rows up to a stamp, apart from memory
-abbrev pub vacuum_refusal : ℕ → List Step → ℕ → Option CoreFault
-vacuum_refusal nodes past at = open_after (floor nodes past) (horizon past) None at
+abbrev pub vacuum_refusal : List Step → ℕ → Option CoreFault
+vacuum_refusal past at = open_after (floor past) (horizon past) None at
 
--- no step should have been refused
-abbrev pub IsLegal : ℕ → List Step → Type 0
-IsLegal nodes [] = ⊤
-IsLegal nodes (Took item ∷ past) = (item_refusal nodes past item ≡ None) × IsLegal nodes past
-IsLegal nodes (Opened stamp ∷ past) = (open_refusal nodes past stamp ≡ None) × IsLegal nodes past
-IsLegal nodes (Closed id ∷ past) = (stamp_of id past ≢ None) × IsLegal nodes past
-IsLegal nodes (Vacuumed at ∷ past) = (vacuum_refusal nodes past at ≡ None) × IsLegal nodes past
-IsLegal nodes (PartVacuumed at dropped ∷ past) = (vacuum_refusal nodes past at ≡ None) × IsLegal nodes past
-IsLegal nodes (Joined node start ∷ past) =
-    (join_refusal nodes past ≡ None) × (node ≡ numbered nodes past) × (floor nodes past ≤ start) × IsLegal nodes past
+-- nothing came before the start, and no step should have been refused
+abbrev pub IsLegal : List Step → Type 0
+IsLegal [] = ⊤
+IsLegal (Started nodes ∷ past) = (past ≡ []) × IsLegal past
+IsLegal (Took item ∷ past) = (item_refusal past item ≡ None) × IsLegal past
+IsLegal (Opened stamp ∷ past) = (open_refusal past stamp ≡ None) × IsLegal past
+IsLegal (Closed id ∷ past) = (stamp_of id past ≢ None) × IsLegal past
+IsLegal (Vacuumed at ∷ past) = (vacuum_refusal past at ≡ None) × IsLegal past
+IsLegal (PartVacuumed at dropped ∷ past) = (vacuum_refusal past at ≡ None) × IsLegal past
+IsLegal (Joined node start ∷ past) =
+    (join_refusal past ≡ None) × (node ≡ numbered past) × (floor past ≤ start) × IsLegal past

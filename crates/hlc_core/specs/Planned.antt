@@ -11,12 +11,12 @@ use Rattle.hlc_core.specs.declared.reply.CoreReply.TheVariants.{Vacuumed, Vacuum
 use Rattle.hlc_core.specs.Checkpoint.{floor_in}
 use Rattle.hlc_core.specs.Past.{Step, floor}
 use Rattle.hlc_core.specs.PlanAt.{IsPlanAt, IsPartPlanAt}
-use Rattle.hlc_core.specs.StoreView.{StoreView, nodes, Represents}
+use Rattle.hlc_core.specs.StoreView.{StoreView, Represents}
 use Rattle.hlc_core.specs.History.{IsReplyTo, expected_refusal}
 
 -- the event asks for a vacuum, or part of one, to this stamp: the floor, or its own
 abbrev pub IsAsked : StoreView → CoreEvent → ℕ → Type 0
-IsAsked kept Vacuum at = (past : List Step) → Represents kept past → at ≡ floor (nodes kept) past
+IsAsked kept Vacuum at = (past : List Step) → Represents kept past → at ≡ floor past
 IsAsked kept (VacuumTo to) at = at ≡ to
 IsAsked kept (VacuumPart to after most) at = at ≡ to
 IsAsked kept _ at = ⊥
@@ -24,7 +24,7 @@ IsAsked kept _ at = ⊥
 -- the event asks for a whole vacuum to this stamp
 abbrev pub AsksWhole : StoreView → CoreEvent → ℕ → Type 0
 AsksWhole kept event at =
-    ((event ≡ Vacuum) × ((past : List Step) → Represents kept past → at ≡ floor (nodes kept) past))
+    ((event ≡ Vacuum) × ((past : List Step) → Represents kept past → at ≡ floor past))
     ⊎ (event ≡ VacuumTo at)
 
 -- the event asks for a part to this stamp, and this is its plan
@@ -38,7 +38,7 @@ pub record IsPartFor (kept : StoreView) (event : CoreEvent) (at : ℕ) (part : P
 pub record IsPossible (kept : StoreView) (event : CoreEvent) (at : ℕ) : Type 0 where
   pub low : at ≤ floor_in kept
   pub high : kept.horizon ≤ at
-  pub none : (past : List Step) → Represents kept past → expected_refusal (nodes kept) past event ≡ None
+  pub none : (past : List Step) → Represents kept past → expected_refusal past event ≡ None
 
 -- this is planned for the event, and possible; or its refusal is expected
 abbrev pub IsPlannedFor : StoreView → CoreEvent → Planned → Type 0
@@ -47,7 +47,7 @@ IsPlannedFor kept event (Whole at plan block) =
 IsPlannedFor kept event (Part at part block) = IsPossible kept event at × IsPartFor kept event at part
 IsPlannedFor kept event (RefusedFor fault) =
     IsReplyTo event (Refused fault)
-    × ((past : List Step) → Represents kept past → expected_refusal (nodes kept) past event ≡ Some fault)
+    × ((past : List Step) → Represents kept past → expected_refusal past event ≡ Some fault)
 
 -- the reply to what is planned
 abbrev pub reply_of : Planned → CoreReply

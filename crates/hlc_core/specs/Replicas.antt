@@ -2,7 +2,7 @@
 -- starts, in any order between the links, with any snapshots and vacuums between.
 use Rattle.std.specs.Prelude.{◌≡◌, ℕ, List, [], ◌∷◌, ◌++◌, ◌==◌, if◌then◌else◌}
 use Rattle.hlc_node.specs.declared.item.Item.{Item}
-use Rattle.hlc_core.specs.Past.{Step, Took, Joined, IsLegal}
+use Rattle.hlc_core.specs.Past.{Step, initial_nodes, Took, Joined, IsLegal}
 
 -- the accepted items of a node, the last one first
 abbrev pub items_of : ℕ → List Step → List Item
@@ -16,16 +16,18 @@ joins_of [] = []
 joins_of (Joined node start ∷ past) = (node, start) ∷ joins_of past
 joins_of (_ ∷ past) = joins_of past
 
--- the same nodes joined at the same starts, and the same items of each node were accepted
+-- the same number of nodes at the start, the same nodes joined at the same starts, and the same items of each node were
+-- accepted
 pub record AreReplicas (past other : List Step) : Type 0 where
+  pub start : initial_nodes past ≡ initial_nodes other
   pub joins : joins_of past ≡ joins_of other
   pub items : (n : ℕ) → items_of n past ≡ items_of n other
 
 -- two pasts of one log, each perhaps further than the other on some links: without a refusal each can go on until they
 -- are replicas
-pub record CanMeet (nodes : ℕ) (past other : List Step) : Type 0 where
+pub record CanMeet (past other : List Step) : Type 0 where
   pub more : List Step
   pub rest : List Step
-  pub legal : IsLegal nodes (more ++ past)
-  pub other_legal : IsLegal nodes (rest ++ other)
+  pub legal : IsLegal (more ++ past)
+  pub other_legal : IsLegal (rest ++ other)
   pub meet : AreReplicas (more ++ past) (rest ++ other)

@@ -3,24 +3,26 @@ use Rattle.std.specs.Prelude.{◌≡◌, ℕ, ◌<◌, List, length, Some, slice
 use Rattle.hlc_intake.specs.IntakeView.{IntakeView}
 use Rattle.hlc_snapshot.specs.RegistryView.{stamps}
 use Rattle.hlc_vacuum.specs.Representing.{RowsRepresent}
-use Rattle.hlc_core.specs.Past.{Step, numbered, count, head, retired, top, horizon, opened, open_snapshots, writes}
+use Rattle.hlc_core.specs.Past.{Step, initial_nodes, numbered, count, head, retired, top, horizon, opened}
+use Rattle.hlc_core.specs.Past.{open_snapshots, writes}
 use Rattle.hlc_core.specs.Past.{IsLegal}
 use Rattle.hlc_core.specs.Stored.{IsStoredCount}
-pub use Rattle.hlc_checkpoint.specs.StoreView.{StoreView, nodes, marks_of, with_rows_left, without_snapshots}
+pub use Rattle.hlc_checkpoint.specs.StoreView.{StoreView, marks_of, with_rows_left, without_snapshots}
 pub use Rattle.hlc_checkpoint.specs.StoreView.{greatest_head}
 pub use Rattle.hlc_checkpoint.specs.StoreView.{HasNodes, HasStamps, HasLastItem, IsSound, IsConsistent}
 
 -- the links of all nodes after a past, by number
-pub record AreLinks (nodes : ℕ) (past : List Step) (links : List IntakeView) : Type 0 where
-  pub many : length links ≡ numbered nodes past
+pub record AreLinks (past : List Step) (links : List IntakeView) : Type 0 where
+  pub many : length links ≡ numbered past
   pub each : (n : ℕ) → n < length links
       → slice_get links n ≡ Some (record { next = count n past; head = head n past; retired = retired n past })
 
 -- The core represents the past: whatever vacuums dropped, its rows answer as all accepted writes do at each open
 -- snapshot and from the horizon on, and their number is the expected one.
 pub record Represents (kept : StoreView) (past : List Step) : Type 0 where
-  pub legal : IsLegal (nodes kept) past
-  pub many : length kept.links ≡ numbered (nodes kept) past
+  pub legal : IsLegal past
+  pub start : kept.start ≡ initial_nodes past
+  pub many : length kept.links ≡ numbered past
   pub links : (n : ℕ) → n < length kept.links
       → slice_get kept.links n ≡ Some (record { next = count n past; head = head n past; retired = retired n past })
   pub top : kept.top ≡ top past

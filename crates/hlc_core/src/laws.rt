@@ -2,10 +2,10 @@
 ghost use Rattle.std.specs.Prelude.{◌≡◌, ◌≢◌, ◌+◌, ◌<◌, ◌≤◌, ◌⊎◌, true, false, ℕ, List, ◌∷◌, None, All, length};
 ghost use Rattle.std.specs.Prelude.{◌++◌, Some};
 ghost use Rattle.hlc_rows.specs.Rows.{IsRowSet, answer};
-ghost use Rattle.hlc_core.specs.Past.{Step, Took, Joined, IsLegal, numbered, retired, top, writes, head};
+ghost use Rattle.hlc_core.specs.Past.{Step, Took, Joined, IsLegal, initial_nodes, numbered, retired, top, writes, head};
 ghost use Rattle.hlc_core.specs.Past.{floor, open_snapshots, item_refusal, join_refusal, join_at_refusal};
 ghost use Rattle.hlc_core.specs.Past.{greatest_accepted, stamp_of};
-ghost use Rattle.hlc_core.specs.StoreView.{StoreView, nodes, Represents};
+ghost use Rattle.hlc_core.specs.StoreView.{StoreView, Represents};
 ghost use Rattle.hlc_core.specs.Checkpoint.{IsCheckpoint, IsCopyOf, IsFirstReason};
 ghost use Rattle.hlc_witness.specs.Certificate.{RowsAscend};
 ghost use Rattle.hlc_heads.specs.declared.heads.TheConstants.{MAX_INITIAL_NODES};
@@ -23,30 +23,30 @@ ghost use Rattle.hlc_rows.specs.declared.row.Row.{Row as ARow};
 
 /// No two accepted writes are alike in key, stamp and node, so a read has one answer.
 pub fn accepted_writes_are_a_row_set()
-    ensures { (nodes : ℕ) (past : List Step) → IsLegal nodes past → IsRowSet (writes past) }
+    ensures { (past : List Step) → IsLegal past → IsRowSet (writes past) }
 {}
 
 /// An item that is accepted after a past has a stamp above its floor, so no later write changes a read at or below the
 /// floor.
 pub fn later_items_are_above_the_floor()
-    ensures { (nodes : ℕ) (past : List Step) (item : AnItem) → item_refusal nodes past item ≡ None
-        → floor nodes past < item.stamp }
+    ensures { (past : List Step) (item : AnItem) → item_refusal past item ≡ None
+        → floor past < item.stamp }
 {}
 
 /// No open snapshot is above the floor: it was not above it when it was opened, and the floor never falls.
 pub fn open_snapshots_are_at_most_the_floor()
-    ensures { (nodes : ℕ) (past : List Step) → IsLegal nodes past
-        → All (λ snapshot. snapshot.stamp ≤ floor nodes past) (open_snapshots past) }
+    ensures { (past : List Step) → IsLegal past
+        → All (λ snapshot. snapshot.stamp ≤ floor past) (open_snapshots past) }
 {}
 
 /// What is read at or below the floor is final: whatever takes place later, no answer there changes. So a snapshot
 /// keeps its stamp and its answers for as long as it is open.
 pub fn answers_stay()
-    ensures floor { (nodes : ℕ) (past more : List Step) → IsLegal nodes (more ++ past)
-        → (key : List ℕ) (stamp : ℕ) → stamp ≤ floor nodes past
+    ensures floor { (past more : List Step) → IsLegal (more ++ past)
+        → (key : List ℕ) (stamp : ℕ) → stamp ≤ floor past
         → answer (writes (more ++ past)) key stamp ≡ answer (writes past) key stamp }
-    ensures snapshots { (nodes : ℕ) (past more : List Step) (id stamp again : ℕ)
-        → IsLegal nodes (more ++ past)
+    ensures snapshots { (past more : List Step) (id stamp again : ℕ)
+        → IsLegal (more ++ past)
         → stamp_of id past ≡ Some stamp → stamp_of id (more ++ past) ≡ Some again
         → (again ≡ stamp) × ((key : List ℕ)
         → answer (writes (more ++ past)) key again ≡ answer (writes past) key stamp) }
@@ -55,50 +55,50 @@ pub fn answers_stay()
 /// The floor is the head of some node that has not retired, or, if all have, the greatest head; and no head of a node
 /// that has not retired is below it.
 pub fn floor_is_the_least_head()
-    ensures some { (nodes : ℕ) (past : List Step)
-        → ((n : ℕ) × (n < numbered nodes past) × (retired n past ≡ false)
-        × (head n past ≡ floor nodes past))
-        ⊎ (((n : ℕ) → n < numbered nodes past → retired n past ≡ true)
-        × (floor nodes past ≡ top past)) }
-    ensures least { (nodes : ℕ) (past : List Step) (n : ℕ) → n < numbered nodes past
-        → retired n past ≡ false → floor nodes past ≤ head n past }
+    ensures some { (past : List Step)
+        → ((n : ℕ) × (n < numbered past) × (retired n past ≡ false)
+        × (head n past ≡ floor past))
+        ⊎ (((n : ℕ) → n < numbered past → retired n past ≡ true)
+        × (floor past ≡ top past)) }
+    ensures least { (past : List Step) (n : ℕ) → n < numbered past
+        → retired n past ≡ false → floor past ≤ head n past }
 {}
 
 /// The floor never falls: neither when an item is accepted, a node's last one or not, nor when a node joins. No other
 /// step moves it, so no later one is lower.
 pub fn the_floor_never_falls()
-    ensures took { (nodes : ℕ) (past : List Step) (item : AnItem)
-        → item_refusal nodes past item ≡ None
-        → floor nodes past ≤ floor nodes (Took item ∷ past) }
-    ensures joined { (nodes : ℕ) (past : List Step) (node start : ℕ)
-        → IsLegal nodes (Joined node start ∷ past)
-        → floor nodes past ≤ floor nodes (Joined node start ∷ past) }
-    ensures later { (nodes : ℕ) (past more : List Step) → IsLegal nodes (more ++ past)
-        → floor nodes past ≤ floor nodes (more ++ past) }
+    ensures took { (past : List Step) (item : AnItem)
+        → item_refusal past item ≡ None
+        → floor past ≤ floor (Took item ∷ past) }
+    ensures joined { (past : List Step) (node start : ℕ)
+        → IsLegal (Joined node start ∷ past)
+        → floor past ≤ floor (Joined node start ∷ past) }
+    ensures later { (past more : List Step) → IsLegal (more ++ past)
+        → floor past ≤ floor (more ++ past) }
 {}
 
 /// A node that joins does not move the floor, if some node has not retired.
 pub fn joins_keep_the_floor()
-    ensures { (nodes : ℕ) (past : List Step) (node start n : ℕ)
-        → IsLegal nodes (Joined node start ∷ past)
-        → n < numbered nodes past → retired n past ≡ false
-        → floor nodes (Joined node start ∷ past) ≡ floor nodes past }
+    ensures { (past : List Step) (node start n : ℕ)
+        → IsLegal (Joined node start ∷ past)
+        → n < numbered past → retired n past ≡ false
+        → floor (Joined node start ∷ past) ≡ floor past }
 {}
 
 /// If all nodes have retired, the floor is the greatest stamp of an accepted item.
 pub fn retired_nodes_leave_the_greatest_stamp()
-    ensures { (nodes : ℕ) (past : List Step) → 0 < nodes → IsLegal nodes past
-        → ((n : ℕ) → n < numbered nodes past → retired n past ≡ true)
-        → floor nodes past ≡ greatest_accepted past }
+    ensures { (past : List Step) → 0 < initial_nodes past → IsLegal past
+        → ((n : ℕ) → n < numbered past → retired n past ≡ true)
+        → floor past ≡ greatest_accepted past }
 {}
 
 /// A join without a start is a join at the floor: it is refused in the same cases, and the floor does not move.
 pub fn a_join_is_one_at_the_floor()
-    ensures refusal { (nodes : ℕ) (past : List Step)
-        → join_at_refusal nodes past (floor nodes past) ≡ join_refusal nodes past }
-    ensures floor { (nodes : ℕ) (past : List Step) (node : ℕ) → IsLegal nodes past
-        → node ≡ numbered nodes past
-        → floor nodes (Joined node (floor nodes past) ∷ past) ≡ floor nodes past }
+    ensures refusal { (past : List Step)
+        → join_at_refusal past (floor past) ≡ join_refusal past }
+    ensures floor { (past : List Step) (node : ℕ) → IsLegal past
+        → node ≡ numbered past
+        → floor (Joined node (floor past) ∷ past) ≡ floor past }
 {}
 
 /// There is one listing of some rows at a stamp.
@@ -128,15 +128,15 @@ pub fn differences_lead_on()
 /// vacuum could have kept fewer or cheaper rows, nor a part of one of its keys, and just after it the stored rows up to
 /// its stamp, after a part those of its keys, are the fewest and the cheapest.
 pub fn histories_are_faithful()
-    ensures { (kept : StoreView) (history : List (AnEvent × AReply)) → RepresentsHistory kept history
-        → IsFaithful (nodes kept) history kept.rows }
+    ensures { (nodes : ℕ) (kept : StoreView) (history : List (AnEvent × AReply))
+        → RepresentsHistory nodes kept history → IsFaithful nodes history kept.rows }
 {}
 
 /// A state that represents a past, with its rows by key, stamp and node, is a checkpoint:
 /// `Core::restore` refuses it only if memory runs out.
 pub fn checkpoints_restore()
     ensures sound { (kept : StoreView) (past : List Step) → Represents kept past
-        → 0 < nodes kept → nodes kept ≤ MAX_INITIAL_NODES → RowsAscend kept.rows → IsCheckpoint kept }
+        → 0 < kept.start → kept.start ≤ MAX_INITIAL_NODES → RowsAscend kept.rows → IsCheckpoint kept }
     ensures copies { (kept copy : StoreView) (past : List Step) → Represents kept past
         → IsCopyOf kept copy → Represents copy past }
     ensures refused { (kept : StoreView) (fault : AFault) → IsFirstReason kept fault → fault ≢ no_memory

@@ -1,20 +1,16 @@
-//! How an item is admitted by the intake of its node's link.
-ghost use Rattle.std.specs.Prelude.{◌≡◌, ◌+◌, Some, None, Err, MatchOption, MatchResult, slice_get};
-ghost use Rattle.hlc_node.specs.Items.{retires};
+//! Whether the intake of its node's link admits an item.
+ghost use Rattle.std.specs.Prelude.{◌≡◌, Some, None, Err, MatchOption, MatchResult, slice_get};
 ghost use Rattle.hlc_core.specs.Past.{link_refusal};
 
 use hlc_events::CoreFault;
 use hlc_intake::Intake;
 use hlc_node::ItemRef;
 
-/// Returns the intake of the item's link after it admits the item; or the first reason to refuse
-/// the item, apart from memory.
-pub fn admitted(intakes: &[Intake], item: &ItemRef<'_>) -> Result<Intake, CoreFault>
+/// Returns the first reason to refuse an item, apart from memory.
+pub fn check(intakes: &[Intake], item: &ItemRef<'_>) -> Result<(), CoreFault>
     ensures { MatchOption (slice_get intakes.now item.now.node) (result ≡ Err CoreFault.NoNode)
         (λ link. MatchResult result
-        (λ new. (link_refusal link.retired link.next link.head item.now ≡ None)
-        × (new ≡ record
-        { next = item.now.number + 1; head = item.now.stamp; retired = retires item.now.body }))
+        (λ _. link_refusal link.retired link.next link.head item.now ≡ None)
         (λ fault. link_refusal link.retired link.next link.head item.now ≡ Some fault)) }
 {
     let Some(intake) = intakes.get(item.node() as usize) else {
@@ -24,6 +20,6 @@ pub fn admitted(intakes: &[Intake], item: &ItemRef<'_>) -> Result<Intake, CoreFa
     intake.admit(item.number(), item.stamp(), item.retires())?;
     match item.body_fault() {
         Some(fault) => Err(CoreFault::Body(fault)),
-        None => Ok(intake),
+        None => Ok(()),
     }
 }

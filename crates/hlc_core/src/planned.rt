@@ -1,7 +1,7 @@
 //! Vacuums that events ask for: planned first, and then carried out, which needs no memory.
-ghost use Rattle.std.specs.Prelude.{◌≡◌, List, None, Some, IfOk, IfErr, OnErr};
+ghost use Rattle.std.specs.Prelude.{◌≡◌, ℕ, List, None, Some, IfOk, IfErr, OnErr};
 ghost use Rattle.hlc_core.specs.Past.{Step};
-ghost use Rattle.hlc_core.specs.StoreView.{nodes, Represents};
+ghost use Rattle.hlc_core.specs.StoreView.{Represents};
 ghost use Rattle.hlc_core.specs.History.{RepresentsHistory, IsStep, IsVacuum, IsRefused, IsReplyTo, expected_refusal};
 ghost use Rattle.hlc_core.specs.Planned.{IsAsked, IsPossible, IsPlannedFor, reply_of};
 ghost use Rattle.hlc_events.specs.declared.event.CoreEvent.{CoreEvent as AnEvent};
@@ -59,7 +59,7 @@ impl Core {
         requires { IsVacuum event.now }
         ensures ok { IfOk result (λ planned. IsPlannedFor self.now event.now planned) }
         ensures err { OnErr result ((past : List Step) → Represents self.now past
-            → expected_refusal (nodes self.now) past event.now ≡ None) }
+            → expected_refusal past event.now ≡ None) }
     {
         let at = match self.stamp_asked(event) {
             Ok(at) => at,
@@ -87,7 +87,7 @@ impl Core {
         requires { IsVacuum event.now }
         ensures ok { IfOk result (λ planned. IsPlannedFor self.now event.now planned) }
         ensures err { OnErr result ((past : List Step) → Represents self.now past
-            → expected_refusal (nodes self.now) past event.now ≡ None) }
+            → expected_refusal past event.now ≡ None) }
     {
         if let CoreEvent::VacuumPart { .. } = event {
             return self.planned(event);
@@ -104,13 +104,12 @@ impl Core {
     /// Carries out what was planned for an event of this store as it is, and returns the reply. It needs no memory.
     pub fn finish(&mut self, planned: Planned) -> CoreReply
         requires { (event : AnEvent) × IsPlannedFor self.old event planned }
-        ensures step { (event : AnEvent) (history : List (AnEvent × AReply))
-            → IsPlannedFor self.old event planned → RepresentsHistory self.old history
-            → IsStep self.old self.new event history result }
+        ensures step { (nodes : ℕ) (event : AnEvent) (history : List (AnEvent × AReply))
+            → IsPlannedFor self.old event planned → RepresentsHistory nodes self.old history
+            → IsStep nodes self.old self.new event history result }
         ensures reply { result ≡ reply_of planned }
         ensures form { (event : AnEvent) → IsPlannedFor self.old event planned → IsReplyTo event result }
         ensures refused { IsRefused result → self.new ≡ self.old }
-        ensures nodes { nodes self.new ≡ nodes self.old }
     {
         match planned {
             Planned::Whole { at, plan, block } => {
@@ -133,7 +132,7 @@ impl Core {
         ensures asked { IfOk result (IsAsked self.now event.now) }
         ensures ok { IfOk result (IsPossible self.now event.now) }
         ensures err { IfErr result (λ fault. (past : List Step) → Represents self.now past
-            → expected_refusal (nodes self.now) past event.now ≡ Some fault) }
+            → expected_refusal past event.now ≡ Some fault) }
         ensures form { IfErr result (λ fault. IsReplyTo event.now (refused_by fault)) }
     {
         match event {

@@ -1,6 +1,5 @@
 //! The calls of a core by cases, as events with replies.
-ghost use Rattle.std.specs.Prelude.{◌≡◌, ◌≢◌, List, IfOk, IfErr, OnErr};
-ghost use Rattle.hlc_core.specs.StoreView.{nodes};
+ghost use Rattle.std.specs.Prelude.{◌≡◌, ◌≢◌, ℕ, List, IfOk, IfErr, OnErr};
 ghost use Rattle.hlc_core.specs.History.{RepresentsHistory, Steps, IsQuestion, IsVacuum, IsRefused, IsPlain, IsReplyTo};
 ghost use Rattle.hlc_events.specs.declared.event.CoreEvent.{CoreEvent as AnEvent};
 ghost use Rattle.hlc_core.specs.declared.reply.CoreReply.{CoreReply as AReply};
@@ -17,15 +16,15 @@ impl Core {
     /// A refusal is a reply, except out of memory: then the error returns the event, and nothing changed. A read or a
     /// listing changes nothing, whatever its reply.
     pub fn step(&mut self, event: CoreEvent) -> Result<CoreReply, (NoMemory, CoreEvent)>
-        ensures represents { (history : List (AnEvent × AReply)) → RepresentsHistory self.old history
-            → Steps self.old self.new event history result }
+        ensures represents { (nodes : ℕ) (history : List (AnEvent × AReply))
+            → RepresentsHistory nodes self.old history
+            → Steps nodes self.old self.new event history result }
         ensures err { IfErr result (λ back. (back.1 ≡ event) × (self.new ≡ self.old)) }
         ensures asked { IsQuestion event → self.new ≡ self.old }
         ensures refused { IfOk result (λ reply. IsRefused reply → self.new ≡ self.old) }
         ensures copied { IfOk result
             (λ reply. (IsVacuum event → ⊥) → (IsPlain reply → ⊥) → self.new ≡ self.old) }
         ensures form { IfOk result (λ reply. IsReplyTo event reply) }
-        ensures nodes { nodes self.new ≡ nodes self.old }
     {
         match self.step_ref(&event) {
             Ok(reply) => Ok(reply),
@@ -35,15 +34,15 @@ impl Core {
 
     /// Takes a borrowed event as `step` takes one.
     pub fn step_ref(&mut self, event: &CoreEvent) -> Result<CoreReply, NoMemory>
-        ensures represents { (history : List (AnEvent × AReply)) → RepresentsHistory self.old history
-            → Steps self.old self.new event.now history result }
-        ensures err { OnErr result (self.new ≡ self.old) }
+        ensures represents { (nodes : ℕ) (history : List (AnEvent × AReply))
+            → RepresentsHistory nodes self.old history
+            → Steps nodes self.old self.new event.now history result }
+        ensures unchanged { OnErr result (self.new ≡ self.old) }
         ensures asked { IsQuestion event.now → self.new ≡ self.old }
         ensures refused { IfOk result (λ reply. IsRefused reply → self.new ≡ self.old) }
         ensures copied { IfOk result
             (λ reply. (IsVacuum event.now → ⊥) → (IsPlain reply → ⊥) → self.new ≡ self.old) }
         ensures form { IfOk result (λ reply. IsReplyTo event.now reply) }
-        ensures nodes { nodes self.new ≡ nodes self.old }
     {
         match event {
             CoreEvent::Accept(item) => match self.accept_copy(item) {
@@ -87,12 +86,12 @@ impl Core {
     /// Returns the reply to a vacuum, or to part of one. All memory is allocated before anything changes.
     fn vacuum_step(&mut self, event: &CoreEvent) -> Result<CoreReply, NoMemory>
         requires { IsVacuum event.now }
-        ensures represents { (history : List (AnEvent × AReply)) → RepresentsHistory self.old history
-            → Steps self.old self.new event.now history result }
-        ensures err { OnErr result (self.new ≡ self.old) }
+        ensures represents { (nodes : ℕ) (history : List (AnEvent × AReply))
+            → RepresentsHistory nodes self.old history
+            → Steps nodes self.old self.new event.now history result }
+        ensures unchanged { OnErr result (self.new ≡ self.old) }
         ensures refused { IfOk result (λ reply. IsRefused reply → self.new ≡ self.old) }
         ensures form { IfOk result (λ reply. IsReplyTo event.now reply) }
-        ensures nodes { nodes self.new ≡ nodes self.old }
     {
         let planned = self.planned(event)?;
         Ok(self.finish(planned))
@@ -100,8 +99,9 @@ impl Core {
 
     /// Returns the reply to a read, with a copy of the value.
     fn read_copy(&self, id: u64, key: &[u8]) -> Result<CoreReply, NoMemory>
-        ensures represents { (history : List (AnEvent × AReply)) → RepresentsHistory self.now history
-            → Steps self.now self.now (CoreEvent.Read id key.now) history result }
+        ensures represents { (nodes : ℕ) (history : List (AnEvent × AReply))
+            → RepresentsHistory nodes self.now history
+            → Steps nodes self.now self.now (CoreEvent.Read id key.now) history result }
         ensures form { IfOk result (λ reply. IsReplyTo (CoreEvent.Read id key.now) reply) }
     {
         match self.read(id, key) {

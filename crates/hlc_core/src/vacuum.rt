@@ -1,7 +1,7 @@
 //! The vacuums of a store.
 ghost use Rattle.std.specs.Prelude.{◌≡◌, ◌≤◌, IfOk, OnErr, List};
 ghost use Rattle.hlc_core.specs.Past.{Step, floor};
-ghost use Rattle.hlc_core.specs.StoreView.{nodes, Represents};
+ghost use Rattle.hlc_core.specs.StoreView.{Represents};
 ghost use Rattle.hlc_core.specs.Parts.{VacuumsPartCounted};
 ghost use Rattle.hlc_core.specs.Calls.{Vacuums, VacuumsTo, VacuumsCounted, VacuumsToCounted};
 ghost use Rattle.hlc_core.specs.Certified.{Certifies};
@@ -22,9 +22,8 @@ impl Core {
     pub fn vacuum(&mut self) -> Result<Report, NoMemory>
         ensures ok { IfOk result
             (λ report. (past : List Step) → Represents self.old past
-            → Vacuums self.old self.new (floor (nodes self.old) past) past report) }
-        ensures err { OnErr result (self.new ≡ self.old) }
-        ensures nodes { nodes self.new ≡ nodes self.old }
+            → Vacuums self.old self.new (floor past) past report) }
+        ensures unchanged { OnErr result (self.new ≡ self.old) }
     {
         let floor = self.floor();
         let plan = self.plan(floor)?;
@@ -35,9 +34,8 @@ impl Core {
     pub fn vacuum_parallel(&mut self, rt: &(impl Threads + Sync)) -> Result<Report, NoMemory>
         ensures ok { IfOk result
             (λ report. (past : List Step) → Represents self.old past
-            → Vacuums self.old self.new (floor (nodes self.old) past) past report) }
-        ensures err { OnErr result (self.new ≡ self.old) }
-        ensures nodes { nodes self.new ≡ nodes self.old }
+            → Vacuums self.old self.new (floor past) past report) }
+        ensures unchanged { OnErr result (self.new ≡ self.old) }
     {
         let floor = self.floor();
         let plan = self.plan_parallel(rt, floor)?;
@@ -48,10 +46,9 @@ impl Core {
     pub fn vacuum_pair(&mut self) -> Result<(Report, Report), NoMemory>
         ensures ok { IfOk result
             (λ reports. (past : List Step) → Represents self.old past
-            → Vacuums self.old self.new (floor (nodes self.old) past) past reports.0) }
+            → Vacuums self.old self.new (floor past) past reports.0) }
         ensures alike { IfOk result (λ reports. reports.0 ≡ reports.1) }
-        ensures err { OnErr result (self.new ≡ self.old) }
-        ensures nodes { nodes self.new ≡ nodes self.old }
+        ensures unchanged { OnErr result (self.new ≡ self.old) }
     {
         let floor = self.floor();
         let plan = self.plan(floor)?;
@@ -67,10 +64,9 @@ impl Core {
     ) -> Result<(Report, Report), NoMemory>
         ensures ok { IfOk result
             (λ reports. (past : List Step) → Represents self.old past
-            → Vacuums self.old self.new (floor (nodes self.old) past) past reports.0) }
+            → Vacuums self.old self.new (floor past) past reports.0) }
         ensures alike { IfOk result (λ reports. reports.0 ≡ reports.1) }
-        ensures err { OnErr result (self.new ≡ self.old) }
-        ensures nodes { nodes self.new ≡ nodes self.old }
+        ensures unchanged { OnErr result (self.new ≡ self.old) }
     {
         let floor = self.floor();
         let plan = self.plan_parallel(rt, floor)?;
@@ -83,9 +79,8 @@ impl Core {
     pub fn vacuum_counted(&mut self) -> Result<Numbers, NoMemory>
         ensures ok { IfOk result
             (λ numbers. (past : List Step) → Represents self.old past
-            → VacuumsCounted self.old self.new (floor (nodes self.old) past) past numbers) }
-        ensures err { OnErr result (self.new ≡ self.old) }
-        ensures nodes { nodes self.new ≡ nodes self.old }
+            → VacuumsCounted self.old self.new (floor past) past numbers) }
+        ensures unchanged { OnErr result (self.new ≡ self.old) }
     {
         let floor = self.floor();
         self.vacuum_by_tally(floor)
@@ -101,8 +96,7 @@ impl Core {
     pub fn vacuum_to(&mut self, at: Stamp) -> Result<Report, CoreFault>
         ensures represents { (past : List Step) → Represents self.old past
             → VacuumsTo self.old self.new at past result }
-        ensures err { OnErr result (self.new ≡ self.old) }
-        ensures nodes { nodes self.new ≡ nodes self.old }
+        ensures unchanged { OnErr result (self.new ≡ self.old) }
     {
         self.check_vacuum(at)?;
         let plan = self.plan(at)?;
@@ -113,8 +107,7 @@ impl Core {
     pub fn vacuum_to_counted(&mut self, at: Stamp) -> Result<Numbers, CoreFault>
         ensures represents { (past : List Step) → Represents self.old past
             → VacuumsToCounted self.old self.new at past result }
-        ensures err { OnErr result (self.new ≡ self.old) }
-        ensures nodes { nodes self.new ≡ nodes self.old }
+        ensures unchanged { OnErr result (self.new ≡ self.old) }
     {
         match self.check_vacuum(at) {
             Ok(()) => Ok(self.vacuum_by_tally(at)?),
@@ -138,8 +131,7 @@ impl Core {
     ) -> Result<(Numbers, Option<Bytes>), CoreFault>
         ensures represents { (past : List Step) → Represents self.old past
             → VacuumsPartCounted self.old self.new at after.now most past result }
-        ensures err { OnErr result (self.new ≡ self.old) }
-        ensures nodes { nodes self.new ≡ nodes self.old }
+        ensures unchanged { OnErr result (self.new ≡ self.old) }
     {
         self.check_vacuum(at)?;
         let part = self.tally_next(at, after, most)?;
@@ -170,8 +162,7 @@ impl Core {
         ensures ok { IfOk result
             (λ numbers. (past : List Step) → Represents self.old past
             → VacuumsCounted self.old self.new at past numbers) }
-        ensures err { OnErr result (self.new ≡ self.old) }
-        ensures nodes { nodes self.new ≡ nodes self.old }
+        ensures unchanged { OnErr result (self.new ≡ self.old) }
     {
         let tally = self.tally(at)?;
         Ok(self.carry_out_tally(at, &tally))

@@ -1,5 +1,6 @@
 -- The progress of the plan of a key, point by point.
-use Rattle.std.proofs.Common.{◌≡◌, ◌+◌, ◌++◌, drop, ℕ, Bool, zero, suc, List, Option, None, Some, map, slice_index, length}
+use Rattle.std.proofs.Common.{◌≡◌, ◌+◌, ◌++◌, drop, ℕ, Bool, zero, suc, List, Option, None, Some, map, slice_index}
+use Rattle.std.proofs.Common.{length}
 use Rattle.hlc_rows.specs.declared.row.Row.{Row}
 use Rattle.hlc_witness.specs.declared.witness.Witness.{Witness}
 use Rattle.hlc_clock.specs.Points.{last_point}

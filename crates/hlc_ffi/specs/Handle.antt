@@ -1,6 +1,6 @@
 -- What a handle contains before and after a call.
-use Rattle.std.specs.Prelude.{◌≡◌, ℕ, List, Option, Some, None, IsSome, MatchOption}
-use Rattle.hlc_core.specs.StoreView.{StoreView, Represents, nodes}
+use Rattle.std.specs.Prelude.{◌≡◌, ℕ, List, Option, None, IsSome, MatchOption}
+use Rattle.hlc_core.specs.StoreView.{StoreView, Represents}
 use Rattle.hlc_core.specs.Past.{Step}
 use Rattle.hlc_node.specs.declared.item.Item.{Item}
 use Rattle.hlc_handle.specs.contracts.reader.LentRoom.{the_row}
@@ -29,9 +29,8 @@ abbrev pub OnStorePast
 OnStorePast old new Closed Open =
     OnStore old new Closed (λ before after. (past : List Step) → Represents before past → Open before after past)
 
-abbrev pub OnReaderPast : Loan → Type 0 → (StoreView → List Step → Type 0) → Type 0
-OnReaderPast kept Closed Open =
-    OnReader kept Closed (λ core. (past : List Step) → Represents core past → Open core past)
+abbrev pub OnReaderPast : Loan → Type 0 → (List Step → Type 0) → Type 0
+OnReaderPast kept Closed Open = OnReader kept Closed (λ core. (past : List Step) → Represents core past → Open past)
 
 -- the same, with the lifetime for which the store is lent
 abbrev pub OnLoanPast : Loan → Type 0 → (ℕ → List Step → Type 0) → Type 0
@@ -42,18 +41,13 @@ OnLoanPast kept Closed Open =
 abbrev pub IsAccepting : Option StoreView → Option StoreView → Item → ℕ → ℕ → Type 0
 IsAccepting old new item code word =
     OnStorePast old new ((code ≡ 100) × (word ≡ 0))
-    (λ before after past. ReturnsAccepted before after item past code word)
+    (λ before after past. ReturnsAccepted after item past code word)
 
 -- why an item would be refused, if it would
 abbrev pub IsChecking : Loan → Item → ℕ → ℕ → Type 0
 IsChecking kept item code word =
-    OnReaderPast kept ((code ≡ 100) × (word ≡ 0)) (λ core past. ReturnsChecked core item past code word)
+    OnReaderPast kept ((code ≡ 100) × (word ≡ 0)) (λ past. ReturnsChecked item past code word)
 
 -- the answer for a closed store, of a call that lists: nothing is listed
 abbrev pub ListsNothing : ℕ → ℕ → ℕ → List ℕ → List ℕ → Type 0
 ListsNothing code len many old new = (code ≡ 100) × (len ≡ 0) × (many ≡ 0) × (new ≡ old)
-
--- how many nodes there were at the start, 0 where the store is closed
-abbrev pub nodes_in_handle : Option StoreView → ℕ
-nodes_in_handle None = 0
-nodes_in_handle (Some kept) = nodes kept

@@ -6,7 +6,7 @@ ghost use Rattle.hlc_node.specs.Items.{an_item};
 ghost use Rattle.hlc_calls.specs.Answers.{ReturnsJoined, ReturnsJoinedAt};
 ghost use Rattle.hlc_calls.specs.Entries.{AreEntered};
 ghost use Rattle.hlc_node_calls.specs.Batches.{batch_in};
-ghost use Rattle.hlc_ffi.specs.Handle.{OnStorePast, nodes_in_handle, IsAccepting, IsChecking, IsGivenBack};
+ghost use Rattle.hlc_ffi.specs.Handle.{OnStorePast, IsAccepting, IsChecking, IsGivenBack};
 
 use crate::handle::{of_core, on_core};
 use hlc_calls::entries::{Entry, enter_all};
@@ -29,8 +29,7 @@ pub extern "C" fn hlc_store_accept_write(
 ) -> u32
     ensures answer { IsAccepting store.old.value store.new.value
         (an_item node number stamp (a_write key.now (Some value.now))) result word.new }
-    ensures same { result ≢ 0 → store.new.value ≡ store.old.value }
-    ensures nodes { nodes_in_handle store.new.value ≡ nodes_in_handle store.old.value }
+    ensures unchanged { result ≢ 0 → store.new.value ≡ store.old.value }
 {
     *word = 0;
     let item = ItemRef::write(node, number, Stamp::from_bits(stamp), key, Some(value));
@@ -50,8 +49,7 @@ pub extern "C" fn hlc_store_accept_delete(
 ) -> u32
     ensures answer { IsAccepting store.old.value store.new.value
         (an_item node number stamp (a_write key.now None)) result word.new }
-    ensures same { result ≢ 0 → store.new.value ≡ store.old.value }
-    ensures nodes { nodes_in_handle store.new.value ≡ nodes_in_handle store.old.value }
+    ensures unchanged { result ≢ 0 → store.new.value ≡ store.old.value }
 {
     *word = 0;
     let item = ItemRef::write(node, number, Stamp::from_bits(stamp), key, None);
@@ -74,8 +72,7 @@ pub extern "C" fn hlc_store_accept_batch(
     ensures answer { MatchResult (batch_in count writes.now) (λ all. IsAccepting store.old.value store.new.value
         (an_item node number stamp (a_batch all)) result word.new)
         (λ bad. (result ≡ bad.0) × (word.new ≡ bad.1)) }
-    ensures same { result ≢ 0 → store.new.value ≡ store.old.value }
-    ensures nodes { nodes_in_handle store.new.value ≡ nodes_in_handle store.old.value }
+    ensures unchanged { result ≢ 0 → store.new.value ≡ store.old.value }
 {
     *word = 0;
     let all = match hlc_node_calls::batch_of(count, writes) {
@@ -100,8 +97,7 @@ pub extern "C" fn hlc_store_accept_report(
     word: &mut u64,
 ) -> u32
     ensures answer { IsAccepting store.old.value store.new.value (an_item node number stamp a_report) result word.new }
-    ensures same { result ≢ 0 → store.new.value ≡ store.old.value }
-    ensures nodes { nodes_in_handle store.new.value ≡ nodes_in_handle store.old.value }
+    ensures unchanged { result ≢ 0 → store.new.value ≡ store.old.value }
 {
     *word = 0;
     let item = ItemRef::report(node, number, Stamp::from_bits(stamp));
@@ -119,8 +115,7 @@ pub extern "C" fn hlc_store_accept_retire(
     word: &mut u64,
 ) -> u32
     ensures answer { IsAccepting store.old.value store.new.value (an_item node number stamp a_retire) result word.new }
-    ensures same { result ≢ 0 → store.new.value ≡ store.old.value }
-    ensures nodes { nodes_in_handle store.new.value ≡ nodes_in_handle store.old.value }
+    ensures unchanged { result ≢ 0 → store.new.value ≡ store.old.value }
 {
     *word = 0;
     let item = ItemRef::retire(node, number, Stamp::from_bits(stamp));
@@ -194,10 +189,9 @@ pub extern "C" fn hlc_store_join(
     start: &mut u64,
 ) -> u32
     ensures answer { OnStorePast store.old.value store.new.value ((result ≡ 100) × (node.new ≡ 0) × (start.new ≡ 0))
-        (λ old new past. ReturnsJoined old new past result node.new start.new) }
+        (λ old new past. ReturnsJoined new past result node.new start.new) }
     ensures nothing { result ≢ 0 → (node.new ≡ 0) × (start.new ≡ 0) }
-    ensures same { result ≢ 0 → store.new.value ≡ store.old.value }
-    ensures nodes { nodes_in_handle store.new.value ≡ nodes_in_handle store.old.value }
+    ensures unchanged { result ≢ 0 → store.new.value ≡ store.old.value }
 {
     *node = 0;
     *start = 0;
@@ -214,10 +208,9 @@ pub extern "C" fn hlc_store_join_at(
     word: &mut u64,
 ) -> u32
     ensures answer { OnStorePast store.old.value store.new.value ((result ≡ 100) × (node.new ≡ 0) × (word.new ≡ 0))
-        (λ old new past. ReturnsJoinedAt old new start past result node.new word.new) }
+        (λ old new past. ReturnsJoinedAt new start past result node.new word.new) }
     ensures nothing { result ≢ 0 → node.new ≡ 0 }
-    ensures same { result ≢ 0 → store.new.value ≡ store.old.value }
-    ensures nodes { nodes_in_handle store.new.value ≡ nodes_in_handle store.old.value }
+    ensures unchanged { result ≢ 0 → store.new.value ≡ store.old.value }
 {
     let start = Stamp::from_bits(start);
     on_core!(alloc, store, [node, word], |core| {
@@ -236,9 +229,8 @@ pub extern "C" fn hlc_store_accept_all(
     many: &mut usize,
     word: &mut u64,
 ) -> u32
-    ensures answer { OnStorePast store.old.value store.new.value ((result ≡ 100) × (many.new ≡ 0) × (word.new ≡ 0))
+    ensures { OnStorePast store.old.value store.new.value ((result ≡ 100) × (many.new ≡ 0) × (word.new ≡ 0))
         (λ old new past. AreEntered new entries.now bytes.now past result many.new word.new) }
-    ensures nodes { nodes_in_handle store.new.value ≡ nodes_in_handle store.old.value }
 {
     on_core!(alloc, store, [many, word], |core| {
         enter_all(core, entries, bytes, many, word)

@@ -3,12 +3,11 @@ ghost use Rattle.std.specs.Prelude.{◌≡◌, List, Some, None, MatchResult};
 ghost use Rattle.hlc_node.specs.declared.item.Body.TheVariants.{Write as a_write, Report as a_report};
 ghost use Rattle.hlc_node.specs.declared.item.Body.TheVariants.{Retire as a_retire, Batch as a_batch};
 ghost use Rattle.hlc_node.specs.Items.{an_item};
-ghost use Rattle.hlc_core.specs.StoreView.{nodes};
 ghost use Rattle.hlc_log.specs.declared.record.Record.TheVariants.{Join, Threshold};
 ghost use Rattle.hlc_calls.specs.Log.{AreTaken, ReturnsItem};
 ghost use Rattle.hlc_calls.specs.Records.{ReturnsApplied, ReturnsRecord};
 ghost use Rattle.hlc_node_calls.specs.Batches.{batch_in};
-ghost use Rattle.hlc_ffi.specs.Handle.{OnStorePast, nodes_in_handle};
+ghost use Rattle.hlc_ffi.specs.Handle.{OnStorePast};
 
 use crate::handle::on_core;
 use hlc_calls::{log, records};
@@ -16,7 +15,8 @@ use hlc_core::{ItemRef, Stamp};
 use hlc_handle::{Slot, Store};
 use std::alloc::Global;
 
-/// Writes a node's write as bytes. Returns 0, how many there are and, where they fit, the bytes; or 12 or 13. No memory.
+/// Writes a node's write as bytes. Returns 0, how many there are and, where they fit, the bytes; or 12 or 13. No
+/// memory.
 #[unsafe(no_mangle)]
 pub extern "C" fn hlc_item_encode_write(
     node: u16,
@@ -119,9 +119,8 @@ pub extern "C" fn hlc_store_accept_items(
     many: &mut usize,
     word: &mut u64,
 ) -> u32
-    ensures answer { OnStorePast store.old.value store.new.value ((result ≡ 100) × (used.new ≡ 0) × (many.new ≡ 0)
-        × (word.new ≡ 0)) (λ old new past. AreTaken (nodes old) new bytes.now past result used.new many.new word.new) }
-    ensures nodes { nodes_in_handle store.new.value ≡ nodes_in_handle store.old.value }
+    ensures { OnStorePast store.old.value store.new.value ((result ≡ 100) × (used.new ≡ 0) × (many.new ≡ 0)
+        × (word.new ≡ 0)) (λ old new past. AreTaken new bytes.now past result used.new many.new word.new) }
 {
     on_core!(alloc, store, [used, many, word], |core| {
         log::take_all(core, bytes, used, many, word)
@@ -162,10 +161,9 @@ pub extern "C" fn hlc_store_apply_records(
     threshold: &mut u64,
     word: &mut u64,
 ) -> u32
-    ensures answer { OnStorePast store.old.value store.new.value ((result ≡ 100) × (used.new ≡ 0) × (many.new ≡ 0)
-        × (threshold.new ≡ 0) × (word.new ≡ 0)) (λ old new past. ReturnsApplied (nodes old) new bytes.now past result
+    ensures { OnStorePast store.old.value store.new.value ((result ≡ 100) × (used.new ≡ 0) × (many.new ≡ 0)
+        × (threshold.new ≡ 0) × (word.new ≡ 0)) (λ old new past. ReturnsApplied new bytes.now past result
         used.new many.new threshold.new word.new) }
-    ensures nodes { nodes_in_handle store.new.value ≡ nodes_in_handle store.old.value }
 {
     on_core!(alloc, store, [used, many, threshold, word], |core| {
         records::apply_all(core, bytes, used, many, threshold, word)

@@ -1,7 +1,7 @@
 //! The calls that read a store.
 ghost use Rattle.std.specs.Prelude.{◌≡◌, ◌≢◌, List, length, true, false};
 ghost use Rattle.hlc_core.specs.Past.{closed_all, floor, stamp_of, writes};
-ghost use Rattle.hlc_core.specs.StoreView.{Represents, nodes};
+ghost use Rattle.hlc_core.specs.StoreView.{Represents};
 ghost use Rattle.hlc_calls.specs.Answers.{ReturnsOpened, ReturnsOpenedAtFloor, ReturnsClosed, ReturnsRead};
 ghost use Rattle.hlc_calls.specs.Answers.{ReturnsSizes, narrowed};
 ghost use Rattle.hlc_calls.specs.ReadAll.{ReturnsAll};
@@ -11,7 +11,7 @@ ghost use Rattle.hlc_handle_calls.specs.Views.{IsNowhere, ReturnsView};
 ghost use Rattle.hlc_range_calls.specs.Scan.{ReturnsScan, ReturnsScanBack, ReturnsCount};
 ghost use Rattle.hlc_range_calls.specs.Changes.{ReturnsChanges};
 ghost use Rattle.hlc_range_calls.specs.Versions.{ReturnsVersions};
-ghost use Rattle.hlc_ffi.specs.Handle.{OnStorePast, nodes_in_handle, OnReader, OnReaderPast, OnLoanPast, ListsNothing};
+ghost use Rattle.hlc_ffi.specs.Handle.{OnStorePast, OnReader, OnReaderPast, OnLoanPast, ListsNothing};
 ghost use Rattle.hlc_ffi.specs.Handle.{IsGivenBack};
 
 use crate::handle::{of_core, on_core};
@@ -37,9 +37,8 @@ pub extern "C" fn hlc_snapshot_open(
     id: &mut u64,
 ) -> u32
     ensures answer { OnStorePast store.old.value store.new.value ((result ≡ 100) × (id.new ≡ 0))
-        (λ old new past. ReturnsOpened old new stamp past result id.new) }
-    ensures same { result ≢ 0 → store.new.value ≡ store.old.value }
-    ensures nodes { nodes_in_handle store.new.value ≡ nodes_in_handle store.old.value }
+        (λ old new past. ReturnsOpened new stamp past result id.new) }
+    ensures unchanged { result ≢ 0 → store.new.value ≡ store.old.value }
 {
     on_core!(alloc, store, [id], |core| {
         open_store::open(core, Stamp::from_bits(stamp), id)
@@ -55,10 +54,9 @@ pub extern "C" fn hlc_snapshot_open_at_floor(
     stamp: &mut u64,
 ) -> u32
     ensures answer { OnStorePast store.old.value store.new.value ((result ≡ 100) × (id.new ≡ 0) × (stamp.new ≡ 0))
-        (λ old new past. ReturnsOpenedAtFloor old new past result id.new stamp.new) }
+        (λ old new past. ReturnsOpenedAtFloor new past result id.new stamp.new) }
     ensures nothing { result ≢ 0 → stamp.new ≡ 0 }
-    ensures same { result ≢ 0 → store.new.value ≡ store.old.value }
-    ensures nodes { nodes_in_handle store.new.value ≡ nodes_in_handle store.old.value }
+    ensures unchanged { result ≢ 0 → store.new.value ≡ store.old.value }
 {
     *id = 0;
     *stamp = 0;
@@ -75,7 +73,7 @@ pub extern "C" fn hlc_snapshot_read(
     len: &mut usize,
 ) -> u32
     ensures answer { OnReaderPast store.old.room.value ((result ≡ 100) × (len.new ≡ 0) × (out.new ≡ out.old))
-        (λ core past. ReturnsRead (stamp_of id past) (writes past) key.now result len.new out.old out.new) }
+        (λ past. ReturnsRead (stamp_of id past) (writes past) key.now result len.new out.old out.new) }
     ensures same { IsGivenBack store.old.room store.new.room }
 {
     *len = 0;
@@ -118,8 +116,7 @@ pub extern "C" fn hlc_snapshot_close(
 ) -> u32
     ensures answer { OnStorePast store.old.value store.new.value ((result ≡ 100) × (stamp.new ≡ 0))
         (λ old new past. ReturnsClosed new id past result stamp.new) }
-    ensures same { result ≢ 0 → store.new.value ≡ store.old.value }
-    ensures nodes { nodes_in_handle store.new.value ≡ nodes_in_handle store.old.value }
+    ensures unchanged { result ≢ 0 → store.new.value ≡ store.old.value }
 {
     *stamp = 0;
     on_core!(alloc, store, |core| open_store::close(core, id, stamp))
@@ -128,9 +125,8 @@ pub extern "C" fn hlc_snapshot_close(
 /// Closes all open snapshots. Returns 0. It takes no memory.
 #[unsafe(no_mangle)]
 pub extern "C" fn hlc_snapshot_close_all(alloc: Global, store: &mut Store) -> u32
-    ensures answer { OnStorePast store.old.value store.new.value (result ≡ 100)
+    ensures { OnStorePast store.old.value store.new.value (result ≡ 100)
         (λ old new past. (result ≡ 0) × Represents new (closed_all old.snapshots past)) }
-    ensures nodes { nodes_in_handle store.new.value ≡ nodes_in_handle store.old.value }
 {
     on_core!(alloc, store, |core| {
         core.close_all();
@@ -142,7 +138,7 @@ pub extern "C" fn hlc_snapshot_close_all(alloc: Global, store: &mut Store) -> u3
 #[unsafe(no_mangle)]
 pub extern "C" fn hlc_store_floor(store: &mut Reader, stamp: &mut u64) -> u32
     ensures answer { OnReaderPast store.old.room.value ((result ≡ 100) × (stamp.new ≡ 0))
-        (λ core past. (result ≡ 0) × (stamp.new ≡ floor (nodes core) past)) }
+        (λ past. (result ≡ 0) × (stamp.new ≡ floor past)) }
     ensures same { IsGivenBack store.old.room store.new.room }
 {
     of_core!(store, [stamp], |core| {
@@ -194,7 +190,7 @@ pub extern "C" fn hlc_snapshot_list(
     len: &mut usize,
 ) -> u32
     ensures answer { OnReaderPast store.old.room.value ((result ≡ 100) × (len.new ≡ 0) × (out.new ≡ out.old))
-        (λ core past. ReturnsListing (stamp_of id past) (writes past) result len.new out.old out.new) }
+        (λ past. ReturnsListing (stamp_of id past) (writes past) result len.new out.old out.new) }
     ensures nothing { result ≢ 0 → (len.new ≡ 0) × (out.new ≡ out.old) }
     ensures same { IsGivenBack store.old.room store.new.room }
 {
@@ -214,7 +210,7 @@ pub extern "C" fn hlc_snapshot_scan(
     many: &mut usize,
 ) -> u32
     ensures answer { OnReaderPast store.old.room.value
-        (ListsNothing result len.new many.new out.old out.new) (λ core past. ReturnsScan false
+        (ListsNothing result len.new many.new out.old out.new) (λ past. ReturnsScan false
         (stamp_of id past) (writes past) from.now to.now result len.new many.new out.old out.new) }
     ensures same { IsGivenBack store.old.room store.new.room }
 {
@@ -235,7 +231,7 @@ pub extern "C" fn hlc_snapshot_scan_keys(
     many: &mut usize,
 ) -> u32
     ensures answer { OnReaderPast store.old.room.value
-        (ListsNothing result len.new many.new out.old out.new) (λ core past. ReturnsScan true
+        (ListsNothing result len.new many.new out.old out.new) (λ past. ReturnsScan true
         (stamp_of id past) (writes past) from.now to.now result len.new many.new out.old out.new) }
     ensures same { IsGivenBack store.old.room store.new.room }
 {
@@ -257,7 +253,7 @@ pub extern "C" fn hlc_snapshot_scan_back(
     many: &mut usize,
 ) -> u32
     ensures answer { OnReaderPast store.old.room.value
-        (ListsNothing result len.new many.new out.old out.new) (λ core past. ReturnsScanBack
+        (ListsNothing result len.new many.new out.old out.new) (λ past. ReturnsScanBack
         (stamp_of id past) (writes past) from.now to.now result len.new many.new out.old out.new) }
     ensures same { IsGivenBack store.old.room store.new.room }
 {
@@ -281,7 +277,7 @@ pub extern "C" fn hlc_snapshot_changes(
     many: &mut usize,
 ) -> u32
     ensures answer { OnReaderPast store.old.room.value (ListsNothing result len.new many.new out.old out.new)
-        (λ core past. ReturnsChanges (stamp_of before past) (stamp_of after past) (writes past)
+        (λ past. ReturnsChanges (stamp_of before past) (stamp_of after past) (writes past)
         from.now to.now result len.new many.new out.old out.new) }
     ensures same { IsGivenBack store.old.room store.new.room }
 {
@@ -322,7 +318,7 @@ pub extern "C" fn hlc_snapshot_count(
     many: &mut u64,
 ) -> u32
     ensures answer { OnReaderPast store.old.room.value ((result ≡ 100) × (many.new ≡ 0))
-        (λ core past. ReturnsCount (stamp_of id past) (writes past) from.now to.now result many.new) }
+        (λ past. ReturnsCount (stamp_of id past) (writes past) from.now to.now result many.new) }
     ensures same { IsGivenBack store.old.room store.new.room }
 {
     of_core!(store, [many], |core| count(core, id, from, to, many))
@@ -340,7 +336,7 @@ pub extern "C" fn hlc_snapshot_digest(
     len: &mut usize,
 ) -> u32
     ensures answer { OnReaderPast store.old.room.value ((result ≡ 100) × (len.new ≡ 0) × (out.new ≡ out.old))
-        (λ core past. ReturnsDigest (stamp_of id past) (writes past) from.now to.now result len.new out.old out.new) }
+        (λ past. ReturnsDigest (stamp_of id past) (writes past) from.now to.now result len.new out.old out.new) }
     ensures same { IsGivenBack store.old.room store.new.room }
 {
     of_core!(store, [len], |core| digest(core, id, from, to, out, len))
@@ -360,7 +356,7 @@ pub extern "C" fn hlc_snapshot_read_all(
     many: &mut usize,
 ) -> u32
     ensures answer { OnReaderPast store.old.room.value
-        (ListsNothing result len.new many.new out.old out.new) (λ core past. ReturnsAll
+        (ListsNothing result len.new many.new out.old out.new) (λ past. ReturnsAll
         (stamp_of id past) (writes past) places.now bytes.now result len.new many.new out.old out.new) }
     ensures same { IsGivenBack store.old.room store.new.room }
 {

@@ -1,7 +1,6 @@
 //! What a store has: its horizon, its nodes and its open snapshots. No call takes memory.
 ghost use Rattle.std.specs.Prelude.{◌≡◌, List, false, slice_get};
 ghost use Rattle.hlc_core.specs.Past.{horizon, numbered, open_snapshots};
-ghost use Rattle.hlc_core.specs.StoreView.{nodes};
 ghost use Rattle.hlc_calls.specs.Status.{ReturnsLink, ReturnsHolder, ReturnsSnapshot};
 ghost use Rattle.hlc_ffi.specs.Handle.{OnReaderPast, IsGivenBack};
 
@@ -13,7 +12,7 @@ use hlc_handle::Reader;
 #[unsafe(no_mangle)]
 pub extern "C" fn hlc_store_horizon(store: &mut Reader, stamp: &mut u64) -> u32
     ensures answer { OnReaderPast store.old.room.value ((result ≡ 100) × (stamp.new ≡ 0))
-        (λ core past. (result ≡ 0) × (stamp.new ≡ horizon past)) }
+        (λ past. (result ≡ 0) × (stamp.new ≡ horizon past)) }
     ensures same { IsGivenBack store.old.room store.new.room }
 {
     of_core!(store, [stamp], |core| {
@@ -26,7 +25,7 @@ pub extern "C" fn hlc_store_horizon(store: &mut Reader, stamp: &mut u64) -> u32
 #[unsafe(no_mangle)]
 pub extern "C" fn hlc_store_nodes(store: &mut Reader, many: &mut u64) -> u32
     ensures answer { OnReaderPast store.old.room.value ((result ≡ 100) × (many.new ≡ 0))
-        (λ core past. (result ≡ 0) × (many.new ≡ numbered (nodes core) past)) }
+        (λ past. (result ≡ 0) × (many.new ≡ numbered past)) }
     ensures same { IsGivenBack store.old.room store.new.room }
 {
     of_core!(store, [many], |core| {
@@ -45,7 +44,7 @@ pub extern "C" fn hlc_store_link(
     retired: &mut bool,
 ) -> u32
     ensures answer { OnReaderPast store.old.room.value ((result ≡ 100) × (next.new ≡ 0) × (head.new ≡ 0) × (retired.new
-        ≡ false)) (λ core past. ReturnsLink (nodes core) node past result next.new head.new retired.new) }
+        ≡ false)) (λ past. ReturnsLink node past result next.new head.new retired.new) }
     ensures same { IsGivenBack store.old.room store.new.room }
 {
     *next = 0;
@@ -58,7 +57,7 @@ pub extern "C" fn hlc_store_link(
 #[unsafe(no_mangle)]
 pub extern "C" fn hlc_store_floor_node(store: &mut Reader, node: &mut u64) -> u32
     ensures answer { OnReaderPast store.old.room.value ((result ≡ 100) × (node.new ≡ 0))
-        (λ core past. ReturnsHolder (nodes core) past result node.new) }
+        (λ past. ReturnsHolder past result node.new) }
     ensures same { IsGivenBack store.old.room store.new.room }
 {
     of_core!(store, [node], |core| status::floor_node(core, node))
@@ -72,7 +71,7 @@ pub extern "C" fn hlc_snapshot_at_place(
     id: &mut u64,
     stamp: &mut u64,
 ) -> u32
-    ensures answer { OnReaderPast store.old.room.value ((result ≡ 100) × (id.new ≡ 0) × (stamp.new ≡ 0)) (λ core past.
+    ensures answer { OnReaderPast store.old.room.value ((result ≡ 100) × (id.new ≡ 0) × (stamp.new ≡ 0)) (λ past.
         ReturnsSnapshot (slice_get (open_snapshots past) place) result id.new stamp.new) }
     ensures same { IsGivenBack store.old.room store.new.room }
 {

@@ -1,9 +1,9 @@
 //! The version of the library, and its answers in words.
 ghost use Rattle.std.specs.Prelude.{◌≡◌, length};
 ghost use Rattle.hlc_calls.specs.Answers.{IsCopied};
-ghost use Rattle.hlc_answers.specs.Texts.{answer_name, answer_text};
+ghost use Rattle.hlc_calls.specs.Texts.{answer_name, answer_text};
 
-use hlc_answers::{name, text};
+use hlc_calls::answers::{name, text};
 use hlc_calls::open_store::fill;
 
 /// Returns the version of the library: 10,000 times its first number, 100 times the second, and the third.

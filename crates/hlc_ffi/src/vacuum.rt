@@ -6,7 +6,7 @@ ghost use Rattle.hlc_calls.specs.Answers.{ReturnsVacuumedAtFloor, ReturnsVacuume
 ghost use Rattle.hlc_calls.specs.Answers.{ReturnsVacuumedPart};
 ghost use Rattle.hlc_calls.specs.Check.{ReturnsCheck};
 ghost use Rattle.hlc_calls.specs.Certified.{ReturnsCertificate, ReturnsNoCertificate};
-ghost use Rattle.hlc_ffi.specs.Handle.{OnStore, nodes_in_handle, OnReader, IsGivenBack};
+ghost use Rattle.hlc_ffi.specs.Handle.{OnStore, OnReader, IsGivenBack};
 ghost use Rattle.hlc_ffi.specs.Outputs.{OnOutput};
 
 use crate::handle::{into_output, of_core, on_core};
@@ -31,8 +31,7 @@ pub extern "C" fn hlc_store_vacuum(
         → Represents old past → ReturnsVacuumedAtFloor old new past floor.new kept.new bytes.new dropped.new) }
     ensures shortage { OnStore store.old.value store.new.value (result ≡ 100) (λ old new. result ≢ 0 → result ≡ 15) }
     ensures nothing { result ≢ 0 → (floor.new ≡ 0) × (kept.new ≡ 0) × (bytes.new ≡ 0) × (dropped.new ≡ 0) }
-    ensures same { result ≢ 0 → store.new.value ≡ store.old.value }
-    ensures nodes { nodes_in_handle store.new.value ≡ nodes_in_handle store.old.value }
+    ensures unchanged { result ≢ 0 → store.new.value ≡ store.old.value }
 {
     on_core!(alloc, store, [floor, kept, bytes, dropped], |core| {
         open_store::vacuum(core, floor, kept, bytes, dropped)
@@ -44,7 +43,7 @@ pub extern "C" fn hlc_store_vacuum(
 #[unsafe(no_mangle)]
 pub extern "C" fn hlc_store_check_vacuum(store: &mut Reader, at: u64, word: &mut u64) -> u32
     ensures answer { OnReader store.old.room.value ((result ≡ 100) × (word.new ≡ 0)) (λ core. (past : List Step)
-        → Represents core past → ReturnsVacuumChecked core at past result word.new) }
+        → Represents core past → ReturnsVacuumChecked at past result word.new) }
     ensures same { IsGivenBack store.old.room store.new.room }
 {
     let at = Stamp::from_bits(at);
@@ -71,8 +70,7 @@ pub extern "C" fn hlc_store_vacuum_to(
         ((result ≡ 100) × (word.new ≡ 0)) (λ old new. (past : List Step) → Represents old past
         → ReturnsVacuumedTo old new at past result word.new kept.new bytes.new dropped.new) }
     ensures nothing { result ≢ 0 → (kept.new ≡ 0) × (bytes.new ≡ 0) × (dropped.new ≡ 0) }
-    ensures same { result ≢ 0 → store.new.value ≡ store.old.value }
-    ensures nodes { nodes_in_handle store.new.value ≡ nodes_in_handle store.old.value }
+    ensures unchanged { result ≢ 0 → store.new.value ≡ store.old.value }
 {
     let at = Stamp::from_bits(at);
     on_core!(alloc, store, [word, kept, bytes, dropped], |core| {
@@ -103,8 +101,7 @@ pub extern "C" fn hlc_store_vacuum_part(
         dropped.new len.new more.new out.old out.new) }
     ensures nothing { result ≢ 0 → (kept.new ≡ 0) × (bytes.new ≡ 0) × (dropped.new ≡ 0)
         × (len.new ≡ 0) × (more.new ≡ false) × (out.new ≡ out.old) }
-    ensures same { result ≢ 0 → store.new.value ≡ store.old.value }
-    ensures nodes { nodes_in_handle store.new.value ≡ nodes_in_handle store.old.value }
+    ensures unchanged { result ≢ 0 → store.new.value ≡ store.old.value }
 {
     *more = false;
     let at = Stamp::from_bits(at);

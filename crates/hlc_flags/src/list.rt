@@ -63,7 +63,7 @@ impl FlagList {
     /// Appends a flag.
     pub fn push(&mut self, flag: bool) -> Result<(), NoMemory>
         ensures ok { OnOk result (self.new ≡ self.old ++ flag ∷ []) }
-        ensures err { OnErr result (self.new ≡ self.old) }
+        ensures unchanged { OnErr result (self.new ≡ self.old) }
     {
         let len = self.len.checked_add(1).ok_or(NoMemory)?;
         if self.len % WORD == 0 {

@@ -23,7 +23,7 @@ impl FrameWriter {
     pub fn begin(out: &mut Vec<u8>, length: u64, word: u64) -> Result<FrameWriter, AllocError>
         ensures put { IfOk result (λ writer. HasPut writer (front_bytes length word) []) }
         ensures front { OnOk result (out.new.items ≡ out.old.items ++ front_bytes length word) }
-        ensures err { OnErr result (out.new.items ≡ out.old.items) }
+        ensures unchanged { OnErr result (out.new.items ≡ out.old.items) }
     {
         let front = front_of(length, word);
         let mut hasher = Sha256::new();
@@ -44,7 +44,7 @@ impl FrameWriter {
     pub fn end(self, out: &mut Vec<u8>) -> Result<(), AllocError>
         ensures ok { (front body : List ℕ) → HasPut self front body
             → OnOk result (out.new.items ≡ out.old.items ++ sha256 (front ++ body)) }
-        ensures err { OnErr result (out.new.items ≡ out.old.items) }
+        ensures unchanged { OnErr result (out.new.items ≡ out.old.items) }
     {
         self.append_digest(out)
     }
@@ -55,7 +55,7 @@ impl FrameWriter {
         ensures ok { (front body : List ℕ) → HasPut self.now front body
             → OnOk result (out.new.items ≡ out.old.items ++ sha256 (front ++ body)) }
         ensures long { OnOk result (length out.new.items ≡ length out.old.items + 32) }
-        ensures err { OnErr result (out.new.items ≡ out.old.items) }
+        ensures unchanged { OnErr result (out.new.items ≡ out.old.items) }
     {
         let digest = self.hasher.clone()?.finalize();
         out.extend_from_slice(&digest)?;

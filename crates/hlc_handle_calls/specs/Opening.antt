@@ -1,17 +1,17 @@
 -- A store before and after it is opened, with its nodes or from bytes.
-use Rattle.std.specs.Prelude.{◌≡◌, ℕ, List, [], Option, Some, None, MatchOption}
-use Rattle.hlc_core.specs.Past.{Step}
-use Rattle.hlc_core.specs.StoreView.{StoreView, Represents, nodes}
+use Rattle.std.specs.Prelude.{◌≡◌, ℕ, List, [], ◌∷◌, Option, Some, None, MatchOption}
+use Rattle.hlc_core.specs.Past.{Step, Started}
+use Rattle.hlc_core.specs.StoreView.{StoreView, Represents}
 use Rattle.hlc_core.specs.Calls.{new_refusal}
 use Rattle.hlc_calls.specs.Saved.{IsMade, IsNotMade}
 
--- A closed store was opened, and nothing took place in it; or it stays closed, because of the number of its nodes, or
--- because it ran out of memory. An open one is unchanged.
+-- A closed store was opened with this many nodes, and nothing else took place in it; or it stays closed, because of
+-- their number, or because it ran out of memory. An open one is unchanged.
 abbrev pub IsOpening : Option StoreView → Option StoreView → ℕ → ℕ → Type 0
 IsOpening (Some before) new count code = (code ≡ 101) × (new ≡ Some before)
 IsOpening None new count code =
     MatchOption new (MatchOption (new_refusal count) (code ≡ 15) (λ fault. code ≡ 114)) (λ core. (code ≡ 0)
-    × (nodes core ≡ count) × (new_refusal count ≡ None) × Represents core [])
+    × (new_refusal count ≡ None) × Represents core (Started count ∷ []))
 
 -- A closed store was opened from bytes, with exactly the state that they contain, and their word is returned; or it
 -- stays closed, for the first reason or because it ran out of memory. An open one is unchanged.

@@ -1,8 +1,10 @@
 -- The links of all nodes, and the floor, which is the least of their heads.
-use Rattle.std.specs.Prelude.{◌≡◌, ℕ, ◌<◌, ◌≤◌, ◌⊎◌, ◌++◌, Bool, true, false, List, [], ◌∷◌, length}
+use Rattle.std.specs.Prelude.{◌≡◌, ℕ, ◌+◌, ◌==◌, ◌<◌, ◌≤◌, ◌⊎◌, ◌++◌, if◌then◌else◌, Bool, true, false, List, [], ◌∷◌}
+use Rattle.std.specs.Prelude.{length}
 use Rattle.std.specs.Prelude.{max, replicate}
 use Rattle.std.specs.Prelude.{slice_set, slice_index_or, Result, Ok, Err}
 use Rattle.hlc_intake.specs.IntakeView.{IntakeView}
+use Rattle.hlc_values.specs.declared.bounds.TheConstants.{NUMBER_BOUND}
 use Rattle.hlc_heads.specs.Low.{low}
 use Rattle.hlc_heads.specs.declared.heads.TheConstants.{MAX_INITIAL_NODES, MAX_NODES}
 use Rattle.hlc_heads.specs.declared.heads.HeadsFault.{HeadsFault}
@@ -42,9 +44,13 @@ link_at links node = slice_index_or links node no_link
 abbrev pub advanced : HeadsView → ℕ → IntakeView → HeadsView
 advanced marks node link = record { links = slice_set marks.links node link; top = max marks.top link.head }
 
--- the links after an item of this node with this stamp was accepted, which may be the node's last one
+-- the number after this one; there is none after the last
+abbrev pub number_after : ℕ → ℕ
+number_after number = if number == NUMBER_BOUND then number else number + 1
+
+-- the links after the next item of this node, with this stamp, was accepted, which may be the node's last one
 abbrev pub marked : HeadsView → ℕ → ℕ → Bool → HeadsView
-marked marks node stamp last = advanced marks node (a_link (link_at marks.links node).next stamp last)
+marked marks node stamp last = advanced marks node (a_link (number_after (link_at marks.links node).next) stamp last)
 
 -- the links with one more, whose head is its start
 abbrev pub joined : HeadsView → ℕ → HeadsView

@@ -4,8 +4,8 @@ ghost use Rattle.std.specs.Prelude.{◌≡◌};
 use hlc_clock::Stamp;
 use std::marker::Model;
 
-/// An accepted item: its node and its stamp, which is or was the node's head. Only `Heads::advance`, `raise` and
-/// `retire` make one.
+/// An accepted item: its node and its stamp, which is or was the node's head. Only `Heads::raise` and `Heads::retire`
+/// make one.
 #[derive(Clone, Copy, PartialEq, Eq, Debug)]
 pub struct Accepted {
     node: u16,

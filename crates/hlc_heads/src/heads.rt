@@ -11,12 +11,14 @@ ghost use Rattle.hlc_heads.specs.Heads.{
   advanced,
   link_at,
   marked,
+  number_after,
 };
 
 use crate::accepted::Accepted;
 use crate::groups::{GROUP, groups_of, least_of, lower, regroup};
 use hlc_clock::Stamp;
 use hlc_intake::Intake;
+use hlc_values::NUMBER_BOUND;
 use std::alloc::Global;
 use std::error::Error;
 use std::fmt;
@@ -193,8 +195,8 @@ impl Heads {
         self.links[node as usize].retired()
     }
 
-    /// Makes the stamp of an accepted item the head of its node. The node is below the number of
-    /// nodes and has not retired, and the stamp is above its head.
+    /// Makes the stamp of a node's next item, which was accepted, its head. The node is below the number of nodes and
+    /// has not retired, and the stamp is above its head.
     pub fn raise(&mut self, node: u16, stamp: Stamp) -> Accepted
         requires node { node < length self.old.links }
         requires open { (link_at self.old.links node).retired ≡ false }
@@ -202,8 +204,9 @@ impl Heads {
         ensures raised { self.new ≡ marked self.old node stamp false }
         ensures accepted { result ≡ record { node = node; stamp = stamp; retires = false } }
     {
-        let next = self.links[node as usize].next();
-        self.advance(node, Intake::resuming(next, stamp, false))
+        let number = number_after(self.links[node as usize].next());
+        self.advance(node, Intake::resuming(number, stamp, false));
+        Accepted::new(node, stamp, false)
     }
 
     /// Makes the stamp of a node's last accepted item its head, and no longer counts the node in
@@ -216,19 +219,33 @@ impl Heads {
         ensures retired { self.new ≡ marked self.old node stamp true }
         ensures accepted { result ≡ record { node = node; stamp = stamp; retires = true } }
     {
-        let next = self.links[node as usize].next();
-        self.advance(node, Intake::resuming(next, stamp, true))
+        let number = number_after(self.links[node as usize].next());
+        self.advance(node, Intake::resuming(number, stamp, true));
+        Accepted::new(node, stamp, true)
     }
 
-    /// Puts the progress of a node's link after it admitted an item: the stamp of the item is its head. The node is
-    /// below the number of nodes and has not retired, and the stamp is above its head. The floor is computed again only
-    /// if it was the node's head; otherwise it does not change.
-    pub fn advance(&mut self, node: u16, link: Intake) -> Accepted
+    /// Accepts the next item of a node, with this stamp: `retire` if the node retires by it, and `raise` otherwise.
+    pub fn accept(&mut self, node: u16, stamp: Stamp, retires: bool) -> Accepted
+        requires node { node < length self.old.links }
+        requires open { (link_at self.old.links node).retired ≡ false }
+        requires rising { (link_at self.old.links node).head < stamp }
+        ensures marked { self.new ≡ marked self.old node stamp retires }
+        ensures accepted { result ≡ record { node = node; stamp = stamp; retires = retires } }
+    {
+        if retires {
+            self.retire(node, stamp)
+        } else {
+            self.raise(node, stamp)
+        }
+    }
+
+    /// Puts the progress of a node's link after it admitted an item. The floor is computed again only if it was the
+    /// node's head; otherwise it does not change.
+    fn advance(&mut self, node: u16, link: Intake)
         requires node { node < length self.old.links }
         requires open { (link_at self.old.links node).retired ≡ false }
         requires rising { (link_at self.old.links node).head < link.head }
-        ensures advanced { self.new ≡ advanced self.old node link }
-        ensures accepted { result ≡ record { node = node; stamp = link.head; retires = link.retired } }
+        ensures { self.new ≡ advanced self.old node link }
     {
         let place = node as usize;
         let was = self.links[place].head();
@@ -238,7 +255,6 @@ impl Heads {
         if was == self.floor {
             self.floor = least_of(&self.groups).unwrap_or(self.top);
         }
-        Accepted::new(node, link.head(), link.retired())
     }
 
     /// Adds a node, which is assigned the next number and starts at the floor, its first head. So
@@ -281,12 +297,23 @@ impl Heads {
 
     /// Returns the floor: the least head of the nodes that have not retired, or the greatest stamp of an accepted item
     /// if all have. It never falls, and every item that is accepted later has a stamp above it. It is stored, so this
-    /// call costs the same however many nodes have joined and retired: `advance` updates it. It scans 32 heads
+    /// call costs the same however many nodes have joined and retired: `accept` updates it. It scans 32 heads
     /// if the node had the least head of its group, and 32 groups if that head was the floor.
     pub fn floor(&self) -> Stamp
         ensures { IsFloor self.now result }
     {
         self.floor
+    }
+}
+
+/// Returns the number after this one, or this one if it is the last.
+fn number_after(number: u64) -> u64
+    ensures { result ≡ number_after number }
+{
+    if number == NUMBER_BOUND {
+        number
+    } else {
+        number + 1
     }
 }
 

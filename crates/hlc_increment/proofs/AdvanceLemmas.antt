@@ -30,9 +30,11 @@ use Rattle.hlc_witness.specs.Certificate.{RowsAscend}
 use Rattle.hlc_witness.proofs.CertificateLemmas.{ascending_rows_are_a_row_set}
 use Rattle.hlc_checkpoint.specs.Sorted.{rows_above}
 use Rattle.hlc_checkpoint.proofs.CheckpointLemmas.{row_set-moved, sound-has_no_reason}
-use Rattle.hlc_core.specs.Past.{Step, Took, Opened, Closed, Vacuumed, PartVacuumed, Joined, floor, horizon, vacuumed}
-use Rattle.hlc_core.specs.Past.{numbered, part_dropped, opened, open_snapshots, writes, item_rows, body_rows, IsLegal}
-use Rattle.hlc_core.specs.StoreView.{StoreView, nodes, with_rows_left, Represents}
+use Rattle.hlc_core.specs.Past.{Step, Started, Took, Opened, Closed, Vacuumed, PartVacuumed, Joined, floor, horizon}
+use Rattle.hlc_core.specs.Past.{vacuumed}
+use Rattle.hlc_core.specs.Past.{initial_nodes, numbered, part_dropped, opened, open_snapshots, writes, item_rows}
+use Rattle.hlc_core.specs.Past.{body_rows, IsLegal}
+use Rattle.hlc_core.specs.StoreView.{StoreView, with_rows_left, Represents}
 use Rattle.hlc_core.specs.Checkpoint.{IsCheckpoint, floor_in}
 use Rattle.hlc_core.proofs.PastLemmas.{above_floor, body_rows-are, open-above, vacuum-above, vacuumed-low}
 use Rattle.hlc_core.proofs.StayLemmas.{answers-stay, floor-never_falls}
@@ -44,19 +46,20 @@ use Rattle.hlc_increment.proofs.AgreeLemmas.{drops-agree, drops-legal, drops-par
 use Rattle.hlc_increment.proofs.AgreeLemmas.{drops-last_changes}
 
 -- the horizon never falls
-horizon-grows : (nodes : ℕ) (past more : List Step) → IsLegal nodes (more ++ past)
+horizon-grows : (past more : List Step) → IsLegal (more ++ past)
     → horizon past ≤ horizon (more ++ past)
-horizon-grows nodes past [] legal = omega arith
-horizon-grows nodes past (Took item ∷ more) legal = horizon-grows nodes past more legal.1
-horizon-grows nodes past (Opened stamp ∷ more) legal = horizon-grows nodes past more legal.1
-horizon-grows nodes past (Closed id ∷ more) legal = horizon-grows nodes past more legal.1
-horizon-grows nodes past (Vacuumed at ∷ more) legal =
-    let before = horizon-grows nodes past more legal.1 in
-    let up : horizon (more ++ past) ≤ at = vacuum-above nodes (more ++ past) at legal.0 in omega (arith, before)
-horizon-grows nodes past (PartVacuumed at dropped ∷ more) legal =
-    let before = horizon-grows nodes past more legal.1 in
-    let up : horizon (more ++ past) ≤ at = vacuum-above nodes (more ++ past) at legal.0 in omega (arith, before)
-horizon-grows nodes past (Joined node start ∷ more) legal = horizon-grows nodes past more legal.3
+horizon-grows past [] legal = omega arith
+horizon-grows past (Took item ∷ more) legal = horizon-grows past more legal.1
+horizon-grows past (Opened stamp ∷ more) legal = horizon-grows past more legal.1
+horizon-grows past (Started nodes ∷ more) legal = horizon-grows past more legal.1
+horizon-grows past (Closed id ∷ more) legal = horizon-grows past more legal.1
+horizon-grows past (Vacuumed at ∷ more) legal =
+    let before = horizon-grows past more legal.1 in
+    let up : horizon (more ++ past) ≤ at = vacuum-above (more ++ past) at legal.0 in omega (arith, before)
+horizon-grows past (PartVacuumed at dropped ∷ more) legal =
+    let before = horizon-grows past more legal.1 in
+    let up : horizon (more ++ past) ≤ at = vacuum-above (more ++ past) at legal.0 in omega (arith, before)
+horizon-grows past (Joined node start ∷ more) legal = horizon-grows past more legal.3
 
 -- accepted writes are kept
 writes-kept : (past more : List Step) (row : Row) → Contains (writes past) row → Contains (writes (more ++ past)) row
@@ -64,36 +67,38 @@ writes-kept past [] row m = m
 writes-kept past (Took item ∷ more) row m =
     Contains-append_left (writes (more ++ past)) (item_rows item) row (writes-kept past more row m)
 writes-kept past (Opened stamp ∷ more) row m = writes-kept past more row m
+writes-kept past (Started nodes ∷ more) row m = writes-kept past more row m
 writes-kept past (Closed id ∷ more) row m = writes-kept past more row m
 writes-kept past (Vacuumed at ∷ more) row m = writes-kept past more row m
 writes-kept past (PartVacuumed at dropped ∷ more) row m = writes-kept past more row m
 writes-kept past (Joined node start ∷ more) row m = writes-kept past more row m
 
 -- an item that is accepted later is above the floor
-later-above : (nodes : ℕ) (past more : List Step) (item : Item) → IsLegal nodes (Took item ∷ (more ++ past))
-    → floor nodes past < item.stamp
-later-above nodes past more item legal =
-    let up : floor nodes (more ++ past) < item.stamp = above_floor nodes (more ++ past) item legal.0 in
-    let rose : floor nodes past ≤ floor nodes (more ++ past) = floor-never_falls nodes past more legal.1 in omega arith
+later-above : (past more : List Step) (item : Item) → IsLegal (Took item ∷ (more ++ past))
+    → floor past < item.stamp
+later-above past more item legal =
+    let up : floor (more ++ past) < item.stamp = above_floor (more ++ past) item legal.0 in
+    let rose : floor past ≤ floor (more ++ past) = floor-never_falls past more legal.1 in omega arith
 
 -- and a write at or below it was accepted before
-writes-before : (nodes : ℕ) (past more : List Step) (row : Row) → IsLegal nodes (more ++ past)
-    → Contains (writes (more ++ past)) row → row.stamp ≤ floor nodes past → Contains (writes past) row
-writes-before nodes past [] row legal m low = m
-writes-before nodes past (Took item ∷ more) row legal m low =
+writes-before : (past more : List Step) (row : Row) → IsLegal (more ++ past)
+    → Contains (writes (more ++ past)) row → row.stamp ≤ floor past → Contains (writes past) row
+writes-before past [] row legal m low = m
+writes-before past (Took item ∷ more) row legal m low =
     elim (Contains-append_cases (writes (more ++ past)) (item_rows item) row m) [
-      | inl before ↦ writes-before nodes past more row legal.1 before low
+      | inl before ↦ writes-before past more row legal.1 before low
       | inr new ↦ absurd (let at : row.stamp ≡ item.stamp =
           (body_rows-are item.node item.stamp item.body row new).1 in
-          let up = later-above nodes past more item legal in omega (arith, at, up))
+          let up = later-above past more item legal in omega (arith, at, up))
     ]
-writes-before nodes past (Opened stamp ∷ more) row legal m low = writes-before nodes past more row legal.1 m low
-writes-before nodes past (Closed id ∷ more) row legal m low = writes-before nodes past more row legal.1 m low
-writes-before nodes past (Vacuumed at ∷ more) row legal m low = writes-before nodes past more row legal.1 m low
-writes-before nodes past (PartVacuumed at dropped ∷ more) row legal m low =
-    writes-before nodes past more row legal.1 m low
-writes-before nodes past (Joined node start ∷ more) row legal m low =
-    writes-before nodes past more row legal.3 m low
+writes-before past (Opened stamp ∷ more) row legal m low = writes-before past more row legal.1 m low
+writes-before past (Started nodes ∷ more) row legal m low = writes-before past more row legal.1 m low
+writes-before past (Closed id ∷ more) row legal m low = writes-before past more row legal.1 m low
+writes-before past (Vacuumed at ∷ more) row legal m low = writes-before past more row legal.1 m low
+writes-before past (PartVacuumed at dropped ∷ more) row legal m low =
+    writes-before past more row legal.1 m low
+writes-before past (Joined node start ∷ more) row legal m low =
+    writes-before past more row legal.3 m low
 
 -- the rows of a batch have its stamp
 batch-above : (low high node at : ℕ) (writes : List AWrite) → high < at
@@ -109,27 +114,29 @@ none-between low high node at (Batch writes) up = batch-above low high node at w
 none-between low high node at Report up = refl
 none-between low high node at Retire up = refl
 
-between-stays : (nodes : ℕ) (past more : List Step) (low high : ℕ) → IsLegal nodes (more ++ past)
-    → high ≤ floor nodes past → count_between low high (writes (more ++ past)) ≡ count_between low high (writes past)
-between-stays nodes past [] low high legal under = refl
-between-stays nodes past (Took item ∷ more) low high legal under =
-    let up = later-above nodes past more item legal in
-    let old = between-stays nodes past more low high legal.1 under in
+between-stays : (past more : List Step) (low high : ℕ) → IsLegal (more ++ past)
+    → high ≤ floor past → count_between low high (writes (more ++ past)) ≡ count_between low high (writes past)
+between-stays past [] low high legal under = refl
+between-stays past (Took item ∷ more) low high legal under =
+    let up = later-above past more item legal in
+    let old = between-stays past more low high legal.1 under in
     let none = none-between low high item.node item.stamp item.body (omega (arith, up)) in
     let is_in : Row → Bool = λ row. ltb low row.stamp && leb row.stamp high in
     let both = ap length (filter-append is_in (writes (more ++ past)) (item_rows item))
     ∙ length-append (filter is_in (writes (more ++ past))) (filter is_in (item_rows item)) in
     omega (arith, old, none, both)
-between-stays nodes past (Opened stamp ∷ more) low high legal under =
-    between-stays nodes past more low high legal.1 under
-between-stays nodes past (Closed id ∷ more) low high legal under =
-    between-stays nodes past more low high legal.1 under
-between-stays nodes past (Vacuumed at ∷ more) low high legal under =
-    between-stays nodes past more low high legal.1 under
-between-stays nodes past (PartVacuumed at dropped ∷ more) low high legal under =
-    between-stays nodes past more low high legal.1 under
-between-stays nodes past (Joined node start ∷ more) low high legal under =
-    between-stays nodes past more low high legal.3 under
+between-stays past (Opened stamp ∷ more) low high legal under =
+    between-stays past more low high legal.1 under
+between-stays past (Started nodes ∷ more) low high legal under =
+    between-stays past more low high legal.1 under
+between-stays past (Closed id ∷ more) low high legal under =
+    between-stays past more low high legal.1 under
+between-stays past (Vacuumed at ∷ more) low high legal under =
+    between-stays past more low high legal.1 under
+between-stays past (PartVacuumed at dropped ∷ more) low high legal under =
+    between-stays past more low high legal.1 under
+between-stays past (Joined node start ∷ more) low high legal under =
+    between-stays past more low high legal.3 under
 
 -- a snapshot below the horizon was open before
 stamps-push : (snapshots : List Snapshot) (new : Snapshot) (stamp : ℕ) → Contains (stamps (snapshots ++ new ∷ [])) stamp
@@ -161,25 +168,26 @@ stamps-without id (one ∷ snapshots) stamp m =
       | false ↦ λ m. Contains-rest one.stamp stamp (stamps snapshots) (rest m)
     ] m
 
-open-before : (nodes : ℕ) (past more : List Step) (stamp : ℕ) → IsLegal nodes (more ++ past)
+open-before : (past more : List Step) (stamp : ℕ) → IsLegal (more ++ past)
     → Contains (stamps (open_snapshots (more ++ past))) stamp → stamp < horizon past
     → Contains (stamps (open_snapshots past)) stamp
-open-before nodes past [] stamp legal m low = m
-open-before nodes past (Opened at ∷ more) stamp legal m low =
+open-before past [] stamp legal m low = m
+open-before past (Opened at ∷ more) stamp legal m low =
     elim (stamps-push (open_snapshots (more ++ past)) (record { id = opened (more ++ past) + 1; stamp = at }) stamp m) [
-      | inl old ↦ open-before nodes past more stamp legal.1 old low
-      | inr new ↦ absurd (let up : horizon (more ++ past) ≤ at = open-above nodes (more ++ past) at legal.0 in
-          let grown = horizon-grows nodes past more legal.1 in
+      | inl old ↦ open-before past more stamp legal.1 old low
+      | inr new ↦ absurd (let up : horizon (more ++ past) ≤ at = open-above (more ++ past) at legal.0 in
+          let grown = horizon-grows past more legal.1 in
           let e : at ≡ stamp = new in omega (arith, grown))
     ]
-open-before nodes past (Closed id ∷ more) stamp legal m low =
-    open-before nodes past more stamp legal.1 (stamps-without id (open_snapshots (more ++ past)) stamp m) low
-open-before nodes past (Took item ∷ more) stamp legal m low = open-before nodes past more stamp legal.1 m low
-open-before nodes past (Vacuumed at ∷ more) stamp legal m low = open-before nodes past more stamp legal.1 m low
-open-before nodes past (PartVacuumed at dropped ∷ more) stamp legal m low =
-    open-before nodes past more stamp legal.1 m low
-open-before nodes past (Joined node start ∷ more) stamp legal m low =
-    open-before nodes past more stamp legal.3 m low
+open-before past (Started nodes ∷ more) stamp legal m low = open-before past more stamp legal.1 m low
+open-before past (Closed id ∷ more) stamp legal m low =
+    open-before past more stamp legal.1 (stamps-without id (open_snapshots (more ++ past)) stamp m) low
+open-before past (Took item ∷ more) stamp legal m low = open-before past more stamp legal.1 m low
+open-before past (Vacuumed at ∷ more) stamp legal m low = open-before past more stamp legal.1 m low
+open-before past (PartVacuumed at dropped ∷ more) stamp legal m low =
+    open-before past more stamp legal.1 m low
+open-before past (Joined node start ∷ more) stamp legal m low =
+    open-before past more stamp legal.3 m low
 
 -- two row sets that have no version in common are one
 both-row_set : (rows more : List Row) → IsRowSet rows → IsRowSet more
@@ -221,14 +229,10 @@ joined since older upper = rows_to since older ++ upper
 
 -- the upper rows are the rows of a store above the stamp
 module _ (since : ℕ) (older newer : StoreView) (upper : List Row) (past more : List Step)
-    (h : Represents older past) (g : Represents newer (more ++ past)) (one : nodes older ≡ nodes newer)
-    (low : since ≤ floor (nodes older) past) (high : newer.horizon ≤ since)
-    (moved : IsPermutation (rows_above since newer.rows) upper) where
-  legal : IsLegal (nodes older) (more ++ past)
-  legal = subst (λ n. IsLegal n (more ++ past)) (sym one) g.legal
-
+    (h : Represents older past) (g : Represents newer (more ++ past)) (low : since ≤ floor past)
+    (high : newer.horizon ≤ since) (moved : IsPermutation (rows_above since newer.rows) upper) where
   rises : horizon past ≤ horizon (more ++ past)
-  rises = horizon-grows (nodes older) past more legal
+  rises = horizon-grows past more g.legal
 
   bounded : horizon (more ++ past) ≤ since
   bounded = subst (λ n. n ≤ since) g.horizon high
@@ -265,7 +269,7 @@ module _ (since : ℕ) (older newer : StoreView) (upper : List Row) (past more :
         (to-upper row (g.rows.above row m up) over)
     | inr under ↦
         let before : Contains (writes past) row =
-        writes-before (nodes older) past more row legal m (omega (arith, under, low)) in
+        writes-before past more row g.legal m (omega (arith, under, low)) in
         Contains-append_left (rows_to since older.rows) upper row
         (Contains-filter (λ (r : Row). leb r.stamp since) older.rows row
         (h.rows.above row before (let r = rises in omega (arith, r, up))) (le-leb row.stamp since under))
@@ -295,7 +299,7 @@ module _ (since : ℕ) (older newer : StoreView) (upper : List Row) (past more :
       → answer (joined since older.rows upper) key stamp ≡ answer (writes (more ++ past)) key stamp
   joined-stays key stamp under was =
       joined-low key stamp under ∙ was
-      ∙ sym (answers-stay (nodes older) past more legal key stamp (omega (arith, under, low)))
+      ∙ sym (answers-stay past more g.legal key stamp (omega (arith, under, low)))
 
   joined-from : (key : List ℕ) (stamp : ℕ) → horizon (more ++ past) ≤ stamp
       → answer (joined since older.rows upper) key stamp ≡ answer (writes (more ++ past)) key stamp
@@ -317,7 +321,7 @@ module _ (since : ℕ) (older newer : StoreView) (upper : List Row) (past more :
     | inl under ↦ joined-stays key stamp (let b = bounded in omega (arith, b, under))
         (elim (cases_lt stamp (horizon past)) [
           | inr up ↦ h.rows.from_horizon key stamp up
-          | inl below ↦ h.rows.at_open key stamp (open-before (nodes older) past more stamp legal m below)
+          | inl below ↦ h.rows.at_open key stamp (open-before past more stamp g.legal m below)
         ])
   ]
 
@@ -338,7 +342,7 @@ module _ (since : ℕ) (older newer : StoreView) (upper : List Row) (past more :
   joined-count =
       let was : length older.rows + part_dropped past ≡ length h.stored.0 + count_above (vacuumed past) (writes past) =
       h.stored.2 in
-      let vacuumed_low : vacuumed past ≤ horizon past = vacuumed-low (nodes older) past h.legal in
+      let vacuumed_low : vacuumed past ≤ horizon past = vacuumed-low past h.legal in
       let r = rises in let b = bounded in
       let older_above : count_above since older.rows ≡ count_above since (writes past) =
       same_above since older.rows (writes past) h.rows.row_set h.rows.all_row_set (λ row m up. h.rows.within row m)
@@ -352,7 +356,7 @@ module _ (since : ℕ) (older newer : StoreView) (upper : List Row) (past more :
       let parts = rows_above_are_counted (vacuumed past) since (writes past) (omega (arith, r, b, vacuumed_low)) in
       let parts' = rows_above_are_counted (vacuumed past) since (writes (more ++ past))
       (omega (arith, r, b, vacuumed_low)) in
-      let stays = between-stays (nodes older) past more (vacuumed past) since legal low in
+      let stays = between-stays past more (vacuumed past) since g.legal low in
       let both = length-append (rows_to since older.rows) upper in
       omega (arith, was, older_above, newer_above, many, split, parts, parts', stays, both)
 
@@ -360,10 +364,11 @@ module _ (since : ℕ) (older newer : StoreView) (upper : List Row) (past more :
   pub joined-represents : Represents (with_rows_left newer (joined since older.rows upper) newer.horizon)
       (without_drops more ++ past)
   joined-represents =
-      let are = drops-agree (nodes newer) more past in
+      let are = drops-agree more past in
       let now : List Step = without_drops more ++ past in
       record {
-        legal = drops-legal (nodes newer) more past g.legal;
+        legal = drops-legal more past g.legal;
+        start = g.start ∙ sym are.starts;
         many = g.many ∙ sym are.numbers;
         links = λ n lt. g.links n lt ∙ rw (are.counts n, are.heads n, are.away n) refl;
         top = g.top ∙ sym are.tops;
@@ -381,14 +386,14 @@ module _ (since : ℕ) (older newer : StoreView) (upper : List Row) (past more :
 
 -- and so does what the older checkpoint becomes by the increment
 pub advanced-represents : (older newer made : StoreView) (increment : IncrementView) (past more : List Step)
-    → Represents older past → Represents newer (more ++ past) → nodes older ≡ nodes newer
-    → IsIncrementOf newer increment → increment.since ≤ floor (nodes older) past → IsAdvanced older increment made
+    → Represents older past → Represents newer (more ++ past)
+    → IsIncrementOf newer increment → increment.since ≤ floor past → IsAdvanced older increment made
     → Represents made (without_drops more ++ past)
-advanced-represents older newer made increment past more h g one of low is =
+advanced-represents older newer made increment past more h g of low is =
     let whole : StoreView =
     with_rows_left newer (joined increment.since older.rows increment.state.rows) newer.horizon in
     let first : Represents whole (without_drops more ++ past) =
-    joined-represents increment.since older newer increment.state.rows past more h g one low of.horizon
+    joined-represents increment.since older newer increment.state.rows past more h g low of.horizon
     of.copy.rows.same in
     copy-represents whole made (without_drops more ++ past) first (record {
       same = is.same ∙ ap (λ (state : StoreView). with_rows_left state made.rows state.horizon) of.copy.same;
@@ -396,49 +401,64 @@ advanced-represents older newer made increment past more h g one of low is =
     })
 
 -- the numbers of nodes are not assigned again
-numbered-grows : (nodes : ℕ) (past more : List Step) → numbered nodes past ≤ numbered nodes (more ++ past)
-numbered-grows nodes past [] = omega arith
-numbered-grows nodes past (Took item ∷ more) = numbered-grows nodes past more
-numbered-grows nodes past (Opened stamp ∷ more) = numbered-grows nodes past more
-numbered-grows nodes past (Closed id ∷ more) = numbered-grows nodes past more
-numbered-grows nodes past (Vacuumed at ∷ more) = numbered-grows nodes past more
-numbered-grows nodes past (PartVacuumed at dropped ∷ more) = numbered-grows nodes past more
-numbered-grows nodes past (Joined node start ∷ more) = (let h = numbered-grows nodes past more in omega (arith, h))
+numbered-grows : (past more : List Step) → numbered past ≤ numbered (more ++ past)
+numbered-grows past [] = omega arith
+numbered-grows past (Took item ∷ more) = numbered-grows past more
+numbered-grows past (Opened stamp ∷ more) = numbered-grows past more
+numbered-grows past (Started nodes ∷ more) = (let h = numbered-grows past more in omega (arith, h))
+numbered-grows past (Closed id ∷ more) = numbered-grows past more
+numbered-grows past (Vacuumed at ∷ more) = numbered-grows past more
+numbered-grows past (PartVacuumed at dropped ∷ more) = numbered-grows past more
+numbered-grows past (Joined node start ∷ more) = (let h = numbered-grows past more in omega (arith, h))
+
+-- and so is the number of those at the start
+start-stays : (past more : List Step) → 0 < initial_nodes past → IsLegal (more ++ past)
+    → initial_nodes (more ++ past) ≡ initial_nodes past
+start-stays past [] some legal = refl
+start-stays past (Took item ∷ more) some legal = start-stays past more some legal.1
+start-stays past (Opened stamp ∷ more) some legal = start-stays past more some legal.1
+start-stays past (Started nodes ∷ more) some legal =
+    absurd (let none : initial_nodes (more ++ past) ≡ 0 = ap initial_nodes legal.0 in
+    let same = start-stays past more some legal.1 in omega (arith, some, none, same))
+start-stays past (Closed id ∷ more) some legal = start-stays past more some legal.1
+start-stays past (Vacuumed at ∷ more) some legal = start-stays past more some legal.1
+start-stays past (PartVacuumed at dropped ∷ more) some legal = start-stays past more some legal.1
+start-stays past (Joined node start ∷ more) some legal = start-stays past more some legal.3
 
 -- the increment of a later state fits an older checkpoint, unless its stamp is above that one's floor
 pub fits-unless_above : (older newer : StoreView) (increment : IncrementView) (past more : List Step)
-    → Represents older past → IsCheckpoint older → Represents newer (more ++ past) → nodes older ≡ nodes newer
+    → Represents older past → IsCheckpoint older → Represents newer (more ++ past)
     → IsIncrementOf newer increment → IsCheckpoint increment.state → (fault : AdvanceFault)
-    → IsReason older increment fault → (fault ≡ faults.NoMemory) ⊎ (floor (nodes older) past < increment.since)
-fits-unless_above older newer increment past more h is g one of is' (faults.Parts fault) (inl none) =
+    → IsReason older increment fault → (fault ≡ faults.NoMemory) ⊎ (floor past < increment.since)
+fits-unless_above older newer increment past more h is g of is' (faults.Parts fault) (inl none) =
     absurd (sound-has_no_reason older fault is none.0 none.1)
-fits-unless_above older newer increment past more h is g one of is' (faults.Parts fault) (inr none) =
+fits-unless_above older newer increment past more h is g of is' (faults.Parts fault) (inr none) =
     absurd (sound-has_no_reason increment.state fault is' none.0 none.1)
-fits-unless_above older newer increment past more h is g one of is' faults.NotLater none =
+fits-unless_above older newer increment past more h is g of is' faults.NotLater none =
     let state : increment.state ≡ with_rows_left newer increment.state.rows newer.horizon = of.copy.same in
     let links : length increment.state.links ≡ length newer.links =
     ap (λ (view : StoreView). length view.links) state in
     let at : increment.state.horizon ≡ newer.horizon = ap (λ (view : StoreView). view.horizon) state in
-    let grown = numbered-grows (nodes older) past more in
-    let many : length newer.links ≡ numbered (nodes older) (more ++ past) =
-    g.many ∙ ap (λ n. numbered n (more ++ past)) (sym one) in
-    let rose = horizon-grows (nodes older) past more (subst (λ n. IsLegal n (more ++ past)) (sym one) g.legal) in
+    let grown = numbered-grows past more in
+    let rose = horizon-grows past more g.legal in
+    let some : 0 < initial_nodes past = rw (← h.start) is.nodes.some in
     absurd (none (record {
-      start = one ∙ sym (ap (λ (view : StoreView). view.start) state);
-      links = (let before = h.many in omega (arith, before, grown, many, links));
+      start = h.start ∙ sym (start-stays past more some g.legal) ∙ sym g.start
+          ∙ sym (ap (λ (view : StoreView). view.start) state);
+      links = (let before = h.many in let after = g.many in omega (arith, before, grown, after, links));
       horizon = (let before = h.horizon in let after = g.horizon in omega (arith, before, after, rose, at));
     }))
-fits-unless_above older newer increment past more h is g one of is' (faults.AboveFloor f) reason =
-    inr (let same : floor_in older ≡ floor (nodes older) past = floor-in older past h in
+fits-unless_above older newer increment past more h is g of is' (faults.AboveFloor f) reason =
+    inr (let same : floor_in older ≡ floor past = floor-in older past h in
     omega (arith, same, reason.0, reason.1))
-fits-unless_above older newer increment past more h is g one of is' (faults.BelowHorizon f) reason =
+fits-unless_above older newer increment past more h is g of is' (faults.BelowHorizon f) reason =
     absurd (let at : increment.state.horizon ≡ newer.horizon =
     ap (λ (view : StoreView). view.horizon) of.copy.same in
     let high = of.horizon in omega (arith, at, high, reason.0, reason.1))
-fits-unless_above older newer increment past more h is g one of is' faults.RowUpToStamp none =
+fits-unless_above older newer increment past more h is g of is' faults.RowUpToStamp none =
     absurd (none (All-permutation (λ (row : Row). increment.since < row.stamp)
     (rows_above increment.since newer.rows) increment.state.rows of.copy.rows.same
     (All-weaker (λ (row : Row). ltb increment.since row.stamp ≡ true) (λ (row : Row). increment.since < row.stamp)
     (λ row t. ltb-true increment.since row.stamp t) (rows_above increment.since newer.rows)
     (filter_passes (λ (row : Row). ltb increment.since row.stamp) newer.rows))))
-fits-unless_above older newer increment past more h is g one of is' faults.NoMemory reason = inl refl
+fits-unless_above older newer increment past more h is g of is' faults.NoMemory reason = inl refl

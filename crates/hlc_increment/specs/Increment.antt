@@ -3,7 +3,7 @@ use Rattle.std.specs.Prelude.{◌≡◌, ◌≢◌, ℕ, ◌<◌, ◌≤◌, ◌
 use Rattle.std.specs.List.Sorted.{IsPermutation}
 use Rattle.hlc_column.specs.Rows.{rows_to}
 use Rattle.hlc_witness.specs.Certificate.{RowsAscend}
-use Rattle.hlc_core.specs.Past.{Step, Took, Opened, Closed, Vacuumed, Joined, PartVacuumed}
+use Rattle.hlc_core.specs.Past.{Step, Started, Took, Opened, Closed, Vacuumed, Joined, PartVacuumed}
 use Rattle.hlc_core.specs.StoreView.{StoreView, with_rows_left}
 use Rattle.hlc_core.specs.Checkpoint.{IsCheckpoint, IsCopyAbove, IsFirstReason, floor_in}
 use Rattle.hlc_checkpoint.specs.declared.checkpoint.RestoreFault.{RestoreFault}
@@ -34,6 +34,7 @@ pub record IsAdvanced (older : StoreView) (increment : IncrementView) (made : St
 -- the same steps, but each vacuum, and each part of one, is a part that dropped nothing
 abbrev pub without_drops : List Step → List Step
 without_drops [] = []
+without_drops (Started nodes ∷ past) = Started nodes ∷ without_drops past
 without_drops (Took item ∷ past) = Took item ∷ without_drops past
 without_drops (Opened stamp ∷ past) = Opened stamp ∷ without_drops past
 without_drops (Closed id ∷ past) = Closed id ∷ without_drops past

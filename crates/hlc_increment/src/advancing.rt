@@ -5,7 +5,7 @@ ghost use Rattle.hlc_column.specs.Rows.{rows_to};
 ghost use Rattle.hlc_witness.specs.Certificate.{RowsAscend};
 ghost use Rattle.hlc_core.specs.Past.{Step, floor};
 ghost use Rattle.hlc_core.specs.Checkpoint.{IsCheckpoint};
-ghost use Rattle.hlc_core.specs.StoreView.{StoreView, nodes, Represents};
+ghost use Rattle.hlc_core.specs.StoreView.{StoreView, Represents};
 ghost use Rattle.hlc_increment.specs.Increment.{AreFitting, IsAdvanced, IsIncrementOf, IsReason, MayBeLater};
 ghost use Rattle.hlc_increment.specs.Increment.{without_drops};
 ghost use Rattle.hlc_increment.specs.Faults.{advance_code, advance_word};
@@ -113,13 +113,12 @@ impl From<NoMemory> for AdvanceFault {
 pub fn advance(older: Checkpoint, increment: Increment) -> Result<Checkpoint, AdvanceFault>
     ensures ok { IfOk result (IsAdvanced older increment) }
     ensures represents { (past more : List Step) (newer : StoreView) → Represents older past
-        → Represents newer (more ++ past) → nodes older ≡ nodes newer
-        → IsIncrementOf newer increment
+        → Represents newer (more ++ past) → IsIncrementOf newer increment
         → IfOk result (λ made. Represents made (without_drops more ++ past)) }
     ensures only { (past more : List Step) (newer : StoreView) → Represents older past
-        → IsCheckpoint older → Represents newer (more ++ past) → nodes older ≡ nodes newer
+        → IsCheckpoint older → Represents newer (more ++ past)
         → IsIncrementOf newer increment → IsCheckpoint increment.state → IfErr result
-        (λ fault. (fault ≡ no_memory) ⊎ (floor (nodes older) past < increment.since)) }
+        (λ fault. (fault ≡ no_memory) ⊎ (floor past < increment.since)) }
     ensures err { IfErr result (IsReason older increment) }
 {
     if let Some(fault) = reason_against(&older, &increment) {

@@ -1,7 +1,7 @@
 //! The bytes of an older checkpoint, which become those of a newer one by an increment.
 ghost use Rattle.std.specs.Prelude.{◌≡◌, ◌++◌, ℕ, List, IfOk, IfErr, MatchResult};
 ghost use Rattle.hlc_core.specs.Past.{Step};
-ghost use Rattle.hlc_core.specs.StoreView.{StoreView, nodes, Represents};
+ghost use Rattle.hlc_core.specs.StoreView.{StoreView, Represents};
 ghost use Rattle.hlc_saved.specs.Saved.{AreOf, BytesRepresent};
 ghost use Rattle.hlc_increment.specs.Increment.{IncrementView, IsAdvanced, IsIncrementOf, without_drops};
 ghost use Rattle.hlc_increment.specs.Faults.{advance_code, advance_word};
@@ -60,8 +60,7 @@ fn refuse(fault: &AdvanceFault, word: &mut u64) -> u32
 fn joined(older: Checkpoint, increment: Increment, word: &mut u64) -> Result<Checkpoint, u32>
     ensures ok { IfOk result (IsAdvanced older increment) }
     ensures represents { (past more : List Step) (newer : StoreView) → Represents older past
-        → Represents newer (more ++ past) → nodes older ≡ nodes newer
-        → IsIncrementOf newer increment
+        → Represents newer (more ++ past) → IsIncrementOf newer increment
         → IfOk result (λ made. Represents made (without_drops more ++ past)) }
     ensures err { IfErr result (λ code. IsNotJoined older increment code word.new) }
 {
@@ -98,7 +97,7 @@ pub fn apply(
     ensures represents { (before after : ℕ) (kept newer : StoreView) (read : IncrementView)
         (past more : List Step) → AreOf older.now before kept → Represents kept past
         → increment.now ≡ increment_bytes after read → IncrementFits after read
-        → IsIncrementOf newer read → Represents newer (more ++ past) → nodes kept ≡ nodes newer
+        → IsIncrementOf newer read → Represents newer (more ++ past)
         → IfOk result (λ bytes. BytesRepresent bytes.value.items after (without_drops more ++ past)) }
     ensures err { IfErr result (λ code. IsNotAdvanced older.now increment.now code word.new) }
 {

@@ -212,7 +212,7 @@ impl<V: Drop> Index<V> {
         requires { IsGap self.old key at slot }
         ensures ok { OnOk result
             (entries_in self.new ≡ insert_entry key_cmp (entries_in self.old) key value) }
-        ensures err { OnErr result (entries_in self.new ≡ entries_in self.old) }
+        ensures unchanged { OnErr result (entries_in self.new ≡ entries_in self.old) }
         ensures value_returned { IfErr result (λ failed. failed.value ≡ (key, value)) }
     {
         let head = head_of(key.as_slice());

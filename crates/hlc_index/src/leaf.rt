@@ -135,7 +135,7 @@ impl<V> Leaf<V> {
         requires head { head ≡ head_of entry.0 }
         requires bytes { AreBytes entry.0 }
         ensures ok { OnOk result (self.new ≡ insert self.old slot entry) }
-        ensures err { OnErr result (self.new ≡ self.old) }
+        ensures unchanged { OnErr result (self.new ≡ self.old) }
         ensures value_returned { IfErr result (λ failed. failed.value ≡ entry) }
     {
         let Ok(()) = self.heads.reserve(1) else {
@@ -156,7 +156,7 @@ impl<V> Leaf<V> {
         requires { slot ≤ length self.old }
         ensures ok { OnOk result (self.new ≡ take slot self.old) }
         ensures back { IfOk result (λ back. back ≡ drop slot self.old) }
-        ensures err { OnErr result (self.new ≡ self.old) }
+        ensures unchanged { OnErr result (self.new ≡ self.old) }
     {
         let mut heads = Vec::with_capacity(alloc, MAX_ENTRIES)?;
         heads.extend_from_slice(&self.heads[slot..])?;

@@ -180,7 +180,7 @@ impl<V: Drop> Leaves<V> {
         requires bytes { AreBytes entry.0 }
         ensures ok { OnOk result (self.new
             ≡ slice_set self.old at (insert (slice_index_or self.old at []) slot entry)) }
-        ensures err { OnErr result (self.new ≡ self.old) }
+        ensures unchanged { OnErr result (self.new ≡ self.old) }
         ensures value_returned { IfErr result (λ failed. failed.value ≡ entry) }
     {
         self.leaves[at].insert(slot, entry, head)?;
@@ -199,7 +199,7 @@ impl<V: Drop> Leaves<V> {
         requires head { head ≡ head_of entry.0 }
         requires bytes { AreBytes entry.0 }
         ensures ok { OnOk result (self.new ≡ self.old ++ (entry ∷ []) ∷ []) }
-        ensures err { OnErr result (self.new ≡ self.old) }
+        ensures unchanged { OnErr result (self.new ≡ self.old) }
         ensures value_returned { IfErr result (λ failed. failed.value ≡ entry) }
     {
         let Ok(()) = self.tops.reserve(1) else {
@@ -225,7 +225,7 @@ impl<V: Drop> Leaves<V> {
         ensures ok { OnOk result (self.new ≡ insert
             (slice_set self.old at (take slot (slice_index_or self.old at []))) (at + 1)
             (drop slot (slice_index_or self.old at []))) }
-        ensures err { OnErr result (self.new ≡ self.old) }
+        ensures unchanged { OnErr result (self.new ≡ self.old) }
     {
         self.tops.reserve(1)?;
         self.leaves.reserve(1)?;
@@ -254,7 +254,7 @@ impl<V: Drop> Leaves<V> {
         requires head { head ≡ head_of entry.0 }
         requires bytes { AreBytes entry.0 }
         ensures ok { OnOk result (entries_in self.new ≡ entries_with self.old at slot entry) }
-        ensures err { OnErr result (entries_in self.new ≡ entries_in self.old) }
+        ensures unchanged { OnErr result (entries_in self.new ≡ entries_in self.old) }
         ensures value_returned { IfErr result (λ failed. failed.value ≡ entry) }
     {
         // Reading the list bounds the number of leaves.

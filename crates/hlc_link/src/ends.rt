@@ -178,7 +178,7 @@ impl LinkSender {
     /// Refused if the channel is closed: the end was not put.
     pub fn put_end<R: Wait>(&mut self, rt: &R) -> Result<(), LinkClosed>
         ensures ok { IfOk result (λ _. self.new ≡ with_end self.old) }
-        ensures err { IfErr result (λ _. self.new ≡ self.old) }
+        ensures unchanged { IfErr result (λ _. self.new ≡ self.old) }
         ensures again { self.old.ended ≡ true → IsOk result }
     {
         if self.end_put {
@@ -232,7 +232,7 @@ impl LinkReceiver {
     /// Refused if the channel is closed: nothing was taken.
     pub fn take<R: Wait>(&mut self, rt: &R) -> Result<Parcel, LinkClosed>
         ensures ok { IfOk result (λ parcel. self.new ≡ with_parcel self.old parcel) }
-        ensures err { IfErr result (λ _. self.new ≡ self.old) }
+        ensures unchanged { IfErr result (λ _. self.new ≡ self.old) }
         ensures again { self.old.ended ≡ true → result ≡ Ok End }
     {
         if self.ended {

@@ -9,7 +9,7 @@ use Rattle.std.proofs.lemmas.List.{append-nil, append_assoc}
 use Rattle.std.proofs.lemmas.Grind.{flat_map-append}
 use Rattle.hlc_node.specs.declared.item.Item.{Item as AnItem}
 use Rattle.hlc_wire.proofs.FieldLemmas.{IsBytes}
-use Rattle.hlc_core.specs.Past.{Step, Took, Opened, Closed, Vacuumed, PartVacuumed, Joined, numbered, count}
+use Rattle.hlc_core.specs.Past.{Step, Started, Took, Opened, Closed, Vacuumed, PartVacuumed, Joined, numbered, count}
 use Rattle.hlc_core.specs.Past.{item_refusal}
 use Rattle.hlc_core.specs.Past.{IsLegal}
 use Rattle.hlc_core.specs.StoreView.{StoreView, Represents}
@@ -42,29 +42,29 @@ front_shortens bytes entry rest fits is =
     omega (arith, long, some)
 
 -- a record that came before leaves the past, and another one is applied
-pub passed_over : (core : StoreView) (nodes : ℕ) (past : List Step) (entry : Record)
-    → came_before nodes past entry ≡ true → Represents core past → Represents core (with_record nodes entry past)
-passed_over core nodes past entry came h =
+pub passed_over : (core : StoreView) (past : List Step) (entry : Record)
+    → came_before past entry ≡ true → Represents core past → Represents core (with_record entry past)
+passed_over core past entry came h =
     subst (λ b. Represents core (cond b past (step_of entry ++ past))) (sym came) h
 
-pub applied : (core : StoreView) (nodes : ℕ) (past : List Step) (entry : Record)
-    → came_before nodes past entry ≡ false → Represents core (step_of entry ++ past)
-    → Represents core (with_record nodes entry past)
-applied core nodes past entry new h =
+pub applied : (core : StoreView) (past : List Step) (entry : Record)
+    → came_before past entry ≡ false → Represents core (step_of entry ++ past)
+    → Represents core (with_record entry past)
+applied core past entry new h =
     subst (λ b. Represents core (cond b past (step_of entry ++ past))) (sym new) h
 
 -- ---- one record after another
 
 -- the records before the rest of the bytes were applied
-abbrev pub AppliedSoFar : ℕ → StoreView → List ℕ → List ℕ → List Step → ℕ → ℕ → ℕ → Type 0
-AppliedSoFar nodes core bytes rest past least many greatest =
+abbrev pub AppliedSoFar : StoreView → List ℕ → List ℕ → List Step → ℕ → ℕ → ℕ → Type 0
+AppliedSoFar core bytes rest past least many greatest =
     (records : List Record) × (bytes ≡ log_bytes records ++ rest) × (many ≡ length records)
-    × (greatest ≡ greatest_threshold least records) × Represents core (with_records nodes records past)
+    × (greatest ≡ greatest_threshold least records) × Represents core (with_records records past)
 
-pub records-append : (nodes : ℕ) (records more : List Record) (past : List Step)
-    → with_records nodes (records ++ more) past ≡ with_records nodes more (with_records nodes records past)
-records-append nodes [] more past = refl
-records-append nodes (entry ∷ records) more past = records-append nodes records more (with_record nodes entry past)
+pub records-append : (records more : List Record) (past : List Step)
+    → with_records (records ++ more) past ≡ with_records more (with_records records past)
+records-append [] more past = refl
+records-append (entry ∷ records) more past = records-append records more (with_record entry past)
 
 threshold-append : (least : ℕ) (records more : List Record)
     → greatest_threshold least (records ++ more) ≡ greatest_threshold (greatest_threshold least records) more
@@ -80,31 +80,31 @@ log-last records entry =
     ∙ ap (λ xs. log_bytes records ++ xs) (append-nil (record_bytes entry))
 
 -- one more record
-pub one_more : (nodes : ℕ) (core : StoreView) (bytes rest after : List ℕ) (past : List Step)
+pub one_more : (core : StoreView) (bytes rest after : List ℕ) (past : List Step)
     (least many greatest raised : ℕ) (before : StoreView)
-    → (so : AppliedSoFar nodes before bytes rest past least many greatest)
+    → (so : AppliedSoFar before bytes rest past least many greatest)
     → (entry : Record) × (rest ≡ record_bytes entry ++ after) × (raised ≡ greatest_threshold greatest (entry ∷ []))
-    × Represents core (with_record nodes entry (with_records nodes so.0 past))
-    → AppliedSoFar nodes core bytes after past least (many + 1) raised
-one_more nodes core bytes rest after past least many greatest raised before so (entry, front, up, h) = (
+    × Represents core (with_record entry (with_records so.0 past))
+    → AppliedSoFar core bytes after past least (many + 1) raised
+one_more core bytes rest after past least many greatest raised before so (entry, front, up, h) = (
   so.0 ++ entry ∷ [],
   so.1 ∙ ap (λ (xs : List ℕ). log_bytes so.0 ++ xs) front
       ∙ sym (append_assoc (log_bytes so.0) (record_bytes entry) after)
       ∙ ap (λ (xs : List ℕ). xs ++ after) (sym (log-last so.0 entry)),
   (let n = length-append so.0 (entry ∷ []) in omega (arith, n, so.2)),
   up ∙ ap (λ (g : ℕ). greatest_threshold g (entry ∷ [])) so.3 ∙ sym (threshold-append least so.0 (entry ∷ [])),
-  subst (λ (p : List Step). Represents core p) (sym (records-append nodes so.0 (entry ∷ []) past)) h,
+  subst (λ (p : List Step). Represents core p) (sym (records-append so.0 (entry ∷ []) past)) h,
 )
 
 -- the state of the loop, with why it ended
-pub applied_all : (nodes : ℕ) (core : StoreView) (bytes rest : List ℕ) (past : List Step) (least many greatest : ℕ)
+pub applied_all : (core : StoreView) (bytes rest : List ℕ) (past : List Step) (least many greatest : ℕ)
     (end : Option RecordFault) (result : Applied)
-    → (so : AppliedSoFar nodes core bytes rest past least many greatest)
-    → IsLogEnd nodes rest (with_records nodes so.0 past) end
+    → (so : AppliedSoFar core bytes rest past least many greatest)
+    → IsLogEnd rest (with_records so.0 past) end
     → result ≡ record { records = many; bytes = length bytes - length rest; threshold = greatest; end = end }
-    → AreApplied nodes core bytes past least result
-applied_all nodes core bytes rest past least many greatest end result so is made =
-    subst (λ r. AreApplied nodes core bytes past least r) (sym made) (record {
+    → AreApplied core bytes past least result
+applied_all core bytes rest past least many greatest end result so is made =
+    subst (λ r. AreApplied core bytes past least r) (sym made) (record {
       records = so.0;
       rest = rest;
       bytes_are = so.1;
@@ -120,15 +120,17 @@ applied_all nodes core bytes rest past least many greatest end result so is made
 
 -- ---- read again
 
-numbered-grows : (nodes : ℕ) (past : List Step) (step : Step) → numbered nodes past ≤ numbered nodes (step ∷ past)
-numbered-grows nodes past (Took item) = omega arith
-numbered-grows nodes past (Opened stamp) = omega arith
-numbered-grows nodes past (Closed id) = omega arith
-numbered-grows nodes past (Vacuumed at) = omega arith
-numbered-grows nodes past (PartVacuumed at dropped) = omega arith
-numbered-grows nodes past (Joined node start) = omega arith
+numbered-grows : (past : List Step) (step : Step) → numbered past ≤ numbered (step ∷ past)
+numbered-grows past (Started nodes) = omega arith
+numbered-grows past (Took item) = omega arith
+numbered-grows past (Opened stamp) = omega arith
+numbered-grows past (Closed id) = omega arith
+numbered-grows past (Vacuumed at) = omega arith
+numbered-grows past (PartVacuumed at dropped) = omega arith
+numbered-grows past (Joined node start) = omega arith
 
 count-grows : (n : ℕ) (past : List Step) (step : Step) → count n past ≤ count n (step ∷ past)
+count-grows n past (Started nodes) = omega arith
 count-grows n past (Took item) =
     elim (cases_eq item.node n) [
       | inl same ↦
@@ -145,51 +147,51 @@ count-grows n past (PartVacuumed at dropped) = omega arith
 count-grows n past (Joined node start) = omega arith
 
 -- a record that came before has still come before after any more steps
-came-stays : (nodes : ℕ) (past more : List Step) (entry : Record) → came_before nodes past entry ≡ true
-    → came_before nodes (more ++ past) entry ≡ true
-came-stays nodes past [] entry came = came
-came-stays nodes past (step ∷ more) (Item item) came =
-    let before = and_parts _ _ (came-stays nodes past more (Item item) came) in
-    let low : item.node < numbered nodes (more ++ past) = ltb-true _ _ before.0 in
+came-stays : (past more : List Step) (entry : Record) → came_before past entry ≡ true
+    → came_before (more ++ past) entry ≡ true
+came-stays past [] entry came = came
+came-stays past (step ∷ more) (Item item) came =
+    let before = and_parts _ _ (came-stays past more (Item item) came) in
+    let low : item.node < numbered (more ++ past) = ltb-true _ _ before.0 in
     let old : item.number < count item.node (more ++ past) = ltb-true _ _ before.1 in
-    let wide = numbered-grows nodes (more ++ past) step in
+    let wide = numbered-grows (more ++ past) step in
     let long = count-grows item.node (more ++ past) step in
-    let here : item.node < numbered nodes (step ∷ (more ++ past)) = omega (arith, low, wide) in
+    let here : item.node < numbered (step ∷ (more ++ past)) = omega (arith, low, wide) in
     let past' : item.number < count item.node (step ∷ (more ++ past)) = omega (arith, old, long) in
     and_from _ _ (lt-ltb _ _ here) (lt-ltb _ _ past')
-came-stays nodes past (step ∷ more) (Join node start) came =
-    let low : node < numbered nodes (more ++ past) =
-    ltb-true _ _ (came-stays nodes past more (Join node start) came) in
-    let wide = numbered-grows nodes (more ++ past) step in
-    let here : node < numbered nodes (step ∷ (more ++ past)) = omega (arith, low, wide) in
+came-stays past (step ∷ more) (Join node start) came =
+    let low : node < numbered (more ++ past) =
+    ltb-true _ _ (came-stays past more (Join node start) came) in
+    let wide = numbered-grows (more ++ past) step in
+    let here : node < numbered (step ∷ (more ++ past)) = omega (arith, low, wide) in
     lt-ltb _ _ here
-came-stays nodes past (step ∷ more) (Threshold at) came = came
+came-stays past (step ∷ more) (Threshold at) came = came
 
 -- a record is passed over: it came before, or is no step
-abbrev IsPassed : ℕ → List Step → Record → Type 0
-IsPassed nodes past entry = (came_before nodes past entry ≡ true) ⊎ (step_of entry ≡ [])
+abbrev IsPassed : List Step → Record → Type 0
+IsPassed past entry = (came_before past entry ≡ true) ⊎ (step_of entry ≡ [])
 
-passed-stays : (nodes : ℕ) (past more : List Step) (entry : Record) → IsPassed nodes past entry
-    → IsPassed nodes (more ++ past) entry
-passed-stays nodes past more entry (inl came) = inl (came-stays nodes past more entry came)
-passed-stays nodes past more entry (inr none) = inr none
+passed-stays : (past more : List Step) (entry : Record) → IsPassed past entry
+    → IsPassed (more ++ past) entry
+passed-stays past more entry (inl came) = inl (came-stays past more entry came)
+passed-stays past more entry (inr none) = inr none
 
-passed-is : (nodes : ℕ) (past : List Step) (entry : Record) → IsPassed nodes past entry
-    → with_record nodes entry past ≡ past
-passed-is nodes past entry (inl came) = cond-true _ _ _ came
-passed-is nodes past entry (inr none) =
-    elim (cases_Bool (came_before nodes past entry)) [
+passed-is : (past : List Step) (entry : Record) → IsPassed past entry
+    → with_record entry past ≡ past
+passed-is past entry (inl came) = cond-true _ _ _ came
+passed-is past entry (inr none) =
+    elim (cases_Bool (came_before past entry)) [
       | inl came ↦ cond-true _ _ _ came
       | inr new ↦ cond-false _ _ _ new ∙ ap (λ steps. steps ++ past) none
     ]
 
 -- an item that was taken came before
-took-passed : (nodes : ℕ) (past : List Step) (item : AnItem) → item_refusal nodes past item ≡ None
-    → came_before nodes (Took item ∷ past) (Item item) ≡ true
-took-passed nodes past item none =
-    let low : item.node < numbered nodes past = inside nodes past item none in
+took-passed : (past : List Step) (item : AnItem) → item_refusal past item ≡ None
+    → came_before (Took item ∷ past) (Item item) ≡ true
+took-passed past item none =
+    let low : item.node < numbered past = inside past item none in
     let is : IsAdmissible _ (count item.node past) _ item =
-    admissible _ _ _ item (sym (on_link nodes past item low) ∙ none) in
+    admissible _ _ _ item (sym (on_link past item low) ∙ none) in
     let same : item.number ≡ count item.node past = is.number in
     let up : count item.node (Took item ∷ past) ≡ count item.node past + 1 =
     cond-true _ _ _ (eq-eqb item.node item.node refl) in
@@ -197,40 +199,40 @@ took-passed nodes past item none =
     and_from _ _ (lt-ltb _ _ low) (lt-ltb _ _ below)
 
 -- a record is passed over right after it was read
-after-itself : (nodes : ℕ) (past : List Step) (entry : Record) → IsLegal nodes (with_record nodes entry past)
-    → IsPassed nodes (with_record nodes entry past) entry
-after-itself nodes past (Threshold at) legal = inr refl
-after-itself nodes past (Item item) legal =
-    elim (cases_Bool (came_before nodes past (Item item))) [
+after-itself : (past : List Step) (entry : Record) → IsLegal (with_record entry past)
+    → IsPassed (with_record entry past) entry
+after-itself past (Threshold at) legal = inr refl
+after-itself past (Item item) legal =
+    elim (cases_Bool (came_before past (Item item))) [
       | inl came ↦
-          let same : with_record nodes (Item item) past ≡ past = cond-true _ _ _ came in
-          inl (subst (λ (p : List Step). came_before nodes p (Item item) ≡ true) (sym same) came)
+          let same : with_record (Item item) past ≡ past = cond-true _ _ _ came in
+          inl (subst (λ (p : List Step). came_before p (Item item) ≡ true) (sym same) came)
       | inr new ↦
-          let taken : with_record nodes (Item item) past ≡ Took item ∷ past = cond-false _ _ _ new in
-          let ok : IsLegal nodes (Took item ∷ past) = subst (IsLegal nodes) taken legal in
-          inl (subst (λ (p : List Step). came_before nodes p (Item item) ≡ true) (sym taken)
-          (took-passed nodes past item ok.0))
+          let taken : with_record (Item item) past ≡ Took item ∷ past = cond-false _ _ _ new in
+          let ok : IsLegal (Took item ∷ past) = subst IsLegal taken legal in
+          inl (subst (λ (p : List Step). came_before p (Item item) ≡ true) (sym taken)
+          (took-passed past item ok.0))
     ]
-after-itself nodes past (Join node start) legal =
-    elim (cases_Bool (came_before nodes past (Join node start))) [
+after-itself past (Join node start) legal =
+    elim (cases_Bool (came_before past (Join node start))) [
       | inl came ↦
-          let same : with_record nodes (Join node start) past ≡ past = cond-true _ _ _ came in
-          inl (subst (λ (p : List Step). came_before nodes p (Join node start) ≡ true) (sym same) came)
+          let same : with_record (Join node start) past ≡ past = cond-true _ _ _ came in
+          inl (subst (λ (p : List Step). came_before p (Join node start) ≡ true) (sym same) came)
       | inr new ↦
-          let joined : with_record nodes (Join node start) past ≡ Joined node start ∷ past = cond-false _ _ _ new in
-          let ok : IsLegal nodes (Joined node start ∷ past) = subst (IsLegal nodes) joined legal in
-          let is : node ≡ numbered nodes past = ok.1 in
-          let below : node < numbered nodes (Joined node start ∷ past) = omega (arith, is) in
-          inl (subst (λ (p : List Step). came_before nodes p (Join node start) ≡ true) (sym joined) (lt-ltb _ _ below))
+          let joined : with_record (Join node start) past ≡ Joined node start ∷ past = cond-false _ _ _ new in
+          let ok : IsLegal (Joined node start ∷ past) = subst IsLegal joined legal in
+          let is : node ≡ numbered past = ok.1 in
+          let below : node < numbered (Joined node start ∷ past) = omega (arith, is) in
+          inl (subst (λ (p : List Step). came_before p (Join node start) ≡ true) (sym joined) (lt-ltb _ _ below))
     ]
 
 -- records put their steps before the past
-steps-of : (nodes : ℕ) (records : List Record) (past : List Step)
-    → (more : List Step) × (with_records nodes records past ≡ more ++ past)
-steps-of nodes [] past = ([], refl)
-steps-of nodes (entry ∷ records) past =
-    let later = steps-of nodes records (with_record nodes entry past) in
-    elim (cases_Bool (came_before nodes past entry)) [
+steps-of : (records : List Record) (past : List Step)
+    → (more : List Step) × (with_records records past ≡ more ++ past)
+steps-of [] past = ([], refl)
+steps-of (entry ∷ records) past =
+    let later = steps-of records (with_record entry past) in
+    elim (cases_Bool (came_before past entry)) [
       | inl came ↦ (later.0, later.1 ∙ ap (λ p. later.0 ++ p) (cond-true _ _ _ came))
       | inr new ↦ (
         later.0 ++ step_of entry,
@@ -238,55 +240,55 @@ steps-of nodes (entry ∷ records) past =
       )
     ]
 
-abbrev ArePassed : ℕ → List Step → List Record → Type 0
-ArePassed nodes past [] = ⊤
-ArePassed nodes past (entry ∷ records) = IsPassed nodes past entry × ArePassed nodes past records
+abbrev ArePassed : List Step → List Record → Type 0
+ArePassed past [] = ⊤
+ArePassed past (entry ∷ records) = IsPassed past entry × ArePassed past records
 
 -- each record that was read is passed over
-all-passed : (nodes : ℕ) (records : List Record) (past : List Step) → IsLegal nodes (with_records nodes records past)
-    → ArePassed nodes (with_records nodes records past) records
-all-passed nodes [] past legal = tt
-all-passed nodes (entry ∷ records) past legal =
-    let here : List Step = with_record nodes entry past in
-    let later = steps-of nodes records here in
-    let ok : IsLegal nodes here = legal-before nodes here later.0 (subst (IsLegal nodes) later.1 legal) in (
-      subst (λ (p : List Step). IsPassed nodes p entry) (sym later.1)
-          (passed-stays nodes here later.0 entry (after-itself nodes past entry ok)),
-      all-passed nodes records here legal,
+all-passed : (records : List Record) (past : List Step) → IsLegal (with_records records past)
+    → ArePassed (with_records records past) records
+all-passed [] past legal = tt
+all-passed (entry ∷ records) past legal =
+    let here : List Step = with_record entry past in
+    let later = steps-of records here in
+    let ok : IsLegal here = legal-before here later.0 (subst IsLegal later.1 legal) in (
+      subst (λ (p : List Step). IsPassed p entry) (sym later.1)
+          (passed-stays here later.0 entry (after-itself past entry ok)),
+      all-passed records here legal,
     )
 
-passed-all : (nodes : ℕ) (past : List Step) (again rest : List Record) → ArePassed nodes past again
-    → with_records nodes (again ++ rest) past ≡ with_records nodes rest past
-passed-all nodes past [] rest passed = refl
-passed-all nodes past (entry ∷ again) rest passed =
-    ap (λ (p : List Step). with_records nodes (again ++ rest) p) (passed-is nodes past entry passed.0)
-    ∙ passed-all nodes past again rest passed.1
+passed-all : (past : List Step) (again rest : List Record) → ArePassed past again
+    → with_records (again ++ rest) past ≡ with_records rest past
+passed-all past [] rest passed = refl
+passed-all past (entry ∷ again) rest passed =
+    ap (λ (p : List Step). with_records (again ++ rest) p) (passed-is past entry passed.0)
+    ∙ passed-all past again rest passed.1
 
 -- what was read changes nothing when it is read again
-pub read-again : (nodes : ℕ) (past : List Step) (before again rest : List Record)
-    → IsLegal nodes (with_records nodes (before ++ again) past)
-    → with_records nodes (again ++ rest) (with_records nodes (before ++ again) past)
-    ≡ with_records nodes rest (with_records nodes (before ++ again) past)
-read-again nodes past before again rest legal =
-    let e = records-append nodes before again past in
-    passed-all nodes (with_records nodes (before ++ again) past) again rest
-    (subst (λ (p : List Step). ArePassed nodes p again) (sym e)
-    (all-passed nodes again (with_records nodes before past) (subst (IsLegal nodes) e legal)))
+pub read-again : (past : List Step) (before again rest : List Record)
+    → IsLegal (with_records (before ++ again) past)
+    → with_records (again ++ rest) (with_records (before ++ again) past)
+    ≡ with_records rest (with_records (before ++ again) past)
+read-again past before again rest legal =
+    let e = records-append before again past in
+    passed-all (with_records (before ++ again) past) again rest
+    (subst (λ (p : List Step). ArePassed p again) (sym e)
+    (all-passed again (with_records before past) (subst IsLegal e legal)))
 
 -- ---- a whole log
 
-no-rest : (nodes : ℕ) (rest : List ℕ) (past : List Step) → IsLogEnd nodes rest past None → rest ≡ []
-no-rest nodes [] past end = refl
-no-rest nodes (byte ∷ rest) past end = absurd end
+no-rest : (rest : List ℕ) (past : List Step) → IsLogEnd rest past None → rest ≡ []
+no-rest [] past end = refl
+no-rest (byte ∷ rest) past end = absurd end
 
 -- where nothing stopped, all of the bytes were applied
-pub whole-log : (nodes : ℕ) (new : StoreView) (bytes : List ℕ) (past : List Step) (least : ℕ) (applied : Applied)
-    → AreApplied nodes new bytes past least applied → applied.end ≡ None
-    → (records : List Record) × (bytes ≡ log_bytes records) × Represents new (with_records nodes records past)
-whole-log nodes new bytes past least applied is none =
-    let past' : List Step = with_records nodes is.records past in
+pub whole-log : (new : StoreView) (bytes : List ℕ) (past : List Step) (least : ℕ) (applied : Applied)
+    → AreApplied new bytes past least applied → applied.end ≡ None
+    → (records : List Record) × (bytes ≡ log_bytes records) × Represents new (with_records records past)
+whole-log new bytes past least applied is none =
+    let past' : List Step = with_records is.records past in
     let none_left : is.rest ≡ [] =
-    no-rest nodes is.rest past' (subst (λ (e : Option RecordFault). IsLogEnd nodes is.rest past' e) none is.end) in (
+    no-rest is.rest past' (subst (λ (e : Option RecordFault). IsLogEnd is.rest past' e) none is.end) in (
       is.records,
       is.bytes_are ∙ ap (λ (xs : List ℕ). log_bytes is.records ++ xs) none_left ∙ append-nil (log_bytes is.records),
       is.represents,

@@ -7,7 +7,7 @@ use Rattle.hlc_events.specs.declared.fault.CoreFault.{CoreFault}
 use Rattle.hlc_events.specs.declared.fault.CoreFault.TheVariants.{Link}
 use Rattle.hlc_core.specs.Past.{Step, Took, Joined, numbered, count, item_refusal, join_at_refusal}
 use Rattle.hlc_core.specs.Calls.{IsRefusal, IsWrite}
-use Rattle.hlc_core.specs.StoreView.{StoreView, nodes, Represents}
+use Rattle.hlc_core.specs.StoreView.{StoreView, Represents}
 use Rattle.hlc_log.specs.declared.record.Record.{Record}
 use Rattle.hlc_log.specs.declared.record.Record.TheVariants.{Item, Join, Threshold}
 use Rattle.hlc_log.specs.declared.apply.RecordFault.{RecordFault}
@@ -20,10 +20,10 @@ abbrev pub log_bytes : List Record → List ℕ
 log_bytes records = flat_map record_bytes records
 
 -- the record came before: an item of this number was accepted, or a node of this number has joined
-abbrev pub came_before : ℕ → List Step → Record → Bool
-came_before nodes past (Item item) = nat_lt item.node (numbered nodes past) && nat_lt item.number (count item.node past)
-came_before nodes past (Join node start) = nat_lt node (numbered nodes past)
-came_before nodes past (Threshold at) = false
+abbrev pub came_before : List Step → Record → Bool
+came_before past (Item item) = nat_lt item.node (numbered past) && nat_lt item.number (count item.node past)
+came_before past (Join node start) = nat_lt node (numbered past)
+came_before past (Threshold at) = false
 
 -- the step of a record; a threshold is none
 abbrev pub step_of : Record → List Step
@@ -32,13 +32,13 @@ step_of (Join node start) = Joined node start ∷ []
 step_of (Threshold at) = []
 
 -- the past after a record: unchanged if it came before
-abbrev pub with_record : ℕ → Record → List Step → List Step
-with_record nodes entry past = if came_before nodes past entry then past else step_of entry ++ past
+abbrev pub with_record : Record → List Step → List Step
+with_record entry past = if came_before past entry then past else step_of entry ++ past
 
 -- the past after some records, one after another
-abbrev pub with_records : ℕ → List Record → List Step → List Step
-with_records nodes [] past = past
-with_records nodes (entry ∷ records) past = with_records nodes records (with_record nodes entry past)
+abbrev pub with_records : List Record → List Step → List Step
+with_records [] past = past
+with_records (entry ∷ records) past = with_records records (with_record entry past)
 
 -- the greatest threshold of some records and of this one
 abbrev pub greatest_threshold : ℕ → List Record → ℕ
@@ -48,12 +48,12 @@ greatest_threshold least (_ ∷ records) = greatest_threshold least records
 
 -- why a record that did not come before is refused, apart from memory: an item as `Core::accept` refuses it; a join
 -- first if its node is not the next one
-abbrev pub record_refusal : ℕ → List Step → Record → Option CoreFault
-record_refusal nodes past (Item item) = item_refusal nodes past item
-record_refusal nodes past (Join node start) =
-    if node == numbered nodes past then join_at_refusal nodes past start
-    else Some (Link (NotNext (numbered nodes past)))
-record_refusal nodes past (Threshold at) = None
+abbrev pub record_refusal : List Step → Record → Option CoreFault
+record_refusal past (Item item) = item_refusal past item
+record_refusal past (Join node start) =
+    if node == numbered past then join_at_refusal past start
+    else Some (Link (NotNext (numbered past)))
+record_refusal past (Threshold at) = None
 
 -- a record that is applied may need memory: a write, a deletion or a join
 abbrev pub MayGrow : Record → Type 0
@@ -62,30 +62,30 @@ MayGrow (Join node start) = ⊤
 MayGrow (Threshold at) = ⊥
 
 -- a record that did not come before was applied, or refused
-abbrev pub Applies : StoreView → StoreView → Record → List Step → Result Unit CoreFault → Type 0
-Applies old new entry past (Ok done) = (record_refusal (nodes old) past entry ≡ None)
-    × Represents new (step_of entry ++ past)
-Applies old new entry past (Err fault) = IsRefusal (record_refusal (nodes old) past entry) (MayGrow entry) fault
+abbrev pub Applies : StoreView → Record → List Step → Result Unit CoreFault → Type 0
+Applies new entry past (Ok done) =
+    (record_refusal past entry ≡ None) × Represents new (step_of entry ++ past)
+Applies new entry past (Err fault) = IsRefusal (record_refusal past entry) (MayGrow entry) fault
 
 -- the record at the front of some bytes was refused
-abbrev pub IsRefusedAt : ℕ → List ℕ → List Step → CoreFault → Type 0
-IsRefusedAt nodes bytes past fault =
-    (entry : Record) × (rest : List ℕ) × (record_at bytes ≡ Ok (entry, rest)) × (came_before nodes past entry ≡ false)
-    × IsRefusal (record_refusal nodes past entry) (MayGrow entry) fault
+abbrev pub IsRefusedAt : List ℕ → List Step → CoreFault → Type 0
+IsRefusedAt bytes past fault =
+    (entry : Record) × (rest : List ℕ) × (record_at bytes ≡ Ok (entry, rest)) × (came_before past entry ≡ false)
+    × IsRefusal (record_refusal past entry) (MayGrow entry) fault
 
 -- why the record at the front of some bytes was not applied: the first fault of the bytes, or a refusal
-abbrev pub IsStopped : ℕ → List ℕ → List Step → RecordFault → Type 0
-IsStopped nodes bytes past (Bytes fault) = record_at bytes ≡ Err fault
-IsStopped nodes bytes past (Refused fault) = IsRefusedAt nodes bytes past fault
+abbrev pub IsStopped : List ℕ → List Step → RecordFault → Type 0
+IsStopped bytes past (Bytes fault) = record_at bytes ≡ Err fault
+IsStopped bytes past (Refused fault) = IsRefusedAt bytes past fault
 
 -- no bytes are left; or the record at their front was not applied
-abbrev pub IsLogEnd : ℕ → List ℕ → List Step → Option RecordFault → Type 0
-IsLogEnd nodes [] past end = end ≡ None
-IsLogEnd nodes (byte ∷ bytes) past None = ⊥
-IsLogEnd nodes (byte ∷ bytes) past (Some fault) = IsStopped nodes (byte ∷ bytes) past fault
+abbrev pub IsLogEnd : List ℕ → List Step → Option RecordFault → Type 0
+IsLogEnd [] past end = end ≡ None
+IsLogEnd (byte ∷ bytes) past None = ⊥
+IsLogEnd (byte ∷ bytes) past (Some fault) = IsStopped (byte ∷ bytes) past fault
 
 -- The first records of the bytes were applied, as far as possible: what they are, and what the result says of them.
-pub record AreApplied (nodes : ℕ) (new : StoreView) (bytes : List ℕ) (past : List Step) (least : ℕ) (applied : Applied)
+pub record AreApplied (new : StoreView) (bytes : List ℕ) (past : List Step) (least : ℕ) (applied : Applied)
     : Type 0 where
   pub records : List Record
   pub rest : List ℕ
@@ -93,5 +93,5 @@ pub record AreApplied (nodes : ℕ) (new : StoreView) (bytes : List ℕ) (past :
   pub used : applied.bytes ≡ length (log_bytes records)
   pub many : applied.records ≡ length records
   pub threshold : applied.threshold ≡ greatest_threshold least records
-  pub represents : Represents new (with_records nodes records past)
-  pub end : IsLogEnd nodes rest (with_records nodes records past) applied.end
+  pub represents : Represents new (with_records records past)
+  pub end : IsLogEnd rest (with_records records past) applied.end

@@ -2,7 +2,7 @@
 ghost use Rattle.std.specs.Prelude.{◌≡◌, ◌<◌, ◌++◌, ◌∷◌, [], List, length, false, IfOk, OnOk, OnErr};
 ghost use Rattle.std.specs.Prelude.{MatchResult};
 ghost use Rattle.hlc_core.specs.Past.{Step};
-ghost use Rattle.hlc_core.specs.StoreView.{nodes, Represents};
+ghost use Rattle.hlc_core.specs.StoreView.{Represents};
 ghost use Rattle.hlc_core.specs.Calls.{IsRefusal};
 ghost use Rattle.hlc_log.specs.declared.record.Record.{Record as ARecord};
 ghost use Rattle.hlc_log.specs.Record.{record_bytes, record_seen};
@@ -42,9 +42,8 @@ pub struct Applied {
 /// caller may vacuum to it. `threshold` is the greatest one so far, or 0.0. The store has what was applied, whatever
 /// stopped it. It takes no memory but what the store grows by.
 pub fn apply_records(core: &mut Core, bytes: &[u8], threshold: Stamp) -> Applied
-    ensures represents { (past : List Step) → Represents core.old past
-        → AreApplied (nodes core.old) core.new bytes.now past threshold result }
-    ensures nodes { nodes core.new ≡ nodes core.old }
+    ensures { (past : List Step) → Represents core.old past
+        → AreApplied core.new bytes.now past threshold result }
 {
     let mut rest = bytes;
     let mut records = 0usize;
@@ -83,11 +82,10 @@ fn apply_front<'a>(
     ensures represents { (past : List Step) → Represents core.old past → MatchResult result
         (λ rest. (entry : ARecord) × (bytes.now ≡ record_bytes entry ++ rest.now)
         × (greatest.new ≡ greatest_threshold greatest.old (entry ∷ []))
-        × Represents core.new (with_record (nodes core.old) entry past))
-        (IsStopped (nodes core.old) bytes.now past) }
+        × Represents core.new (with_record entry past))
+        (IsStopped bytes.now past) }
     ensures shorter { IfOk result (λ rest. length rest.now < length bytes.now) }
-    ensures same { OnErr result ((core.new ≡ core.old) × (greatest.new ≡ greatest.old)) }
-    ensures nodes { nodes core.new ≡ nodes core.old }
+    ensures unchanged { OnErr result ((core.new ≡ core.old) × (greatest.new ≡ greatest.old)) }
 {
     let (entry, rest) = match record_ref_at(bytes) {
         Ok(found) => found,
@@ -103,14 +101,13 @@ fn apply_front<'a>(
 /// Applies a record, unless it came before, and raises the greatest threshold by it.
 fn enter(core: &mut Core, entry: &RecordRef<'_>, greatest: &mut Stamp) -> Result<(), CoreFault>
     ensures represents { (past : List Step) → Represents core.old past → MatchResult result
-        (λ _. Represents core.new (with_record (nodes core.old) (record_seen entry.now) past))
-        (λ fault. (came_before (nodes core.old) past (record_seen entry.now) ≡ false)
-        × IsRefusal (record_refusal (nodes core.old) past (record_seen entry.now))
+        (λ _. Represents core.new (with_record (record_seen entry.now) past))
+        (λ fault. (came_before past (record_seen entry.now) ≡ false)
+        × IsRefusal (record_refusal past (record_seen entry.now))
         (MayGrow (record_seen entry.now)) fault) }
     ensures raised { OnOk result
         (greatest.new ≡ greatest_threshold greatest.old (record_seen entry.now ∷ [])) }
-    ensures same { OnErr result ((core.new ≡ core.old) × (greatest.new ≡ greatest.old)) }
-    ensures nodes { nodes core.new ≡ nodes core.old }
+    ensures unchanged { OnErr result ((core.new ≡ core.old) × (greatest.new ≡ greatest.old)) }
 {
     if !came(core, entry) {
         if let Err(fault) = apply(core, entry) {
@@ -124,7 +121,7 @@ fn enter(core: &mut Core, entry: &RecordRef<'_>, greatest: &mut Stamp) -> Result
 /// Returns whether a record came before.
 fn came(core: &Core, entry: &RecordRef<'_>) -> bool
     ensures { (past : List Step) → Represents core.now past
-        → result ≡ came_before (nodes core.now) past (record_seen entry.now) }
+        → result ≡ came_before past (record_seen entry.now) }
 {
     match entry {
         RecordRef::Item(item) => match core.count(item.node()) {
@@ -139,9 +136,8 @@ fn came(core: &Core, entry: &RecordRef<'_>) -> bool
 /// Applies a record that did not come before.
 fn apply(core: &mut Core, entry: &RecordRef<'_>) -> Result<(), CoreFault>
     ensures represents { (past : List Step) → Represents core.old past
-        → Applies core.old core.new (record_seen entry.now) past result }
-    ensures same { OnErr result (core.new ≡ core.old) }
-    ensures nodes { nodes core.new ≡ nodes core.old }
+        → Applies core.new (record_seen entry.now) past result }
+    ensures unchanged { OnErr result (core.new ≡ core.old) }
 {
     match entry {
         RecordRef::Item(item) => accept(core, item),
@@ -153,9 +149,8 @@ fn apply(core: &mut Core, entry: &RecordRef<'_>) -> Result<(), CoreFault>
 /// Accepts an item.
 fn accept(core: &mut Core, item: &ItemRef<'_>) -> Result<(), CoreFault>
     ensures represents { (past : List Step) → Represents core.old past
-        → Applies core.old core.new (ARecord.Item item.now) past result }
-    ensures same { OnErr result (core.new ≡ core.old) }
-    ensures nodes { nodes core.new ≡ nodes core.old }
+        → Applies core.new (ARecord.Item item.now) past result }
+    ensures unchanged { OnErr result (core.new ≡ core.old) }
 {
     match core.accept_ref(item) {
         Ok(_) => Ok(()),
@@ -166,9 +161,8 @@ fn accept(core: &mut Core, item: &ItemRef<'_>) -> Result<(), CoreFault>
 /// Lets a node of this number join, if it is the next one.
 fn join(core: &mut Core, node: u16, start: Stamp) -> Result<(), CoreFault>
     ensures represents { (past : List Step) → Represents core.old past
-        → Applies core.old core.new (ARecord.Join node start) past result }
-    ensures same { OnErr result (core.new ≡ core.old) }
-    ensures nodes { nodes core.new ≡ nodes core.old }
+        → Applies core.new (ARecord.Join node start) past result }
+    ensures unchanged { OnErr result (core.new ≡ core.old) }
 {
     let next = core.links().len();
     if node as usize != next {

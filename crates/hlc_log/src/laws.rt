@@ -1,5 +1,5 @@
 //! What is true of every log.
-ghost use Rattle.std.specs.Prelude.{◌≡◌, ◌++◌, ℕ, List};
+ghost use Rattle.std.specs.Prelude.{◌≡◌, ◌++◌, List};
 ghost use Rattle.hlc_core.specs.Past.{Step, IsLegal};
 ghost use Rattle.hlc_log.specs.declared.record.Record.{Record as ARecord};
 ghost use Rattle.hlc_log.specs.Log.{with_records};
@@ -8,8 +8,8 @@ ghost use Rattle.hlc_log.specs.Log.{with_records};
 ///
 /// So a store that is restored from a checkpoint needs no exact place in its log, only one that is not after its own.
 pub fn a_log_may_be_read_again()
-    ensures { (nodes : ℕ) (past : List Step) (before again rest : List ARecord)
-        → IsLegal nodes (with_records nodes (before ++ again) past)
-        → with_records nodes (again ++ rest) (with_records nodes (before ++ again) past)
-        ≡ with_records nodes rest (with_records nodes (before ++ again) past) }
+    ensures { (past : List Step) (before again rest : List ARecord)
+        → IsLegal (with_records (before ++ again) past)
+        → with_records (again ++ rest) (with_records (before ++ again) past)
+        ≡ with_records rest (with_records (before ++ again) past) }
 {}

@@ -1,7 +1,6 @@
 //! A store from a checkpoint and a log.
 ghost use Rattle.std.specs.Prelude.{◌≡◌, ℕ, List, IfErr, MatchResult};
 ghost use Rattle.hlc_core.specs.Past.{Step};
-ghost use Rattle.hlc_core.specs.StoreView.{nodes};
 ghost use Rattle.hlc_saved.specs.Saved.{BytesRepresent, SpellNone};
 ghost use Rattle.hlc_saved.specs.declared.fault.ResumeError.TheVariants.{NoMemory as no_memory};
 ghost use Rattle.hlc_log.specs.Log.{AreApplied};
@@ -29,7 +28,7 @@ pub struct Recovered {
 pub fn recover(alloc: Global, checkpoint: &[u8], log: &[u8]) -> Result<Recovered, ResumeError>
     ensures represents { (word : ℕ) (past : List Step) → BytesRepresent checkpoint.now word past
         → MatchResult result (λ made. (made.word ≡ word)
-        × AreApplied (nodes made.core) made.core log.now past 0 made.applied)
+        × AreApplied made.core log.now past 0 made.applied)
         (λ error. error ≡ no_memory) }
     ensures err { IfErr result (SpellNone checkpoint.now) }
 {

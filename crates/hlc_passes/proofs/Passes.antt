@@ -27,7 +27,7 @@ use Rattle.hlc_vacuum.proofs.CountLemmas.{split_count, same_above}
 use Rattle.hlc_vacuum.proofs.RepresentingLemmas.{rows_above_are_counted}
 use Rattle.hlc_core.specs.Past.{Step, PartVacuumed, Vacuumed, horizon, vacuumed, part_dropped, writes, open_snapshots}
 use Rattle.hlc_core.specs.Stored.{IsReport}
-use Rattle.hlc_core.specs.StoreView.{StoreView, nodes, Represents}
+use Rattle.hlc_core.specs.StoreView.{StoreView, Represents}
 use Rattle.hlc_core.specs.Calls.{Vacuums}
 use Rattle.hlc_core.specs.Parts.{rows_of_keys, IsPartReport, VacuumsKeys, EndsAt}
 use Rattle.hlc_core.proofs.PastLemmas.{vacuum-above, vacuumed-low, writes-limits}
@@ -150,6 +150,7 @@ one-step : (new : StoreView) (past : List Step) (at first rest : ℕ)
     → Represents new (PartVacuumed at (first + rest) ∷ past)
 one-step new past at first rest h = record {
   legal = h.legal.1;
+  start = h.start;
   many = h.many;
   links = h.links;
   top = h.top;
@@ -253,7 +254,7 @@ parts-are-a-vacuum old at past part parts h pass =
     let p : HasPassed old new at past (in_part [] None) report = passes old at [] past part parts pass in
     let all' : List Row = writes past in
     let limits : (row : Row) → Contains all' row → IsInLimits row =
-    λ row i. All-contains IsInLimits all' row (writes-limits (nodes old) past h.legal) i in
+    λ row i. All-contains IsInLimits all' row (writes-limits past h.legal) i in
     let whole : rows_of_keys (in_part [] None) all' ≡ all' = keys-above all' limits in
     let left : rows_of_keys (in_part [] None) new.rows ≡ new.rows =
     keys-above new.rows (λ row i. limits row (p.represents.rows.within row i)) in
@@ -267,6 +268,7 @@ parts-are-a-vacuum old at past part parts h pass =
     let number : length new.rows + 0 ≡ length report.witnesses + count_above at all' = omega arith in
     let represents : Represents new (Vacuumed at ∷ past) = record {
       legal = p.represents.legal;
+      start = p.represents.start;
       many = p.represents.many;
       links = p.represents.links;
       top = p.represents.top;
@@ -287,8 +289,8 @@ parts-are-a-vacuum old at past part parts h pass =
         h.stored.1,
         let was : length old.rows + part_dropped past ≡ length h.stored.0 + count_above (vacuumed past) all' =
             h.stored.2 in
-            let bound : vacuumed past ≤ horizon past = vacuumed-low (nodes old) past h.legal in
-            let up : horizon past ≤ at = vacuum-above (nodes new) past at p.represents.legal.0 in
+            let bound : vacuumed past ≤ horizon past = vacuumed-low past h.legal in
+            let up : horizon past ≤ at = vacuum-above past at p.represents.legal.0 in
             let between : count_above (vacuumed past) all'
             ≡ count_between (vacuumed past) at all' + count_above at all' =
             rows_above_are_counted (vacuumed past) at all' (omega arith) in

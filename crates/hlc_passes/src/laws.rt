@@ -9,7 +9,7 @@ ghost use Rattle.hlc_draft.specs.Vacuumed.{IsVacuumOf, rows_to};
 ghost use Rattle.hlc_draft.specs.declared.report.Report.{Report as AReport};
 ghost use Rattle.hlc_core.specs.Past.{Step, Vacuumed, IsLegal, floor, open_snapshots, vacuum_refusal, writes};
 ghost use Rattle.hlc_core.specs.Stored.{AreVacuumPoints, IsReport, IsStoredCount, LeavesFewest};
-ghost use Rattle.hlc_core.specs.StoreView.{StoreView, nodes, with_rows_left, Represents};
+ghost use Rattle.hlc_core.specs.StoreView.{StoreView, with_rows_left, Represents};
 ghost use Rattle.hlc_core.specs.Calls.{Vacuums};
 ghost use Rattle.hlc_core.specs.Certified.{AreNotFewest, IsCertified};
 ghost use Rattle.hlc_core.specs.Parts.{VacuumsKeys, rows_of_keys};
@@ -17,18 +17,17 @@ ghost use Rattle.hlc_core.specs.Parts.{VacuumsKeys, rows_of_keys};
 /// A vacuum without a stamp is a vacuum to the floor: that is not refused, and its points are the stamps of all open
 /// snapshots and the floor.
 pub fn a_vacuum_is_one_to_the_floor()
-    ensures refusal { (nodes : ℕ) (past : List Step) → IsLegal nodes past
-        → vacuum_refusal nodes past (floor nodes past) ≡ None }
-    ensures points { (nodes : ℕ) (past : List Step) (points : List ℕ) → IsLegal nodes past
-        → AreVacuumPoints (floor nodes past) past points
-        ↔ ArePoints (stamps (open_snapshots past)) (floor nodes past) points }
+    ensures refusal { (past : List Step) → IsLegal past → vacuum_refusal past (floor past) ≡ None }
+    ensures points { (past : List Step) (points : List ℕ) → IsLegal past
+        → AreVacuumPoints (floor past) past points
+        ↔ ArePoints (stamps (open_snapshots past)) (floor past) points }
 {}
 
 /// After a vacuum of the stored rows up to a stamp, at the points of the past, the core represents the past with the
 /// vacuum, the report is the expected one, and the remaining rows are the fewest, which are the cheapest.
 pub fn vacuums_keep_representing()
     ensures { (kept : StoreView) (at : ℕ) (past : List Step) (rows : List ARow) (report : AReport)
-        → Represents kept past → vacuum_refusal (nodes kept) past at ≡ None
+        → Represents kept past → vacuum_refusal past at ≡ None
         → AreVacuumPoints at past report.points
         → IsVacuumOf kept.rows report.points report.witnesses rows
         → report.floor ≡ at
@@ -43,7 +42,7 @@ pub fn vacuums_keep_representing()
 pub fn parts_keep_representing()
     ensures { (kept : StoreView) (at : ℕ) (past : List Step) (rows : List ARow)
         (is_of : List ℕ → Bool) (report : AReport)
-        → Represents kept past → vacuum_refusal (nodes kept) past at ≡ None
+        → Represents kept past → vacuum_refusal past at ≡ None
         → AreVacuumPoints at past report.points → IsRowSet rows
         → rows_of_keys (λ key. not (is_of key)) rows
         ≡ rows_of_keys (λ key. not (is_of key)) kept.rows

@@ -1,13 +1,13 @@
 -- The calls of nodes and of stores extend a legal run.
 use Rattle.std.proofs.Common.{◌≡◌, ℕ, Bool, true, false, ◌+◌, ◌<◌, ◌≤◌, List, ◌∷◌, length, Ok, Result}
-use Rattle.std.proofs.Common.{refl, ap, sym, ◌∙◌, subst, inl, inr, arith}
+use Rattle.std.proofs.Common.{refl, ap, sym, ◌∙◌, inl, inr, arith}
 use Rattle.std.proofs.lemmas.Bool.{cases_eq}
 use Rattle.hlc_node.specs.Node.{NodeView, next_item, expected_issue, unless_retired}
 use Rattle.hlc_node.specs.declared.item.Body.{Body}
 use Rattle.hlc_node.specs.declared.item.Item.{Item}
 use Rattle.hlc_node.specs.declared.node.NodeFault.{NodeFault}
-use Rattle.hlc_core.specs.Past.{Step, IsLegal as IsLegalPast}
-use Rattle.hlc_core.specs.StoreView.{StoreView, nodes, Represents}
+use Rattle.hlc_core.specs.Past.{Step}
+use Rattle.hlc_core.specs.StoreView.{StoreView, Represents}
 use Rattle.hlc_ranges.specs.Run.{Layout, Turn, Issued, Stepped, past_of, issued, have_ended, last_stamp, IsRouted}
 use Rattle.hlc_ranges.specs.Run.{IsIssuedStep, IsLegal}
 use Rattle.hlc_core.specs.Past.{floor}
@@ -56,10 +56,10 @@ other-stays layout run s t item node is apart =
     }
 
 pub step-extends : (layout : Layout) (run : List Turn) (s : ℕ) (step : Step) (core : StoreView) → IsLegal layout run
-    → s < layout.stores → nodes core ≡ layout.nodes s → Represents core (step ∷ past_of s run)
+    → s < layout.stores → Represents core (step ∷ past_of layout s run)
     → IsIssuedStep s step run → IsLegal layout (Stepped s step ∷ run)
-step-extends layout run s step core legal within many represents issued' =
-    ((within, subst (λ k. IsLegalPast k (step ∷ past_of s run)) many represents.legal, issued'), legal)
+step-extends layout run s step core legal within represents issued' =
+    ((within, represents.legal, issued'), legal)
 
 pub sent-extends : (layout : Layout) (run : List Turn) (s : ℕ) (node : NodeView) (stamp : ℕ) → IsLegal layout run
     → HasClock layout run s node → node.last < stamp → IsLegal layout (Sent (layout.machine s node.id) stamp ∷ run)
@@ -76,7 +76,7 @@ received-extends layout run s node message stamp legal clock up is =
 
 pub observed-extends : (layout : Layout) (run : List Turn) (s t : ℕ) (node : NodeView) (at stamp : ℕ)
     → IsLegal layout run → HasClock layout run s node → node.last < stamp → t < layout.stores
-    → at ≤ floor (layout.nodes t) (past_of t run) → at < stamp
+    → at ≤ floor (past_of layout t run) → at < stamp
     → IsLegal layout (Observed (layout.machine s node.id) t at stamp ∷ run)
 observed-extends layout run s t node at stamp legal clock up within low above =
     let clock' : last_stamp layout (layout.machine s node.id) run ≤ node.last = clock in

@@ -16,13 +16,13 @@ use Rattle.hlc_node.specs.declared.item.Body.TheVariants.{Write, Batch, Report, 
 use Rattle.hlc_rows.specs.Rows.{newest, answer, IsRowSet}
 use Rattle.hlc_rows.proofs.NewestLemmas.{newest_is_greatest, answer_none, answer_some}
 use Rattle.hlc_draft.proofs.PartLemmas.{newest_in_part, none_in_part}
-use Rattle.hlc_core.specs.Past.{Step, Took, Opened, Closed, Vacuumed, PartVacuumed, Joined, writes, body_rows}
+use Rattle.hlc_core.specs.Past.{Step, Started, Took, Opened, Closed, Vacuumed, PartVacuumed, Joined, writes, body_rows}
 use Rattle.hlc_core.specs.Past.{item_rows}
-use Rattle.hlc_core.proofs.PastLemmas.{body_rows-are, writes-row_set}
+use Rattle.hlc_core.proofs.PastLemmas.{body_rows-are, took-writes, writes-row_set}
 use Rattle.hlc_ranges.specs.Run.{Layout, Turn, Issued, Sent, Received, Observed, Stepped, past_of, issued, IsRouted}
 use Rattle.hlc_ranges.specs.Run.{IsIssuedStep, IsLegal, step_rows, issued_writes, accepted_writes}
 use Rattle.hlc_ranges.specs.Cut.{IsCut, AreNewestAccepted, AreNewestIssued}
-use Rattle.hlc_ranges.proofs.Pasts.{writes-have, writes-from}
+use Rattle.hlc_ranges.proofs.Pasts.{writes-from}
 use Rattle.hlc_ranges.proofs.Turns.{past-same, past-other, issued-same, issued-other_node, issued-other}
 use Rattle.hlc_ranges.proofs.Turns.{past-legal}
 use Rattle.hlc_ranges.proofs.Cuts.{issued-keeps, issued-from, complete}
@@ -69,8 +69,12 @@ row-routed layout s node stamp (Write key value) row routed m =
 
 -- an accepted item was issued for its store
 accepted-issued : (layout : Layout) (run : List Turn) (s : ℕ) (item : Item) → IsLegal layout run
-    → Contains (past_of s run) (Took item) → Contains (issued s item.node run) item
-accepted-issued layout [] s item legal m = absurd (Contains-none (Took item) m)
+    → Contains (past_of layout s run) (Took item) → Contains (issued s item.node run) item
+accepted-issued layout [] s item legal m =
+    elim (Contains-cons_cases (Started (layout.nodes s)) (Took item) [] m) [
+      | inl same ↦ absurd cc
+      | inr rest ↦ absurd (Contains-none (Took item) rest)
+    ]
 accepted-issued layout (Issued t x ∷ run) s item legal m =
     issued-keeps (Issued t x) run s item.node item (accepted-issued layout run s item legal.1 m)
 accepted-issued layout (Sent n st ∷ run) s item legal m = accepted-issued layout run s item legal.1 m
@@ -79,10 +83,10 @@ accepted-issued layout (Observed n t at st ∷ run) s item legal m = accepted-is
 accepted-issued layout (Stepped t step ∷ run) s item legal m =
     elim (cases_eq t s) [
       | inr other ↦ accepted-issued layout run s item legal.1
-          (subst (λ p. Contains p (Took item)) (past-other s t step run other) m)
+          (subst (λ p. Contains p (Took item)) (past-other layout s t step run other) m)
       | inl same ↦
-          elim (Contains-cons_cases step (Took item) (past_of s run)
-          (subst (λ p. Contains p (Took item)) (past-same s t step run same) m)) [
+          elim (Contains-cons_cases step (Took item) (past_of layout s run)
+          (subst (λ p. Contains p (Took item)) (past-same layout s t step run same) m)) [
             | inr old ↦ accepted-issued layout run s item legal.1 old
             | inl is ↦ subst (λ k. Contains (issued k item.node run) item) same
                 (subst (λ x. IsIssuedStep t x run) is legal.0.2)
@@ -159,10 +163,10 @@ pub newest-issued : (layout : Layout) (run : List Turn) (stamp : ℕ) → IsLega
     → AreNewestIssued layout run stamp
 newest-issued layout run stamp legal cut = λ key at low.
     let s : ℕ = layout.store_of key in
-    answer-in_part (writes (past_of s run)) (issued_writes run) key at
-    (writes-row_set (layout.nodes s) (past_of s run) (past-legal layout run s legal))
+    answer-in_part (writes (past_of layout s run)) (issued_writes run) key at
+    (writes-row_set (past_of layout s run) (past-legal layout run s legal))
     (λ row m.
-    let w = writes-from (past_of s run) row m in
+    let w = writes-from (past_of layout s run) row m in
     issued_writes-have run s w.item.node w.item row (accepted-issued layout run s w.item legal w.accepted) w.of)
     (λ row m of_key below.
     let w = issued_writes-from run row m in
@@ -173,125 +177,133 @@ newest-issued layout run stamp legal cut = λ key at low.
     let low' : at ≤ stamp = low in
     let below' : row.stamp ≤ at = below in
     let accepted = complete layout run stamp legal cut w.store w.item.node w.item w.issued (omega arith) in
-    writes-have (past_of s run) w.item row (subst (λ k. Contains (past_of k run) (Took w.item)) at' accepted) w.of)
+    took-writes (past_of layout s run) w.item row
+    (subst (λ k. Contains (past_of layout k run) (Took w.item)) at' accepted) w.of)
 
 -- a write after a step is an old one, or that of the step
 pub step-writes : (step : Step) (past : List Step) (row : Row) → Contains (writes (step ∷ past)) row
     → Contains (writes past) row ⊎ Contains (step_rows step) row
 step-writes (Took item) past row m = Contains-append_cases (writes past) (item_rows item) row m
 step-writes (Opened stamp) past row m = inl m
+step-writes (Started nodes) past row m = inl m
 step-writes (Closed id) past row m = inl m
 step-writes (Vacuumed at) past row m = inl m
 step-writes (PartVacuumed at dropped) past row m = inl m
 step-writes (Joined node start) past row m = inl m
 
 -- an accepted item stays one
-pub past-keeps : (t : ℕ) (step : Step) (run : List Turn) (s : ℕ) (item : Item) → Contains (past_of s run) (Took item)
-    → Contains (past_of s (Stepped t step ∷ run)) (Took item)
-past-keeps t step run s item m =
+pub past-keeps : (layout : Layout) (t : ℕ) (step : Step) (run : List Turn) (s : ℕ) (item : Item)
+    → Contains (past_of layout s run) (Took item)
+    → Contains (past_of layout s (Stepped t step ∷ run)) (Took item)
+past-keeps layout t step run s item m =
     elim (cases_eq t s) [
-      | inr other ↦ subst (λ p. Contains p (Took item)) (sym (past-other s t step run other)) m
-      | inl same ↦ subst (λ p. Contains p (Took item)) (sym (past-same s t step run same))
-          (Contains-rest step (Took item) (past_of s run) m)
+      | inr other ↦ subst (λ p. Contains p (Took item)) (sym (past-other layout s t step run other)) m
+      | inl same ↦ subst (λ p. Contains p (Took item)) (sym (past-same layout s t step run same))
+          (Contains-rest step (Took item) (past_of layout s run) m)
     ]
 
 -- the writes of a store are among the accepted ones
-accepted_writes-have : (run : List Turn) (s : ℕ) (row : Row) → Contains (writes (past_of s run)) row
+accepted_writes-have : (layout : Layout) (run : List Turn) (s : ℕ) (row : Row)
+    → Contains (writes (past_of layout s run)) row
     → Contains (accepted_writes run) row
-accepted_writes-have [] s row m = absurd (Contains-none row m)
-accepted_writes-have (Issued t x ∷ run) s row m = accepted_writes-have run s row m
-accepted_writes-have (Sent k st ∷ run) s row m = accepted_writes-have run s row m
-accepted_writes-have (Received k j st ∷ run) s row m = accepted_writes-have run s row m
-accepted_writes-have (Observed k t at st ∷ run) s row m = accepted_writes-have run s row m
-accepted_writes-have (Stepped t step ∷ run) s row m =
+accepted_writes-have layout [] s row m = absurd (Contains-none row m)
+accepted_writes-have layout (Issued t x ∷ run) s row m = accepted_writes-have layout run s row m
+accepted_writes-have layout (Sent k st ∷ run) s row m = accepted_writes-have layout run s row m
+accepted_writes-have layout (Received k j st ∷ run) s row m = accepted_writes-have layout run s row m
+accepted_writes-have layout (Observed k t at st ∷ run) s row m = accepted_writes-have layout run s row m
+accepted_writes-have layout (Stepped t step ∷ run) s row m =
     elim (cases_eq t s) [
       | inr other ↦ Contains-append_left (accepted_writes run) (step_rows step) row
-          (accepted_writes-have run s row
-          (subst (λ p. Contains (writes p) row) (past-other s t step run other) m))
+          (accepted_writes-have layout run s row
+          (subst (λ p. Contains (writes p) row) (past-other layout s t step run other) m))
       | inl same ↦
-          elim (step-writes step (past_of s run) row
-          (subst (λ p. Contains (writes p) row) (past-same s t step run same) m)) [
+          elim (step-writes step (past_of layout s run) row
+          (subst (λ p. Contains (writes p) row) (past-same layout s t step run same) m)) [
             | inl old ↦ Contains-append_left (accepted_writes run) (step_rows step) row
-                (accepted_writes-have run s row old)
+                (accepted_writes-have layout run s row old)
             | inr fresh ↦ Contains-append_right (accepted_writes run) (step_rows step) row fresh
           ]
     ]
 
 -- an accepted write is the row of an item that some store accepted
-record IsOfStore (run : List Turn) (row : Row) : Type 0 where
+record IsOfStore (layout : Layout) (run : List Turn) (row : Row) : Type 0 where
   pub store : ℕ
   pub item : Item
-  pub accepted : Contains (past_of store run) (Took item)
+  pub accepted : Contains (past_of layout store run) (Took item)
   pub of : Contains (item_rows item) row
 
-of_store-keeps : (t : ℕ) (step : Step) (run : List Turn) (row : Row) → IsOfStore run row
-    → IsOfStore (Stepped t step ∷ run) row
-of_store-keeps t step run row h = record {
+of_store-keeps : (layout : Layout) (t : ℕ) (step : Step) (run : List Turn) (row : Row) → IsOfStore layout run row
+    → IsOfStore layout (Stepped t step ∷ run) row
+of_store-keeps layout t step run row h = record {
   store = h.store;
   item = h.item;
-  accepted = past-keeps t step run h.store h.item h.accepted;
+  accepted = past-keeps layout t step run h.store h.item h.accepted;
   of = h.of;
 }
 
-of_store-step : (t : ℕ) (step : Step) (run : List Turn) (row : Row) → Contains (step_rows step) row
-    → IsOfStore (Stepped t step ∷ run) row
-of_store-step t (Took item) run row m = record {
+of_store-step : (layout : Layout) (t : ℕ) (step : Step) (run : List Turn) (row : Row) → Contains (step_rows step) row
+    → IsOfStore layout (Stepped t step ∷ run) row
+of_store-step layout t (Took item) run row m = record {
   store = t;
   item = item;
-  accepted = subst (λ p. Contains p (Took item)) (sym (past-same t t (Took item) run refl))
-      (Contains-first (Took item) (past_of t run));
+  accepted = subst (λ p. Contains p (Took item)) (sym (past-same layout t t (Took item) run refl))
+      (Contains-first (Took item) (past_of layout t run));
   of = m;
 }
-of_store-step t (Opened stamp) run row m = absurd (Contains-none row m)
-of_store-step t (Closed id) run row m = absurd (Contains-none row m)
-of_store-step t (Vacuumed at) run row m = absurd (Contains-none row m)
-of_store-step t (PartVacuumed at dropped) run row m = absurd (Contains-none row m)
-of_store-step t (Joined node start) run row m = absurd (Contains-none row m)
+of_store-step layout t (Opened stamp) run row m = absurd (Contains-none row m)
+of_store-step layout t (Started nodes) run row m = absurd (Contains-none row m)
+of_store-step layout t (Closed id) run row m = absurd (Contains-none row m)
+of_store-step layout t (Vacuumed at) run row m = absurd (Contains-none row m)
+of_store-step layout t (PartVacuumed at dropped) run row m = absurd (Contains-none row m)
+of_store-step layout t (Joined node start) run row m = absurd (Contains-none row m)
 
-accepted_writes-from : (run : List Turn) (row : Row) → Contains (accepted_writes run) row → IsOfStore run row
-accepted_writes-from [] row m = absurd (Contains-none row m)
-accepted_writes-from (Issued t x ∷ run) row m =
-    (let w = accepted_writes-from run row m in
+accepted_writes-from : (layout : Layout) (run : List Turn) (row : Row) → Contains (accepted_writes run) row
+    → IsOfStore layout run row
+accepted_writes-from layout [] row m = absurd (Contains-none row m)
+accepted_writes-from layout (Issued t x ∷ run) row m =
+    (let w = accepted_writes-from layout run row m in
     record { store = w.store; item = w.item; accepted = w.accepted; of = w.of })
-accepted_writes-from (Sent k st ∷ run) row m =
-    (let w = accepted_writes-from run row m in
+accepted_writes-from layout (Sent k st ∷ run) row m =
+    (let w = accepted_writes-from layout run row m in
     record { store = w.store; item = w.item; accepted = w.accepted; of = w.of })
-accepted_writes-from (Received k j st ∷ run) row m =
-    (let w = accepted_writes-from run row m in
+accepted_writes-from layout (Received k j st ∷ run) row m =
+    (let w = accepted_writes-from layout run row m in
     record { store = w.store; item = w.item; accepted = w.accepted; of = w.of })
-accepted_writes-from (Observed k t at st ∷ run) row m =
-    (let w = accepted_writes-from run row m in
+accepted_writes-from layout (Observed k t at st ∷ run) row m =
+    (let w = accepted_writes-from layout run row m in
     record { store = w.store; item = w.item; accepted = w.accepted; of = w.of })
-accepted_writes-from (Stepped t step ∷ run) row m =
+accepted_writes-from layout (Stepped t step ∷ run) row m =
     elim (Contains-append_cases (accepted_writes run) (step_rows step) row m) [
-      | inl old ↦ of_store-keeps t step run row (accepted_writes-from run row old)
-      | inr fresh ↦ of_store-step t step run row fresh
+      | inl old ↦ of_store-keeps layout t step run row (accepted_writes-from layout run row old)
+      | inr fresh ↦ of_store-step layout t step run row fresh
     ]
 
 pub newest-accepted : (layout : Layout) (run : List Turn) → IsLegal layout run → AreNewestAccepted layout run
 newest-accepted layout run legal = λ key at.
     let s : ℕ = layout.store_of key in
-    answer-in_part (writes (past_of s run)) (accepted_writes run) key at
-    (writes-row_set (layout.nodes s) (past_of s run) (past-legal layout run s legal))
-    (λ row m. accepted_writes-have run s row m)
+    answer-in_part (writes (past_of layout s run)) (accepted_writes run) key at
+    (writes-row_set (past_of layout s run) (past-legal layout run s legal))
+    (λ row m. accepted_writes-have layout run s row m)
     (λ row m of_key below.
-    let w = accepted_writes-from run row m in
+    let w = accepted_writes-from layout run row m in
     let from = issued-from layout run w.store w.item.node w.item legal
     (accepted-issued layout run w.store w.item legal w.accepted) in
     let at' : w.store ≡ s = sym (row-routed layout w.store w.item.node w.item.stamp w.item.body row from.routed w.of)
     ∙ ap (λ k. layout.store_of k) of_key in
-    writes-have (past_of s run) w.item row (subst (λ k. Contains (past_of k run) (Took w.item)) at' w.accepted) w.of)
+    took-writes (past_of layout s run) w.item row
+    (subst (λ k. Contains (past_of layout k run) (Took w.item)) at' w.accepted) w.of)
 
 -- a store has no row of another store's key
 pub other-none : (layout : Layout) (run : List Turn) (s : ℕ) (key : List ℕ) (stamp : ℕ) → IsLegal layout run
-    → (layout.store_of key ≡ s → ⊥) → answer (writes (past_of s run)) key stamp ≡ None
+    → (layout.store_of key ≡ s → ⊥) → answer (writes (past_of layout s run)) key stamp ≡ None
 other-none layout run s key stamp legal other =
-    elim (newest (writes (past_of s run)) key stamp) as
-    (λ o. newest (writes (past_of s run)) key stamp ≡ o → answer (writes (past_of s run)) key stamp ≡ None) [
-      | None ↦ λ e. answer_none (writes (past_of s run)) key stamp e
+    elim (newest (writes (past_of layout s run)) key stamp) as
+    (λ o. newest (writes (past_of layout s run)) key stamp ≡ o
+    → answer (writes (past_of layout s run)) key stamp ≡ None) [
+      | None ↦ λ e. answer_none (writes (past_of layout s run)) key stamp e
       | Some row ↦ λ e.
-          let is = newest_is_greatest (writes (past_of s run)) key stamp row e in
-          let w = writes-from (past_of s run) row is.member in
+          let is = newest_is_greatest (writes (past_of layout s run)) key stamp row e in
+          let w = writes-from (past_of layout s run) row is.member in
           let from = issued-from layout run s w.item.node w.item legal
           (accepted-issued layout run s w.item legal w.accepted) in
           absurd (other (ap (λ k. layout.store_of k) (sym is.of_key)

@@ -5,7 +5,7 @@ use Rattle.std.proofs.Common.{subst, inl, inr, arith}
 use Rattle.std.specs.Prelude.{Contains}
 use Rattle.std.proofs.lemmas.Bool.{cases_eq}
 use Rattle.hlc_node.specs.declared.item.Item.{Item}
-use Rattle.hlc_core.specs.Past.{Step, Took, Opened, Closed, Vacuumed, PartVacuumed, Joined, numbered, head}
+use Rattle.hlc_core.specs.Past.{Step, Started, Took, Opened, Closed, Vacuumed, PartVacuumed, Joined, numbered, head}
 use Rattle.hlc_core.specs.Past.{IsLegal as IsLegalPast}
 use Rattle.hlc_core.specs.Replicas.{items_of}
 use Rattle.hlc_core.proofs.PastLemmas.{inside, on_link, admissible, head-same, head-other, head-joined}
@@ -18,49 +18,51 @@ use Rattle.hlc_ranges.proofs.Turns.{raised-same, clock-grows, past-same, past-ot
 use Rattle.hlc_ranges.proofs.Turns.{issued-other}
 
 -- a link of a node in a past
-abbrev pub IsLinkOf : ℕ → ℕ → ℕ → List Item → List Step → Type 0
-IsLinkOf last nodes n items past = IsLink last (numbered nodes past) n items (items_of n past) (head n past)
+abbrev pub IsLinkOf : ℕ → ℕ → List Item → List Step → Type 0
+IsLinkOf last n items past = IsLink last (numbered past) n items (items_of n past) (head n past)
 
 -- after a step of its store, which took only an item of the link
-pub link-step : (last nodes n : ℕ) (items : ℕ → List Item) (step : Step) (past : List Step)
-    → IsLegalPast nodes (step ∷ past)
+pub link-step : (last n : ℕ) (items : ℕ → List Item) (step : Step) (past : List Step)
+    → IsLegalPast (step ∷ past)
     → ((item : Item) → step ≡ Took item → Contains (items item.node) item)
     → ((start : ℕ) → step ≡ Joined n start → start ≤ last)
-    → IsLinkOf last nodes n (items n) past → IsLinkOf last nodes n (items n) (step ∷ past)
-link-step last nodes n items (Opened stamp) past legal from up h = h
-link-step last nodes n items (Closed id) past legal from up h = h
-link-step last nodes n items (Vacuumed at) past legal from up h = h
-link-step last nodes n items (PartVacuumed at dropped) past legal from up h = h
-link-step last nodes n items (Took item) past legal from up h =
+    → IsLinkOf last n (items n) past → IsLinkOf last n (items n) (step ∷ past)
+link-step last n items (Opened stamp) past legal from up h = h
+link-step last n items (Started nodes) past legal from up h =
+    link-more last (numbered past) (numbered past + nodes) n (items n) (items_of n past) (head n past) (omega arith) h
+link-step last n items (Closed id) past legal from up h = h
+link-step last n items (Vacuumed at) past legal from up h = h
+link-step last n items (PartVacuumed at dropped) past legal from up h = h
+link-step last n items (Took item) past legal from up h =
     elim (cases_eq item.node n) [
       | inl same ↦
-          let is = admissible _ _ _ item (sym (on_link nodes past item (inside nodes past item legal.0)) ∙ legal.0) in
+          let is = admissible _ _ _ item (sym (on_link past item (inside past item legal.0)) ∙ legal.0) in
           let number : item.number ≡ length (items_of n past) =
           is.number ∙ count-by past item.node ∙ ap (λ k. length (items_of k past)) same in
-          let took = link-took last (numbered nodes past) n (items n) (items_of n past) (head n past) item h
+          let took = link-took last (numbered past) n (items n) (items_of n past) (head n past) item h
           (subst (λ k. Contains (items k) item) same (from item refl)) number in
-          subst (λ top. IsLink last (numbered nodes past) n (items n) (items_of n (Took item ∷ past)) top)
+          subst (λ top. IsLink last (numbered past) n (items n) (items_of n (Took item ∷ past)) top)
           (sym (head-same n item past same))
-          (subst (λ xs. IsLink last (numbered nodes past) n (items n) xs item.stamp) (sym (items-same n item past same))
+          (subst (λ xs. IsLink last (numbered past) n (items n) xs item.stamp) (sym (items-same n item past same))
           took)
       | inr other ↦
-          subst (λ top. IsLink last (numbered nodes past) n (items n) (items_of n (Took item ∷ past)) top)
+          subst (λ top. IsLink last (numbered past) n (items n) (items_of n (Took item ∷ past)) top)
           (sym (head-other n item past other))
-          (subst (λ xs. IsLink last (numbered nodes past) n (items n) xs (head n past))
+          (subst (λ xs. IsLink last (numbered past) n (items n) xs (head n past))
           (sym (items-other n item past other)) h)
     ]
-link-step last nodes n items (Joined node start) past legal from up h =
+link-step last n items (Joined node start) past legal from up h =
     elim (cases_eq node n) [
       | inl same ↦
-          let is : n ≡ numbered nodes past = sym same ∙ legal.1 in
-          subst (λ top. IsLink last (numbered nodes past + 1) n (items n) (items_of n past) top)
+          let is : n ≡ numbered past = sym same ∙ legal.1 in
+          subst (λ top. IsLink last (numbered past + 1) n (items n) (items_of n past) top)
           (sym (head-joined n node start past same))
-          (link-start last (numbered nodes past) n (items n) (items_of n past) (head n past) start is
+          (link-start last (numbered past) n (items n) (items_of n past) (head n past) start is
           (up start (ap (λ k. Joined k start) same)) h)
       | inr other ↦
-          subst (λ top. IsLink last (numbered nodes past + 1) n (items n) (items_of n past) top)
+          subst (λ top. IsLink last (numbered past + 1) n (items n) (items_of n past) top)
           (sym (head-joined_other n node start past other))
-          (link-more last (numbered nodes past) (numbered nodes past + 1) n (items n) (items_of n past) (head n past)
+          (link-more last (numbered past) (numbered past + 1) n (items n) (items_of n past) (head n past)
           (omega arith) h)
     ]
 
@@ -68,31 +70,31 @@ link-step last nodes n items (Joined node start) past legal from up h =
 abbrev pub IsOrderly : Layout → List Turn → Type 0
 IsOrderly layout run =
     (s n : ℕ)
-    → IsLinkOf (last_stamp layout (layout.machine s n) run) (layout.nodes s) n (issued s n run) (past_of s run)
+    → IsLinkOf (last_stamp layout (layout.machine s n) run) n (issued s n run) (past_of layout s run)
 
 -- a turn that changes only a clock
 orderly-clock : (layout : Layout) (turn : Turn) (run : List Turn) → IsOrderly layout run → (s n : ℕ)
-    → IsLinkOf (last_stamp layout (layout.machine s n) (turn ∷ run)) (layout.nodes s) n (issued s n run) (past_of s run)
+    → IsLinkOf (last_stamp layout (layout.machine s n) (turn ∷ run)) n (issued s n run) (past_of layout s run)
 orderly-clock layout turn run h s n =
-    link-rises _ _ (numbered (layout.nodes s) (past_of s run)) n (issued s n run) (items_of n (past_of s run))
-    (head n (past_of s run)) (clock-grows layout (layout.machine s n) turn run) (h s n)
+    link-rises _ _ (numbered (past_of layout s run)) n (issued s n run) (items_of n (past_of layout s run))
+    (head n (past_of layout s run)) (clock-grows layout (layout.machine s n) turn run) (h s n)
 
 orderly-issued : (layout : Layout) (t : ℕ) (item : Item) (run : List Turn) → IsAllowed layout (Issued t item) run
     → IsOrderly layout run → IsOrderly layout (Issued t item ∷ run)
 orderly-issued layout t item run allowed h = λ s n.
     let clocked = orderly-clock layout (Issued t item) run h s n in
-    let many : ℕ = numbered (layout.nodes s) (past_of s run) in
+    let many : ℕ = numbered (past_of layout s run) in
     let last : ℕ = last_stamp layout (layout.machine s n) (Issued t item ∷ run) in
     elim (cases_eq t s) [
-      | inr other ↦ subst (λ xs. IsLinkOf last (layout.nodes s) n xs (past_of s run))
+      | inr other ↦ subst (λ xs. IsLinkOf last n xs (past_of layout s run))
           (sym (issued-other s t n item run other)) clocked
       | inl same ↦
           elim (cases_eq item.node n) [
-            | inr other ↦ subst (λ xs. IsLinkOf last (layout.nodes s) n xs (past_of s run))
+            | inr other ↦ subst (λ xs. IsLinkOf last n xs (past_of layout s run))
                 (sym (issued-other_node s t n item run same other)) clocked
             | inl own ↦
                 let within : n < many = subst (λ k. k < many) own
-                (subst (λ k. item.node < numbered (layout.nodes k) (past_of k run)) same allowed.1) in
+                (subst (λ k. item.node < numbered (past_of layout k run)) same allowed.1) in
                 let open' = subst (λ k. have_ended (issued s k run) ≡ false) own
                 (subst (λ k. have_ended (issued k item.node run) ≡ false) same allowed.2) in
                 let number : item.number ≡ length (issued s n run) =
@@ -101,14 +103,14 @@ orderly-issued layout t item run allowed h = λ s n.
                 ap (λ k. layout.machine k item.node) same ∙ ap (λ k. layout.machine s k) own in
                 let up : last_stamp layout (layout.machine s n) run < item.stamp =
                 subst (λ k. last_stamp layout k run < item.stamp) machine allowed.4 in
-                let made = link-issue _ many n (issued s n run) (items_of n (past_of s run))
-                (head n (past_of s run)) item (h s n) within open' number up in
+                let made = link-issue _ many n (issued s n run) (items_of n (past_of layout s run))
+                (head n (past_of layout s run)) item (h s n) within open' number up in
                 let at = raised-same (layout.machine s n) (layout.machine t item.node, item.stamp)
                 (last_stamp layout (layout.machine s n) run) machine in
-                subst (λ xs. IsLinkOf last (layout.nodes s) n xs (past_of s run))
+                subst (λ xs. IsLinkOf last n xs (past_of layout s run))
                 (sym (issued-same s t n item run same own))
-                (link-rises item.stamp last many n (item ∷ issued s n run) (items_of n (past_of s run))
-                (head n (past_of s run)) (omega (arith, at)) made)
+                (link-rises item.stamp last many n (item ∷ issued s n run) (items_of n (past_of layout s run))
+                (head n (past_of layout s run)) (omega (arith, at)) made)
           ]
     ]
 
@@ -118,12 +120,12 @@ orderly-stepped layout t step run allowed h = λ s n.
     let clocked = orderly-clock layout (Stepped t step) run h s n in
     let last : ℕ = last_stamp layout (layout.machine s n) (Stepped t step ∷ run) in
     elim (cases_eq t s) [
-      | inr other ↦ subst (λ past. IsLinkOf last (layout.nodes s) n (issued s n run) past)
-          (sym (past-other s t step run other)) clocked
+      | inr other ↦ subst (λ past. IsLinkOf last n (issued s n run) past)
+          (sym (past-other layout s t step run other)) clocked
       | inl same ↦
-          subst (λ past. IsLinkOf last (layout.nodes s) n (issued s n run) past) (sym (past-same s t step run same))
-          (link-step last (layout.nodes s) n (λ k. issued s k run) step (past_of s run)
-          (subst (λ k. IsLegalPast (layout.nodes k) (step ∷ past_of k run)) same allowed.1)
+          subst (λ past. IsLinkOf last n (issued s n run) past) (sym (past-same layout s t step run same))
+          (link-step last n (λ k. issued s k run) step (past_of layout s run)
+          (subst (λ k. IsLegalPast (step ∷ past_of layout k run)) same allowed.1)
           (λ item is. subst (λ k. Contains (issued k item.node run) item) same
           (subst (λ x. IsIssuedStep t x run) is allowed.2))
           (λ start is.
@@ -139,7 +141,7 @@ orderly-stepped layout t step run allowed h = λ s n.
 
 -- every legal run is orderly
 pub orderly : (layout : Layout) (run : List Turn) → IsLegal layout run → IsOrderly layout run
-orderly layout [] legal = λ s n. link-none 0 (layout.nodes s) n
+orderly layout [] legal = λ s n. link-none 0 (numbered (past_of layout s [])) n
 orderly layout (Issued t item ∷ run) legal = orderly-issued layout t item run legal.0 (orderly layout run legal.1)
 orderly layout (Sent m st ∷ run) legal = orderly-clock layout (Sent m st) run (orderly layout run legal.1)
 orderly layout (Received m k st ∷ run) legal = orderly-clock layout (Received m k st) run (orderly layout run legal.1)

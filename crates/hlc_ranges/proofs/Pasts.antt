@@ -3,11 +3,12 @@ use Rattle.std.proofs.Common.{◌≡◌, ℕ, ◌+◌, List, [], ◌∷◌, leng
 use Rattle.std.proofs.Common.{◌∙◌, subst, inl, inr, arith}
 use Rattle.std.specs.Prelude.{Contains, ◌==◌}
 use Rattle.std.proofs.lemmas.Bool.{cond-true, cond-false, eq-eqb, ne_eqb, cases_eq}
-use Rattle.std.proofs.lemmas.List.Elements.{Contains-append_left, Contains-append_right, Contains-append_cases}
+use Rattle.std.proofs.lemmas.List.Elements.{Contains-append_cases}
 use Rattle.hlc_values.proofs.MemberLemmas.{Contains-none, Contains-first, Contains-rest, Contains-cons_cases}
 use Rattle.hlc_rows.specs.declared.row.Row.{Row}
 use Rattle.hlc_node.specs.declared.item.Item.{Item}
-use Rattle.hlc_core.specs.Past.{Step, Took, Opened, Closed, Vacuumed, PartVacuumed, Joined, count, retired, writes}
+use Rattle.hlc_core.specs.Past.{Step, Started, Took, Opened, Closed, Vacuumed, PartVacuumed, Joined, count, retired}
+use Rattle.hlc_core.specs.Past.{writes}
 use Rattle.hlc_core.specs.Past.{item_rows}
 use Rattle.hlc_core.specs.Replicas.{items_of}
 use Rattle.hlc_core.proofs.PastLemmas.{retired-same, retired-other, count-other}
@@ -25,6 +26,7 @@ items-other n item past e = cond-false _ _ _ (ne_eqb _ _ e)
 pub retired-by : (past : List Step) (n : ℕ) → retired n past ≡ have_ended (items_of n past)
 retired-by [] n = refl
 retired-by (Opened stamp ∷ past) n = retired-by past n
+retired-by (Started nodes ∷ past) n = retired-by past n
 retired-by (Closed id ∷ past) n = retired-by past n
 retired-by (Vacuumed at ∷ past) n = retired-by past n
 retired-by (PartVacuumed at dropped ∷ past) n = retired-by past n
@@ -39,6 +41,7 @@ retired-by (Took item ∷ past) n =
 pub count-by : (past : List Step) (n : ℕ) → count n past ≡ length (items_of n past)
 count-by [] n = refl
 count-by (Opened stamp ∷ past) n = count-by past n
+count-by (Started nodes ∷ past) n = count-by past n
 count-by (Closed id ∷ past) n = count-by past n
 count-by (Vacuumed at ∷ past) n = count-by past n
 count-by (PartVacuumed at dropped ∷ past) n = count-by past n
@@ -57,6 +60,7 @@ pub items-accepted : (past : List Step) (n : ℕ) (item : Item) → Contains (it
     → Contains past (Took item)
 items-accepted [] n item m = absurd (Contains-none item m)
 items-accepted (Opened stamp ∷ past) n item m = Contains-rest _ _ past (items-accepted past n item m)
+items-accepted (Started nodes ∷ past) n item m = Contains-rest _ _ past (items-accepted past n item m)
 items-accepted (Closed id ∷ past) n item m = Contains-rest _ _ past (items-accepted past n item m)
 items-accepted (Vacuumed at ∷ past) n item m = Contains-rest _ _ past (items-accepted past n item m)
 items-accepted (PartVacuumed at dropped ∷ past) n item m = Contains-rest _ _ past (items-accepted past n item m)
@@ -73,43 +77,6 @@ items-accepted (Took first ∷ past) n item m =
           (items-accepted past n item (subst (λ xs. Contains xs item) (items-other n first past other) m))
     ]
 
--- the rows of accepted items are the accepted writes
-pub writes-have : (past : List Step) (item : Item) (row : Row) → Contains past (Took item)
-    → Contains (item_rows item) row → Contains (writes past) row
-writes-have [] item row m r = absurd (Contains-none (Took item) m)
-writes-have (Opened stamp ∷ past) item row m r =
-    elim (Contains-cons_cases (Opened stamp) (Took item) past m) [
-      | inl same ↦ absurd (cc)
-      | inr rest ↦ writes-have past item row rest r
-    ]
-writes-have (Closed id ∷ past) item row m r =
-    elim (Contains-cons_cases (Closed id) (Took item) past m) [
-      | inl same ↦ absurd (cc)
-      | inr rest ↦ writes-have past item row rest r
-    ]
-writes-have (Vacuumed at ∷ past) item row m r =
-    elim (Contains-cons_cases (Vacuumed at) (Took item) past m) [
-      | inl same ↦ absurd (cc)
-      | inr rest ↦ writes-have past item row rest r
-    ]
-writes-have (PartVacuumed at dropped ∷ past) item row m r =
-    elim (Contains-cons_cases (PartVacuumed at dropped) (Took item) past m) [
-      | inl same ↦ absurd (cc)
-      | inr rest ↦ writes-have past item row rest r
-    ]
-writes-have (Joined node start ∷ past) item row m r =
-    elim (Contains-cons_cases (Joined node start) (Took item) past m) [
-      | inl same ↦ absurd (cc)
-      | inr rest ↦ writes-have past item row rest r
-    ]
-writes-have (Took first ∷ past) item row m r =
-    elim (Contains-cons_cases (Took first) (Took item) past m) [
-      | inl same ↦ (let is : first ≡ item = cc in
-          Contains-append_right (writes past) (item_rows first) row
-          (subst (λ x. Contains (item_rows x) row) (sym is) r))
-      | inr rest ↦ Contains-append_left (writes past) (item_rows first) row (writes-have past item row rest r)
-    ]
-
 -- an accepted write is the row of an accepted item
 pub record IsOfItem (past : List Step) (row : Row) : Type 0 where
   pub item : Item
@@ -123,6 +90,7 @@ of-more past step row h =
 pub writes-from : (past : List Step) (row : Row) → Contains (writes past) row → IsOfItem past row
 writes-from [] row m = absurd (Contains-none row m)
 writes-from (Opened stamp ∷ past) row m = of-more past _ row (writes-from past row m)
+writes-from (Started nodes ∷ past) row m = of-more past _ row (writes-from past row m)
 writes-from (Closed id ∷ past) row m = of-more past _ row (writes-from past row m)
 writes-from (Vacuumed at ∷ past) row m = of-more past _ row (writes-from past row m)
 writes-from (PartVacuumed at dropped ∷ past) row m = of-more past _ row (writes-from past row m)

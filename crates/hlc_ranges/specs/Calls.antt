@@ -7,7 +7,7 @@ use Rattle.hlc_ranges.specs.Run.{Layout, Turn, Issued, past_of, issued, have_end
 
 -- the node has joined the store, has the next number of its link, and has retired if its last item was issued
 pub record IsNodeOf (layout : Layout) (run : List Turn) (s : ℕ) (node : NodeView) : Type 0 where
-  pub inside : node.id < numbered (layout.nodes s) (past_of s run)
+  pub inside : node.id < numbered (past_of layout s run)
   pub next : node.next ≡ length (issued s node.id run)
   pub retired : node.retired ≡ have_ended (issued s node.id run)
 

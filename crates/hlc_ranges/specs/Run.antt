@@ -7,7 +7,7 @@ use Rattle.hlc_node.specs.declared.item.Item.{Item}
 use Rattle.hlc_node.specs.declared.item.Body.{Body}
 use Rattle.hlc_node.specs.declared.item.Body.TheVariants.{Write, Batch, Report, Retire}
 use Rattle.hlc_node.specs.Items.{retires}
-use Rattle.hlc_core.specs.Past.{Step, Took, Joined, numbered, floor, item_rows, IsLegal as IsLegalPast}
+use Rattle.hlc_core.specs.Past.{Step, Started, Took, Joined, numbered, floor, item_rows, IsLegal as IsLegalPast}
 
 -- How nodes and keys are divided: the number of stores; the number of nodes at the start of each store; the machine of
 -- each node of each store, which may be a machine of several nodes; and the store of each key.
@@ -29,11 +29,11 @@ pub data Turn : Type 0 where
 
 -- Below, a run is the list of the turns, the last one first.
 
--- the past of a store
-abbrev pub past_of : ℕ → List Turn → List Step
-past_of s [] = []
-past_of s (Stepped t step ∷ run) = if t == s then step ∷ past_of s run else past_of s run
-past_of s (_ ∷ run) = past_of s run
+-- the past of a store, which starts with the nodes that the layout says
+abbrev pub past_of : Layout → ℕ → List Turn → List Step
+past_of layout s [] = Started (layout.nodes s) ∷ []
+past_of layout s (Stepped t step ∷ run) = if t == s then step ∷ past_of layout s run else past_of layout s run
+past_of layout s (_ ∷ run) = past_of layout s run
 
 -- the items of a link: those issued for a store by one of its nodes, the last one first
 abbrev pub issued : ℕ → ℕ → List Turn → List Item
@@ -103,7 +103,7 @@ IsIssuedStep s _ run = ⊤
 -- store is legal, and takes only an issued item.
 abbrev pub IsAllowed : Layout → Turn → List Turn → Type 0
 IsAllowed layout (Issued s item) run =
-    (s < layout.stores) × (item.node < numbered (layout.nodes s) (past_of s run))
+    (s < layout.stores) × (item.node < numbered (past_of layout s run))
     × (have_ended (issued s item.node run) ≡ false) × (item.number ≡ length (issued s item.node run))
     × (last_stamp layout (layout.machine s item.node) run < item.stamp) × IsRouted layout s item.body
 IsAllowed layout (Sent machine stamp) run = last_stamp layout machine run < stamp
@@ -111,9 +111,9 @@ IsAllowed layout (Received machine message stamp) run =
     (last_stamp layout machine run < stamp) × IsMessage run message stamp
 IsAllowed layout (Observed machine s at stamp) run =
     (last_stamp layout machine run < stamp) × (s < layout.stores)
-    × (at ≤ floor (layout.nodes s) (past_of s run)) × (at < stamp)
+    × (at ≤ floor (past_of layout s run)) × (at < stamp)
 IsAllowed layout (Stepped s step) run =
-    (s < layout.stores) × IsLegalPast (layout.nodes s) (step ∷ past_of s run) × IsIssuedStep s step run
+    (s < layout.stores) × IsLegalPast (step ∷ past_of layout s run) × IsIssuedStep s step run
 
 -- each turn followed the rules
 abbrev pub IsLegal : Layout → List Turn → Type 0

@@ -7,7 +7,7 @@ ghost use Rattle.hlc_node.specs.Node.{NodeView, expected_issue};
 ghost use Rattle.hlc_node.specs.declared.item.Body.{Body as ABody};
 ghost use Rattle.hlc_node.specs.declared.item.Item.{Item as AnItem};
 ghost use Rattle.hlc_core.specs.Past.{Step, floor, writes};
-ghost use Rattle.hlc_core.specs.StoreView.{StoreView, nodes, Represents};
+ghost use Rattle.hlc_core.specs.StoreView.{StoreView, Represents};
 ghost use Rattle.hlc_ranges.specs.Run.{Layout, Turn, Issued, Sent, Received, Observed, Stepped, past_of};
 ghost use Rattle.hlc_ranges.specs.Run.{IsLegal, IsMessage, IsRouted, IsIssuedStep};
 ghost use Rattle.hlc_ranges.specs.Before.{HappenedBefore, IsStamped};
@@ -33,7 +33,7 @@ pub fn cuts_are_consistent()
 /// In a legal run a store has no write of another store's key.
 pub fn keys_stay_in_their_store()
     ensures { (layout : Layout) (run : List Turn) (s : ℕ) (key : List ℕ) (stamp : ℕ) → IsLegal layout run
-        → layout.store_of key ≢ s → answer (writes (past_of s run)) key stamp ≡ None }
+        → layout.store_of key ≢ s → answer (writes (past_of layout s run)) key stamp ≡ None }
 {}
 
 /// In a legal run a cut stays one, whatever happens later, and its reads stay the same.
@@ -42,7 +42,8 @@ pub fn cuts_are_final()
         → IsCut layout run stamp → IsCut layout (later ++ run) stamp }
     ensures reads { (layout : Layout) (run later : List Turn) (stamp s : ℕ) (key : List ℕ)
         → IsLegal layout (later ++ run) → IsCut layout run stamp → s < layout.stores
-        → answer (writes (past_of s (later ++ run))) key stamp ≡ answer (writes (past_of s run)) key stamp }
+        → answer (writes (past_of layout s (later ++ run))) key stamp
+        ≡ answer (writes (past_of layout s run)) key stamp }
 {}
 
 /// An item that a node issues extends a legal run, if the node's clock was raised to its machine's
@@ -60,7 +61,7 @@ pub fn items_extend_runs()
 /// Whatever a store's call did, as its contract says, extends a legal run, if it accepted only an issued item.
 pub fn steps_extend_runs()
     ensures { (layout : Layout) (run : List Turn) (s : ℕ) (step : Step) (core : StoreView) → IsLegal layout run
-        → s < layout.stores → nodes core ≡ layout.nodes s → Represents core (step ∷ past_of s run)
+        → s < layout.stores → Represents core (step ∷ past_of layout s run)
         → IsIssuedStep s step run → IsLegal layout (Stepped s step ∷ run) }
 {}
 
@@ -75,6 +76,6 @@ pub fn events_extend_runs()
         → IsLegal layout (Received (layout.machine s node.id) message stamp ∷ run) }
     ensures observed { (layout : Layout) (run : List Turn) (s t : ℕ) (node : NodeView) (at stamp : ℕ)
         → IsLegal layout run → HasClock layout run s node → node.last < stamp → t < layout.stores
-        → at ≤ floor (layout.nodes t) (past_of t run) → at < stamp
+        → at ≤ floor (past_of layout t run) → at < stamp
         → IsLegal layout (Observed (layout.machine s node.id) t at stamp ∷ run) }
 {}

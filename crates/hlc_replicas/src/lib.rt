@@ -5,33 +5,32 @@ ghost use Rattle.std.specs.Prelude.{◌≡◌, ◌<◌, ◌≤◌, ◌⊎◌, �
 ghost use Rattle.hlc_node.specs.declared.item.Item.{Item as AnItem};
 ghost use Rattle.hlc_rows.specs.Rows.{answer};
 ghost use Rattle.hlc_snapshot.specs.RegistryView.{stamps};
-ghost use Rattle.hlc_core.specs.Past.{Step, IsLegal, floor, horizon, item_refusal, join_at_refusal, open_snapshots};
-ghost use Rattle.hlc_core.specs.Past.{writes};
+ghost use Rattle.hlc_core.specs.Past.{Step, IsLegal, floor, horizon, initial_nodes, item_refusal, join_at_refusal};
+ghost use Rattle.hlc_core.specs.Past.{open_snapshots, writes};
 ghost use Rattle.hlc_core.specs.Replicas.{AreReplicas, CanMeet, items_of, joins_of};
-ghost use Rattle.hlc_core.specs.StoreView.{StoreView, nodes, Represents};
+ghost use Rattle.hlc_core.specs.StoreView.{StoreView, Represents};
 
-/// Replicas never diverge in what they accept. If the same nodes joined at the same starts, one accepts an item exactly
-/// if the other does, provided that both accepted the same items of its node, whatever they accepted of others. If both
-/// accepted the same items of all nodes, in any order between links, their floors are equal, and a join at a start is
-/// accepted by both or by none.
+/// Replicas never diverge in what they accept. If they have as many nodes at the start and the same nodes joined at the
+/// same starts, one accepts an item exactly if the other does, provided that both accepted the same items of its node,
+/// whatever they accepted of others. If both accepted the same items of all nodes, in any order between links, their
+/// floors are equal, and a join at a start is accepted by both or by none.
 pub fn replicas_accept_alike()
-    ensures items { (nodes : ℕ) (past other : List Step) (item : AnItem)
-        → IsLegal nodes past → IsLegal nodes other → joins_of past ≡ joins_of other
+    ensures items { (past other : List Step) (item : AnItem) → IsLegal past → IsLegal other
+        → initial_nodes past ≡ initial_nodes other → joins_of past ≡ joins_of other
         → items_of item.node past ≡ items_of item.node other
-        → item_refusal nodes past item ≡ item_refusal nodes other item }
-    ensures floor { (nodes : ℕ) (past other : List Step) → 0 < nodes
-        → IsLegal nodes past → IsLegal nodes other → AreReplicas past other
-        → floor nodes past ≡ floor nodes other }
-    ensures joins { (nodes : ℕ) (past other : List Step) (start : ℕ) → 0 < nodes
-        → IsLegal nodes past → IsLegal nodes other → AreReplicas past other
-        → join_at_refusal nodes past start ≡ join_at_refusal nodes other start }
+        → item_refusal past item ≡ item_refusal other item }
+    ensures floor { (past other : List Step) → 0 < initial_nodes past
+        → IsLegal past → IsLegal other → AreReplicas past other → floor past ≡ floor other }
+    ensures joins { (past other : List Step) (start : ℕ) → 0 < initial_nodes past
+        → IsLegal past → IsLegal other → AreReplicas past other
+        → join_at_refusal past start ≡ join_at_refusal other start }
 {}
 
 /// Replicas that accepted the same items, in any order between links, answer alike at each stamp from the horizons of
 /// both on, whenever either was vacuumed and whatever snapshots are open.
 pub fn replicas_answer_alike()
-    ensures accepted { (nodes : ℕ) (past other : List Step) → IsLegal nodes past
-        → AreReplicas past other → (key : List ℕ) (stamp : ℕ)
+    ensures accepted { (past other : List Step) → IsLegal past → AreReplicas past other
+        → (key : List ℕ) (stamp : ℕ)
         → answer (writes past) key stamp ≡ answer (writes other) key stamp }
     ensures stored { (kept copy : StoreView) (past other : List Step) → Represents kept past
         → Represents copy other → AreReplicas past other → (key : List ℕ) (stamp : ℕ)
@@ -42,12 +41,12 @@ pub fn replicas_answer_alike()
 /// Stores at different places of one log answer alike at each stamp up to the floors of both, if each can go on until
 /// they are replicas: from their horizons on, and at snapshots that they have open.
 pub fn lagging_replicas_answer_alike()
-    ensures accepted { (nodes : ℕ) (past other : List Step) → CanMeet nodes past other
-        → (key : List ℕ) (stamp : ℕ) → stamp ≤ floor nodes past → stamp ≤ floor nodes other
+    ensures accepted { (past other : List Step) → CanMeet past other
+        → (key : List ℕ) (stamp : ℕ) → stamp ≤ floor past → stamp ≤ floor other
         → answer (writes past) key stamp ≡ answer (writes other) key stamp }
     ensures stored { (kept copy : StoreView) (past other : List Step) → Represents kept past
-        → Represents copy other → CanMeet (nodes kept) past other → (key : List ℕ) (stamp : ℕ)
-        → stamp ≤ floor (nodes kept) past → stamp ≤ floor (nodes kept) other
+        → Represents copy other → CanMeet past other → (key : List ℕ) (stamp : ℕ)
+        → stamp ≤ floor past → stamp ≤ floor other
         → (horizon past ≤ stamp) ⊎ Contains (stamps (open_snapshots past)) stamp
         → (horizon other ≤ stamp) ⊎ Contains (stamps (open_snapshots other)) stamp
         → answer kept.rows key stamp ≡ answer copy.rows key stamp }

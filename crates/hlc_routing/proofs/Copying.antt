@@ -5,7 +5,7 @@ use Rattle.std.specs.Prelude.{slice_get}
 use Rattle.std.proofs.lemmas.Bool.{cases_lt}
 use Rattle.std.proofs.lemmas.Option.{slice_get_within}
 use Rattle.hlc_core.specs.Past.{Step}
-use Rattle.hlc_core.specs.StoreView.{StoreView, nodes, Represents as CoreRepresents}
+use Rattle.hlc_core.specs.StoreView.{StoreView, Represents as CoreRepresents}
 use Rattle.hlc_core.specs.Checkpoint.{IsCheckpointOf}
 use Rattle.hlc_ranges.specs.Run.{Layout, Turn, past_of}
 use Rattle.hlc_routing.specs.Ranges.{RangesView, Represents}
@@ -72,11 +72,8 @@ all-copied layout kept made run h represents =
     record {
       legal = represents.legal;
       many = h.many ∙ represents.many;
-      nodes = λ s copy is.
-          let store = store-at s copy is in
-          ap nodes (h.each s store.0 copy store.1 is).kept.copy.same ∙ represents.nodes s store.0 store.1;
       pasts = λ s copy is.
           let store = store-at s copy is in
-          (h.each s store.0 copy store.1 is).represents (past_of s run) (represents.pasts s store.0 store.1);
+          (h.each s store.0 copy store.1 is).represents (past_of layout s run) (represents.pasts s store.0 store.1);
       routed = represents.routed;
     }

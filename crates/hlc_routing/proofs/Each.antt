@@ -5,28 +5,29 @@ use Rattle.std.proofs.lemmas.Bool.{cases_eq}
 use Rattle.hlc_events.specs.declared.fault.CoreFault.{CoreFault}
 use Rattle.hlc_core.specs.Past.{Step}
 use Rattle.hlc_ranges.specs.Run.{Layout, Turn, Stepped, past_of}
+use Rattle.hlc_ranges.proofs.TurnLemmas.{past-same, past-other}
 use Rattle.hlc_routing.specs.Ranges.{RangesView, Represents}
 use Rattle.hlc_routing.specs.All.{each_stepped, HaveStepped}
-use Rattle.hlc_routing.proofs.Stepping.{past-same, past-other}
 
 -- the others' pasts stay
-pub past-after : (step : ℕ → Step) (n s : ℕ) (run : List Turn) → n ≤ s
-    → past_of s (each_stepped step n run) ≡ past_of s run
-past-after step zero s run above = refl
-past-after step (suc n) s run above =
-    past-other s n (step n) (each_stepped step n run) (λ e. absurd (omega (arith, e, above)))
-    ∙ past-after step n s run (omega arith)
+pub past-after : (layout : Layout) (step : ℕ → Step) (n s : ℕ) (run : List Turn) → n ≤ s
+    → past_of layout s (each_stepped step n run) ≡ past_of layout s run
+past-after layout step zero s run above = refl
+past-after layout step (suc n) s run above =
+    past-other layout s n (step n) (each_stepped step n run) (λ e. absurd (omega (arith, e, above)))
+    ∙ past-after layout step n s run (omega arith)
 
 -- each of the first stores' pasts has its step
-pub past-within : (step : ℕ → Step) (n s : ℕ) (run : List Turn) → s < n
-    → past_of s (each_stepped step n run) ≡ step s ∷ past_of s run
-past-within step zero s run below = absurd (omega arith)
-past-within step (suc n) s run below =
+pub past-within : (layout : Layout) (step : ℕ → Step) (n s : ℕ) (run : List Turn) → s < n
+    → past_of layout s (each_stepped step n run) ≡ step s ∷ past_of layout s run
+past-within layout step zero s run below = absurd (omega arith)
+past-within layout step (suc n) s run below =
     elim (cases_eq n s) [
-      | inl e ↦ past-same s n (step n) (each_stepped step n run) e
-          ∙ ap (λ k. step k ∷ past_of s (each_stepped step n run)) e
-          ∙ ap (λ p. step s ∷ p) (past-after step n s run (omega (arith, e)))
-      | inr e ↦ past-other s n (step n) (each_stepped step n run) e ∙ past-within step n s run (omega (arith, e, below))
+      | inl e ↦ past-same layout s n (step n) (each_stepped step n run) e
+          ∙ ap (λ k. step k ∷ past_of layout s (each_stepped step n run)) e
+          ∙ ap (λ p. step s ∷ p) (past-after layout step n s run (omega (arith, e)))
+      | inr e ↦ past-other layout s n (step n) (each_stepped step n run) e
+          ∙ past-within layout step n s run (omega (arith, e, below))
     ]
 
 pub each-next : (step : ℕ → Step) (n : ℕ) (run : List Turn)

@@ -4,7 +4,7 @@ use Rattle.std.specs.Prelude.{slice_get}
 use Rattle.std.proofs.lemmas.Bool.{cases_eq, cases_lt}
 use Rattle.std.proofs.lemmas.Option.{slice_get_within}
 use Rattle.hlc_core.specs.Past.{Step, floor}
-use Rattle.hlc_core.specs.StoreView.{StoreView, nodes, Represents as CoreRepresents}
+use Rattle.hlc_core.specs.StoreView.{StoreView, Represents as CoreRepresents}
 use Rattle.hlc_core.specs.Checkpoint.{floor_in}
 use Rattle.hlc_ranges.specs.Run.{Layout, Turn, past_of}
 use Rattle.hlc_ranges.specs.Cut.{IsCut}
@@ -13,20 +13,20 @@ use Rattle.hlc_routing.proofs.Stepping.{some-same}
 
 -- the stamp is the floor of every past that the store represents
 abbrev pub IsFloorOf : StoreView → ℕ → Type 0
-IsFloorOf store stamp = (past : List Step) → CoreRepresents store past → stamp ≡ floor (nodes store) past
+IsFloorOf store stamp = (past : List Step) → CoreRepresents store past → stamp ≡ floor past
 
 -- no floor of the first stores is below the least one, which is that of one of them
 pub record IsLeastTo (kept : RangesView) (index least : ℕ) : Type 0 where
   pub low : (s : ℕ) (store : StoreView) → s < index → slice_get kept.stores s ≡ Some store → least ≤ floor_in store
   pub one : IsFloorOfOne kept.stores least
   pub cut : (layout : Layout) (run : List Turn) → Represents layout kept run → (s : ℕ) → s < index
-      → least ≤ floor (layout.nodes s) (past_of s run)
+      → least ≤ floor (past_of layout s run)
 
 floor-is : (layout : Layout) (kept : RangesView) (run : List Turn) (s : ℕ) (store : StoreView) (stamp : ℕ)
     → Represents layout kept run → slice_get kept.stores s ≡ Some store → IsFloorOf store stamp
-    → stamp ≡ floor (layout.nodes s) (past_of s run)
+    → stamp ≡ floor (past_of layout s run)
 floor-is layout kept run s store stamp h at is =
-    is (past_of s run) (h.pasts s store at) ∙ ap (λ n. floor n (past_of s run)) (h.nodes s store at)
+    is (past_of layout s run) (h.pasts s store at)
 
 pub next : (kept : RangesView) (index least stamp : ℕ) (store : StoreView) → IsLeastTo kept index least
     → slice_get kept.stores index ≡ Some store → stamp ≡ floor_in store → IsFloorOf store stamp
@@ -53,12 +53,12 @@ next kept index least stamp store h at value is = record {
   cut = λ layout run represents s below.
       elim (cases_eq s index) [
         | inl e ↦
-            (let f : stamp ≡ floor (layout.nodes s) (past_of s run) =
+            (let f : stamp ≡ floor (past_of layout s run) =
             floor-is layout kept run index store stamp represents at is
-            ∙ ap (λ k. floor (layout.nodes k) (past_of k run)) (sym e) in omega arith)
+            ∙ ap (λ k. floor (past_of layout k run)) (sym e) in omega arith)
         | inr e ↦
             (let b : s < index + 1 = below in
-            let old : least ≤ floor (layout.nodes s) (past_of s run) =
+            let old : least ≤ floor (past_of layout s run) =
             h.cut layout run represents s (omega (arith, b, e)) in omega arith)
       ];
 }
@@ -76,9 +76,9 @@ first kept stamp store at value is = record {
   cut = λ layout run represents s below.
       (let b : s < 1 = below in
       let e : s ≡ 0 = omega arith in
-      let f : stamp ≡ floor (layout.nodes s) (past_of s run) =
+      let f : stamp ≡ floor (past_of layout s run) =
       floor-is layout kept run 0 store stamp represents at is
-      ∙ ap (λ k. floor (layout.nodes k) (past_of k run)) (sym e) in omega arith);
+      ∙ ap (λ k. floor (past_of layout k run)) (sym e) in omega arith);
 }
 
 pub least : (kept : RangesView) (index stamp : ℕ) → length kept.stores ≤ index → IsLeastTo kept index stamp

@@ -1,7 +1,9 @@
--- The pairs of all stores are those of all issued writes: each store has the keys that belong to it, and no others. Once
+-- The pairs of all stores are those of all issued writes: each store has the keys that belong to it, and no others.
+-- Once
 -- they are sorted they ascend, since no two of them have one key.
 use Rattle.std.proofs.Common.{◌≡◌, ℕ, ◌+◌, ◌<◌, List, [], ◌∷◌, ◌++◌, length, get_or, map, Option, Some, None, Bool}
-use Rattle.std.proofs.Common.{true, false, refl, ap, sym, ◌∙◌, subst, inl, inr, arith, Contains, IsPermutation, IsSorted}
+use Rattle.std.proofs.Common.{true, false, refl, ap, sym, ◌∙◌, subst, inl, inr, arith, Contains, IsPermutation}
+use Rattle.std.proofs.Common.{IsSorted}
 use Rattle.std.proofs.Common.{Ordering, Less, Equal, Greater, nat_cmp, is_lt, ap₂}
 use Rattle.std.specs.Ordering.{eq_by_cmp, ordering_reverse, is_eq}
 use Rattle.std.specs.List.{IsDistinct, AllByRecursion}
@@ -97,8 +99,8 @@ none-gathered layout run stamp from to pairs e =
 
 -- what a store answers of a key is the answer of the key's store, which is this one
 own : (layout : Layout) (run : List Turn) (n : ℕ) (key value : List ℕ) (stamp : ℕ)
-    → ((s : ℕ) (k : List ℕ) (at : ℕ) → (layout.store_of k ≡ s → ⊥) → answer (writes (past_of s run)) k at ≡ None)
-    → answer (writes (past_of n run)) key stamp ≡ Some value → layout.store_of key ≡ n
+    → ((s : ℕ) (k : List ℕ) (at : ℕ) → (layout.store_of k ≡ s → ⊥) → answer (writes (past_of layout s run)) k at ≡ None)
+    → answer (writes (past_of layout n run)) key stamp ≡ Some value → layout.store_of key ≡ n
 own layout run n key value stamp stay is =
     elim (cases_eq (layout.store_of key) n) [
       | inl e ↦ e
@@ -108,18 +110,18 @@ own layout run n key value stamp stay is =
 -- the pairs of one store more
 pub next-gathered : (layout : Layout) (run : List Turn) (stamp : ℕ) (from : List ℕ) (to : Option (List ℕ)) (n : ℕ)
     (rows : List Row) (old fresh new : List Pair)
-    → ((s : ℕ) (k : List ℕ) (at : ℕ) → (layout.store_of k ≡ s → ⊥) → answer (writes (past_of s run)) k at ≡ None)
+    → ((s : ℕ) (k : List ℕ) (at : ℕ) → (layout.store_of k ≡ s → ⊥) → answer (writes (past_of layout s run)) k at ≡ None)
     → ArePairsOf layout run stamp from to n old → AreAnswers rows stamp (IsBetween from to) (map of_pair fresh)
     → new ≡ old ++ fresh
-    → ((key : List ℕ) → answer rows key stamp ≡ answer (writes (past_of n run)) key stamp)
+    → ((key : List ℕ) → answer rows key stamp ≡ answer (writes (past_of layout n run)) key stamp)
     → ArePairsOf layout run stamp from to (n + 1) new
 next-gathered layout run stamp from to n rows old fresh new stay h are appended alike =
     let at-own : (key value : List ℕ) → Contains fresh (record { key = key; value = value })
     → IsBetween from to key × (layout.store_of key ≡ n)
-    × (answer (writes (past_of n run)) key stamp ≡ Some value) =
+    × (answer (writes (past_of layout n run)) key stamp ≡ Some value) =
     λ key value m.
     let is = (are.exact key value).0 (Contains-map of_pair fresh (record { key = key; value = value }) m) in
-    let answers' : answer (writes (past_of n run)) key stamp ≡ Some value = sym (alike key) ∙ is.1 in
+    let answers' : answer (writes (past_of layout n run)) key stamp ≡ Some value = sym (alike key) ∙ is.1 in
     (is.0, own layout run n key value stamp stay answers', answers') in
     subst (λ ps. ArePairsOf layout run stamp from to (n + 1) ps) (sym appended) (record {
       apart = subst (λ ks. IsDistinct same ks) (sym (map-append key_of old fresh))
@@ -148,7 +150,7 @@ next-gathered layout run stamp from to n rows old fresh new stay h are appended 
                   let low' : layout.store_of key < n + 1 = omega (arith, e) in (
                     is.0,
                     low',
-                    subst (λ s. answer (writes (past_of s run)) key stamp ≡ Some value) (sym e) is.2,
+                    subst (λ s. answer (writes (past_of layout s run)) key stamp ≡ Some value) (sym e) is.2,
                   )
             ],
         λ is.
@@ -158,7 +160,7 @@ next-gathered layout run stamp from to n rows old fresh new stay h are appended 
                   (Contains-map to_pair (map of_pair fresh) (key, value)
                   ((are.exact key value).1 (
                     is.0,
-                    alike key ∙ subst (λ s. answer (writes (past_of s run)) key stamp ≡ Some value) e is.2,
+                    alike key ∙ subst (λ s. answer (writes (past_of layout s run)) key stamp ≡ Some value) e is.2,
                   ))))
               | inr e ↦
                   let low : layout.store_of key < n + 1 = is.1 in
@@ -172,16 +174,16 @@ next-gathered layout run stamp from to n rows old fresh new stay h are appended 
 -- the pairs of one store more, as its snapshot sees them
 pub next-seen : (layout : Layout) (run : List Turn) (stamp : ℕ) (from : List ℕ) (to : Option (List ℕ)) (n id : ℕ)
     (seen : Seen) (old fresh new : List Pair)
-    → ((s : ℕ) (k : List ℕ) (at : ℕ) → (layout.store_of k ≡ s → ⊥) → answer (writes (past_of s run)) k at ≡ None)
-    → ArePairsOf layout run stamp from to n old → Views id (past_of n run) (Some seen)
-    → stamp_of id (past_of n run) ≡ Some stamp
+    → ((s : ℕ) (k : List ℕ) (at : ℕ) → (layout.store_of k ≡ s → ⊥) → answer (writes (past_of layout s run)) k at ≡ None)
+    → ArePairsOf layout run stamp from to n old → Views id (past_of layout n run) (Some seen)
+    → stamp_of id (past_of layout n run) ≡ Some stamp
     → AreAnswers seen.rows seen.stamp (IsBetween from to) (map of_pair fresh) → new ≡ old ++ fresh
     → ArePairsOf layout run stamp from to (n + 1) new
 next-seen layout run stamp from to n id seen old fresh new stay h views is are appended =
     let same-stamp : seen.stamp ≡ stamp = some-same seen.stamp stamp (sym views.0 ∙ is) in
     next-gathered layout run stamp from to n seen.rows old fresh new stay h
     (subst (λ k. AreAnswers seen.rows k (IsBetween from to) (map of_pair fresh)) same-stamp are) appended
-    (λ key. subst (λ k. answer seen.rows key k ≡ answer (writes (past_of n run)) key k) same-stamp (views.1 key))
+    (λ key. subst (λ k. answer seen.rows key k ≡ answer (writes (past_of layout n run)) key k) same-stamp (views.1 key))
 
 -- a snapshot that is open is seen
 pub seen-shut : (id : ℕ) (past : List Step) (stamp : ℕ) (result : Option Seen) → Views id past result
@@ -203,13 +205,13 @@ gathered layout run stamp from to pairs sorted legal newest h moved up = record 
         (Contains-permutation sorted pairs _ (IsPermutation-sym pairs sorted moved) m) in
         (is.0, sym (newest key stamp (omega arith)) ∙ is.2),
     λ is.
-        let answers' : answer (writes (past_of (layout.store_of key) run)) key stamp ≡ Some value =
+        let answers' : answer (writes (past_of layout (layout.store_of key) run)) key stamp ≡ Some value =
         newest key stamp (omega arith) ∙ is.1 in
         let inside : layout.store_of key < layout.stores =
         elim (cases_lt (layout.store_of key) layout.stores) [
           | inl low ↦ low
           | inr past ↦
-              absurd (let none : answer (writes (past_of (layout.store_of key) run)) key stamp ≡ None =
+              absurd (let none : answer (writes (past_of layout (layout.store_of key) run)) key stamp ≡ None =
               ap (λ p. answer (writes p) key stamp) (past-none layout run (layout.store_of key) legal past)
               ∙ answer_none [] key stamp (newest_nil key stamp) in
               let e : None ≡ Some value = sym none ∙ answers' in cc)

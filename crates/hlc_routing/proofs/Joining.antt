@@ -1,13 +1,13 @@
 -- A node joins one store after another.
-use Rattle.std.proofs.Common.{◌≡◌, ℕ, ◌+◌, ◌<◌, ◌≤◌, List, [], ◌∷◌, ◌++◌, length, Some, None, Ok, Err}
+use Rattle.std.proofs.Common.{◌≡◌, ℕ, ◌+◌, ◌<◌, ◌≤◌, List, [], ◌∷◌, ◌++◌, length, Some, Ok, Err}
 use Rattle.std.proofs.Common.{ap, sym, ◌∙◌, subst, inl, inr, arith, length-append}
-use Rattle.std.specs.Prelude.{slice_get, ⊤}
+use Rattle.std.specs.Prelude.{slice_get}
 use Rattle.std.proofs.lemmas.Bool.{cases_eq}
 use Rattle.std.proofs.lemmas.Option.{slice_get_within}
 use Rattle.hlc_events.specs.declared.fault.CoreFault.{CoreFault}
 use Rattle.hlc_core.specs.Past.{Step, Joined, join_refusal, numbered, floor}
-use Rattle.hlc_core.specs.StoreView.{StoreView, nodes}
-use Rattle.hlc_core.specs.Calls.{Joins, IsRefusal}
+use Rattle.hlc_core.specs.StoreView.{StoreView}
+use Rattle.hlc_core.specs.Calls.{Joins}
 use Rattle.hlc_ranges.specs.Run.{Layout, Turn, Stepped, past_of}
 use Rattle.hlc_routing.specs.Ranges.{RangesView, Represents}
 use Rattle.hlc_routing.specs.All.{each_stepped, HaveStepped, HaveStopped, AreJoins, JoinsIn, join_refusals, join_step}
@@ -19,32 +19,27 @@ use Rattle.hlc_routing.proofs.Each.{past-after, none-stepped, one-stepped}
 
 -- what a join of a store says of all stores
 pub joined : (layout : Layout) (old : RangesView) (run : List Turn) (s : ℕ) (store new : StoreView) (made : ℕ × ℕ)
-    → Represents layout old run → slice_get old.stores s ≡ Some store → nodes new ≡ nodes store
-    → Joins store new (past_of s run) (Ok made) → JoinsIn layout old (with_store old s new) s run (Ok made)
-joined layout old run s store new made h there same joins = (
-  subst (λ n. join_refusal n (past_of s run) ≡ None) (h.nodes s store there) joins.0,
-  subst (λ n. made ≡ (numbered n (past_of s run), floor n (past_of s run))) (h.nodes s store there) joins.1,
-  steps layout old run s store new (Joined made.0 made.1) h there same joins.2 tt,
-)
+    → Represents layout old run → slice_get old.stores s ≡ Some store
+    → Joins new (past_of layout s run) (Ok made) → JoinsIn layout old (with_store old s new) s run (Ok made)
+joined layout old run s store new made h there joins =
+    (joins.0, joins.1, steps layout old run s store new (Joined made.0 made.1) h there joins.2 tt)
 
 pub not-joined : (layout : Layout) (old now : RangesView) (run : List Turn) (s : ℕ) (store new : StoreView)
     (fault : CoreFault) → Represents layout old run → slice_get old.stores s ≡ Some store
-    → Joins store new (past_of s run) (Err fault) → JoinsIn layout old now s run (Err (Store fault))
-not-joined layout old now run s store new fault h there joins = (
-  slice_get_within old.stores s store there,
-  subst (λ n. IsRefusal (join_refusal n (past_of s run)) ⊤ fault) (h.nodes s store there) joins,
-)
+    → Joins new (past_of layout s run) (Err fault) → JoinsIn layout old now s run (Err (Store fault))
+not-joined layout old now run s store new fault h there joins = (slice_get_within old.stores s store there, joins)
 
 refusal-same : (layout : Layout) (run : List Turn) (step : ℕ → Step) (n : ℕ)
     → join_refusals layout (each_stepped step n run) n ≡ join_refusals layout run n
 refusal-same layout run step n =
-    ap (λ past. join_refusal (layout.nodes n) past) (past-after step n n run (omega arith))
+    ap join_refusal (past-after layout step n n run (omega arith))
 
 next-same : (layout : Layout) (run : List Turn) (step : ℕ → Step) (n : ℕ)
     → next_join layout (each_stepped step n run) n ≡ next_join layout run n
 next-same layout run step n =
-    let same : past_of n (each_stepped step n run) ≡ past_of n run = past-after step n n run (omega arith) in
-    ap (λ past. (numbered (layout.nodes n) past, floor (layout.nodes n) past)) same
+    let same : past_of layout n (each_stepped step n run) ≡ past_of layout n run =
+    past-after layout step n n run (omega arith) in
+    ap (λ past. (numbered past, floor past)) same
 
 -- a node joined the first stores, and these are its numbers and starts
 pub record HaveJoinedTo (layout : Layout) (kept : RangesView) (run : List Turn) (made : List (ℕ × ℕ)) (n : ℕ)

@@ -12,14 +12,14 @@ use Rattle.hlc_node.specs.Node.{NodeView, next_item, after_issue, expected_issue
 use Rattle.hlc_node.specs.declared.item.Item.{Item}
 use Rattle.hlc_node.specs.declared.item.Body.{Body}
 use Rattle.hlc_node.specs.declared.item.Body.TheVariants.{Report}
-use Rattle.hlc_core.specs.Past.{Step, Took, Opened, Closed, Vacuumed, PartVacuumed, Joined, floor, numbered}
+use Rattle.hlc_core.specs.Past.{Step, floor, numbered}
 use Rattle.hlc_ranges.specs.Run.{Layout, Turn, Issued, Sent, Received, Observed, past_of, issued, last_stamp, raised_by}
 use Rattle.hlc_ranges.specs.Run.{Stepped, mark_of, start_of, turn_at, IsLegal, IsRouted, have_ended}
 use Rattle.hlc_ranges.specs.Calls.{IsNodeOf, HasClock, Extends}
 use Rattle.hlc_ranges.proofs.ExtendingLemmas.{node-extends, other-stays}
 use Rattle.hlc_routing.specs.Machine.{MachineView, raised, acting, moved, Issues, Reports, IsMachineOf, GoesOn}
 use Rattle.hlc_routing.specs.Machine.{issued_from, none, one}
-use Rattle.hlc_routing.proofs.Stepping.{get-set_same, get-set_other, some-same, past-same, past-other}
+use Rattle.hlc_routing.proofs.Stepping.{get-set_same, get-set_other, some-same, numbered-later}
 
 acts-some : (o : Option NodeView) (last : ℕ) (node : NodeView) → option_map (raised last) o ≡ Some node
     → (kept : NodeView) × (o ≡ Some kept) × (raised last kept ≡ node)
@@ -105,7 +105,8 @@ issue-goes_on layout run m old new s body reading item legal h routed issues =
 -- an event without an item, at the machine
 marked : (layout : Layout) (run : List Turn) (m : ℕ) (old : MachineView) (turn : Turn) (stamp : ℕ)
     → IsMachineOf layout run m old → old.last < stamp
-    → ((s : ℕ) → past_of s (turn ∷ run) ≡ past_of s run) → ((s n : ℕ) → issued s n (turn ∷ run) ≡ issued s n run)
+    → ((s : ℕ) → past_of layout s (turn ∷ run) ≡ past_of layout s run) → ((s n : ℕ)
+    → issued s n (turn ∷ run) ≡ issued s n run)
     → mark_of layout turn ≡ Some (m, stamp) → IsMachineOf layout (turn ∷ run) m (record old { last = stamp })
 marked layout run m old turn stamp h up pasts links mark =
     let reached : last_stamp layout m run ≤ old.last = h.clock in
@@ -118,7 +119,7 @@ marked layout run m old turn stamp h up pasts links mark =
       nodes = λ s node there.
           let is = h.nodes s node there in
           record {
-            inside = subst (λ past. node.id < numbered (layout.nodes s) past) (sym (pasts s)) is.inside;
+            inside = subst (λ past. node.id < numbered past) (sym (pasts s)) is.inside;
             next = is.next ∙ ap length (sym (links s node.id));
             retired = is.retired ∙ ap have_ended (sym (links s node.id));
           };
@@ -146,7 +147,7 @@ receive-goes_on layout run m sender message old seen stamp legal h at up later =
 
 pub observe-goes_on : (layout : Layout) (run : List Turn) (m s : ℕ) (old : MachineView) (seen stamp : ℕ)
     → IsLegal layout run → IsMachineOf layout run m old → s < layout.stores
-    → seen ≤ floor (layout.nodes s) (past_of s run) → old.last < stamp → seen < stamp
+    → seen ≤ floor (past_of layout s run) → old.last < stamp → seen < stamp
     → GoesOn layout (Observed m s seen stamp) run m (record old { last = stamp })
 observe-goes_on layout run m s old seen stamp legal h inside low up later =
     let reached : last_stamp layout m run ≤ old.last = h.clock in
@@ -177,26 +178,7 @@ reports-go_on layout run m old reading new items legal h (one {machine} {items =
     (issue-goes_on layout (issued_from 0 before run) m machine new (length before) Report reading item so_far.0 so_far.1
     tt issues)
 
--- as many numbers are assigned after a step by which no node joins
-numbered-same : (layout : Layout) (s nodes : ℕ) (step : Step) (past : List Step) → start_of layout s step ≡ None
-    → numbered nodes (step ∷ past) ≡ numbered nodes past
-numbered-same layout s nodes (Took item) past free = refl
-numbered-same layout s nodes (Opened stamp) past free = refl
-numbered-same layout s nodes (Closed id) past free = refl
-numbered-same layout s nodes (Vacuumed at) past free = refl
-numbered-same layout s nodes (PartVacuumed at dropped) past free = refl
-numbered-same layout s nodes (Joined node start) past free =
-    absurd (let e : Some (layout.machine s node, start) ≡ None = free in cc)
-
-numbered-after : (layout : Layout) (run : List Turn) (s t : ℕ) (step : Step) → start_of layout s step ≡ None
-    → numbered (layout.nodes t) (past_of t (Stepped s step ∷ run)) ≡ numbered (layout.nodes t) (past_of t run)
-numbered-after layout run s t step free =
-    elim (cases_eq s t) [
-      | inl e ↦ ap (numbered (layout.nodes t)) (past-same t s step run e)
-          ∙ numbered-same layout s (layout.nodes t) step (past_of t run) free
-      | inr e ↦ ap (numbered (layout.nodes t)) (past-other t s step run e)
-    ]
-
+-- a step of a store by which no node joins
 pub step-keeps : (layout : Layout) (run : List Turn) (m s : ℕ) (machine : MachineView) (step : Step)
     → IsMachineOf layout run m machine → start_of layout s step ≡ None
     → IsMachineOf layout (Stepped s step ∷ run) m machine
@@ -208,7 +190,9 @@ step-keeps layout run m s machine step h free =
       nodes = λ t node there.
           let is = h.nodes t node there in
           record {
-            inside = subst (λ k. node.id < k) (sym (numbered-after layout run s t step free)) is.inside;
+            inside = (let was : node.id < numbered (past_of layout t run) = is.inside in
+                let grows : numbered (past_of layout t run) ≤ numbered (past_of layout t (Stepped s step ∷ run)) =
+                numbered-later layout run s t step in omega arith);
             next = is.next;
             retired = is.retired;
           };
@@ -241,7 +225,7 @@ received-by_clock layout run m sender message old clock seen reading (Ok stamp) 
 
 pub observed-by_clock : (layout : Layout) (run : List Turn) (m s : ℕ) (old : MachineView) (clock seen reading : ℕ)
     (result : Result ℕ ClockFault) → IsLegal layout run → IsMachineOf layout run m old → s < layout.stores
-    → seen ≤ floor (layout.nodes s) (past_of s run) → IsClockAnswer (old.last ∷ seen ∷ []) reading result
+    → seen ≤ floor (past_of layout s run) → IsClockAnswer (old.last ∷ seen ∷ []) reading result
     → IfOk result (λ stamp. clock ≡ stamp)
     → IfOk result (λ stamp. GoesOn layout (Observed m s seen stamp) run m (record { last = clock; nodes = old.nodes }))
 observed-by_clock layout run m s old clock seen reading (Err fault) legal h inside low rule same = tt

@@ -6,26 +6,17 @@ use Rattle.std.specs.Prelude.{slice_get}
 use Rattle.std.proofs.lemmas.Bool.{cases_eq, cond-true, cond-false, eq-eqb, ne_eqb}
 use Rattle.std.proofs.lemmas.Option.{slice_get_within}
 use Rattle.hlc_node.specs.Node.{NodeView}
-use Rattle.hlc_core.specs.Past.{Step, Took, Opened, Closed, Vacuumed, PartVacuumed, Joined, numbered}
+use Rattle.hlc_core.specs.Past.{Step, numbered}
 use Rattle.hlc_ranges.specs.Run.{Layout, Turn, Issued, Sent, Received, Observed, Stepped, past_of, issued, last_stamp}
 use Rattle.hlc_ranges.specs.Run.{raised_by, have_ended, IsLegal}
 use Rattle.hlc_routing.specs.All.{each_stepped, join_step, next_join, AreJoins}
 use Rattle.hlc_routing.specs.Machine.{MachineView, IsMachineOf, IsNewMachine}
-use Rattle.hlc_routing.proofs.Stepping.{past-same, past-other, some-same}
+use Rattle.hlc_routing.proofs.Stepping.{some-same, numbered-later}
 use Rattle.hlc_routing.proofs.Each.{past-within}
-
--- no step takes a number back
-numbered-grows : (nodes : ℕ) (step : Step) (past : List Step) → numbered nodes past ≤ numbered nodes (step ∷ past)
-numbered-grows nodes (Took item) past = omega arith
-numbered-grows nodes (Opened stamp) past = omega arith
-numbered-grows nodes (Closed id) past = omega arith
-numbered-grows nodes (Vacuumed at) past = omega arith
-numbered-grows nodes (PartVacuumed at dropped) past = omega arith
-numbered-grows nodes (Joined node start) past = omega arith
 
 -- a node that has not joined yet has issued nothing
 issued-none : (layout : Layout) (run : List Turn) (s n : ℕ) → IsLegal layout run
-    → numbered (layout.nodes s) (past_of s run) ≤ n → issued s n run ≡ []
+    → numbered (past_of layout s run) ≤ n → issued s n run ≡ []
 issued-none layout [] s n legal above = refl
 issued-none layout (Sent m stamp ∷ run) s n legal above = issued-none layout run s n legal.1 above
 issued-none layout (Received m message stamp ∷ run) s n legal above = issued-none layout run s n legal.1 above
@@ -34,24 +25,17 @@ issued-none layout (Issued t item ∷ run) s n legal above =
     elim (cases_eq t s) [
       | inr other ↦ cond-false _ _ _ (ne_eqb t s other) ∙ issued-none layout run s n legal.1 above
       | inl same ↦
-          let low : item.node < numbered (layout.nodes t) (past_of t run) = legal.0.1 in
-          let low' : item.node < numbered (layout.nodes s) (past_of s run) =
-          subst (λ k. item.node < numbered (layout.nodes k) (past_of k run)) same low in
+          let low : item.node < numbered (past_of layout t run) = legal.0.1 in
+          let low' : item.node < numbered (past_of layout s run) =
+          subst (λ k. item.node < numbered (past_of layout k run)) same low in
           cond-true _ _ _ (eq-eqb t s same)
           ∙ cond-false _ _ _ (ne_eqb item.node n (λ e. absurd (omega (arith, e, low', above))))
           ∙ issued-none layout run s n legal.1 above
     ]
 issued-none layout (Stepped t step ∷ run) s n legal above =
-    elim (cases_eq t s) [
-      | inr other ↦ issued-none layout run s n legal.1
-          (subst (λ p. numbered (layout.nodes s) p ≤ n) (past-other s t step run other) above)
-      | inl same ↦
-          let more : numbered (layout.nodes s) (step ∷ past_of s run) ≤ n =
-          subst (λ p. numbered (layout.nodes s) p ≤ n) (past-same s t step run same) above in
-          let grows : numbered (layout.nodes s) (past_of s run) ≤ numbered (layout.nodes s) (step ∷ past_of s run) =
-          numbered-grows (layout.nodes s) step (past_of s run) in
-          issued-none layout run s n legal.1 (omega (arith, more, grows))
-    ]
+    let many : numbered (past_of layout s (Stepped t step ∷ run)) ≤ n = above in
+    let grows : numbered (past_of layout s run) ≤ numbered (past_of layout s (Stepped t step ∷ run)) =
+    numbered-later layout run t s step in issued-none layout run s n legal.1 (omega arith)
 
 -- steps issue nothing
 issued-stepped : (step : ℕ → Step) (k s n : ℕ) (run : List Turn)
@@ -107,9 +91,10 @@ new-machine layout run m made machine legal joins new on low =
           issued-stepped step layout.stores s node.id run
           ∙ issued-none layout run s node.id legal (let e : node.id ≡ (next_join layout run s).0 = is.1 in
           omega (arith, e)) in
-          let past : past_of s after ≡ step s ∷ past_of s run = past-within step layout.stores s run is.0 in
+          let past : past_of layout s after ≡ step s ∷ past_of layout s run =
+          past-within layout step layout.stores s run is.0 in
           record {
-            inside = subst (λ p. node.id < numbered (layout.nodes s) p) (sym past)
+            inside = subst (λ p. node.id < numbered p) (sym past)
                 (let e : node.id ≡ (next_join layout run s).0 = is.1 in omega (arith, e));
             next = fresh.2.next ∙ ap length (sym none);
             retired = fresh.2.retired ∙ ap have_ended (sym none);

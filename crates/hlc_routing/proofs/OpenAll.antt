@@ -11,70 +11,71 @@ use Rattle.hlc_routing.specs.All.{SnapshotView, IsOpenAll, IsOpenAt, IsIdAt}
 use Rattle.hlc_routing.proofs.Closing.{past-none}
 
 -- the first stores have it open, at its stamp
-abbrev pub IsOpenUpto : SnapshotView → List Turn → ℕ → Type 0
-IsOpenUpto snapshot run n = (s : ℕ) → s < n → IsOpenAt snapshot run s
+abbrev pub IsOpenUpto : Layout → SnapshotView → List Turn → ℕ → Type 0
+IsOpenUpto layout snapshot run n = (s : ℕ) → s < n → IsOpenAt layout snapshot run s
 
 pub open-here : (layout : Layout) (snapshot : SnapshotView) (run : List Turn) (s : ℕ) → IsOpenAll layout snapshot run
-    → s < layout.stores → IsOpenAt snapshot run s
+    → s < layout.stores → IsOpenAt layout snapshot run s
 open-here layout snapshot run s open' inside =
     let many : length snapshot.ids ≡ layout.stores = open'.many in
     let below : s < layout.stores = inside in
     (get_or snapshot.ids s 0, (slice_get-get_or snapshot.ids s 0 (omega arith), open'.each s inside))
 
 pub open-all : (layout : Layout) (snapshot : SnapshotView) (run : List Turn) → length snapshot.ids ≡ layout.stores
-    → IsOpenUpto snapshot run layout.stores → IsOpenAll layout snapshot run
+    → IsOpenUpto layout snapshot run layout.stores → IsOpenAll layout snapshot run
 open-all layout snapshot run many each' = record {
   many = many;
   each = λ s inside.
       let is = each' s inside in
-      ap (λ id. stamp_of id (past_of s run)) (get_or_from_slice_get snapshot.ids s is.0 0 is.1.0) ∙ is.1.1;
+      ap (λ id. stamp_of id (past_of layout s run)) (get_or_from_slice_get snapshot.ids s is.0 0 is.1.0) ∙ is.1.1;
 }
 
-pub open-none : (snapshot : SnapshotView) (run : List Turn) → IsOpenUpto snapshot run 0
-open-none snapshot run = λ s below. absurd (omega (arith, below))
+pub open-none : (layout : Layout) (snapshot : SnapshotView) (run : List Turn) → IsOpenUpto layout snapshot run 0
+open-none layout snapshot run = λ s below. absurd (omega (arith, below))
 
-pub open-next : (snapshot : SnapshotView) (run : List Turn) (n : ℕ) → IsOpenUpto snapshot run n
-    → IsOpenAt snapshot run n → IsOpenUpto snapshot run (n + 1)
-open-next snapshot run n before is = λ s below.
+pub open-next : (layout : Layout) (snapshot : SnapshotView) (run : List Turn) (n : ℕ) → IsOpenUpto layout snapshot run n
+    → IsOpenAt layout snapshot run n → IsOpenUpto layout snapshot run (n + 1)
+open-next layout snapshot run n before is = λ s below.
     elim (cases_eq s n) [
-      | inl e ↦ subst (IsOpenAt snapshot run) (sym e) is
+      | inl e ↦ subst (IsOpenAt layout snapshot run) (sym e) is
       | inr e ↦ before s (let b : s < n + 1 = below in omega (arith, b, e))
     ]
 
 -- a store that has it open has it open under this id
-pub one-id : (snapshot : SnapshotView) (run : List Turn) (s id : ℕ) → slice_get snapshot.ids s ≡ Some id
-    → IsOpenAt snapshot run s → stamp_of id (past_of s run) ≡ Some snapshot.stamp
-one-id snapshot run s id is open' =
+pub one-id : (layout : Layout) (snapshot : SnapshotView) (run : List Turn) (s id : ℕ)
+    → slice_get snapshot.ids s ≡ Some id
+    → IsOpenAt layout snapshot run s → stamp_of id (past_of layout s run) ≡ Some snapshot.stamp
+one-id layout snapshot run s id is open' =
     let e : Some open'.0 ≡ Some id = sym open'.1.0 ∙ is in
     let same : open'.0 ≡ id = cc in
-    ap (λ k. stamp_of k (past_of s run)) (sym same) ∙ open'.1.1
+    ap (λ k. stamp_of k (past_of layout s run)) (sym same) ∙ open'.1.1
 
 -- it is not open where there is no store
 pub not-there : (layout : Layout) (kept : RangesView) (snapshot : SnapshotView) (run : List Turn) (s : ℕ)
-    → Represents layout kept run → nat_lt s (length kept.stores) ≡ false → IsOpenAt snapshot run s → ⊥
+    → Represents layout kept run → nat_lt s (length kept.stores) ≡ false → IsOpenAt layout snapshot run s → ⊥
 not-there layout kept snapshot run s h out open' =
     elim (cases_lt s (length kept.stores)) [
       | inl low ↦ (let e : false ≡ true = sym out ∙ lt-ltb s (length kept.stores) low in cc)
       | inr high ↦
           (let many : length kept.stores ≡ layout.stores = h.many in
           let past : length kept.stores ≤ s = high in
-          let none : stamp_of open'.0 (past_of s run) ≡ None =
+          let none : stamp_of open'.0 (past_of layout s run) ≡ None =
           ap (stamp_of open'.0) (past-none layout run s h.legal (omega arith)) in
           let e : None ≡ Some snapshot.stamp = sym none ∙ open'.1.1 in cc)
     ]
 
 -- what was found of a store
-pub id-open : (snapshot : SnapshotView) (run : List Turn) (s : ℕ) (found : Option ℕ)
-    → MatchOption found (IsOpenAt snapshot run s → ⊥) (IsIdAt snapshot run s) → is_some found ≡ true
-    → IsOpenAt snapshot run s
-id-open snapshot run s None is some = absurd (cc)
-id-open snapshot run s (Some id) is some = (id, is)
+pub id-open : (layout : Layout) (snapshot : SnapshotView) (run : List Turn) (s : ℕ) (found : Option ℕ)
+    → MatchOption found (IsOpenAt layout snapshot run s → ⊥) (IsIdAt layout snapshot run s) → is_some found ≡ true
+    → IsOpenAt layout snapshot run s
+id-open layout snapshot run s None is some = absurd (cc)
+id-open layout snapshot run s (Some id) is some = (id, is)
 
-pub id-shut : (snapshot : SnapshotView) (run : List Turn) (s : ℕ) (found : Option ℕ)
-    → MatchOption found (IsOpenAt snapshot run s → ⊥) (IsIdAt snapshot run s) → is_some found ≡ false
-    → IsOpenAt snapshot run s → ⊥
-id-shut snapshot run s None is none = is
-id-shut snapshot run s (Some id) is none = absurd (cc)
+pub id-shut : (layout : Layout) (snapshot : SnapshotView) (run : List Turn) (s : ℕ) (found : Option ℕ)
+    → MatchOption found (IsOpenAt layout snapshot run s → ⊥) (IsIdAt layout snapshot run s) → is_some found ≡ false
+    → IsOpenAt layout snapshot run s → ⊥
+id-shut layout snapshot run s None is none = is
+id-shut layout snapshot run s (Some id) is none = absurd (cc)
 
 -- what a read says, where the snapshot is open
 seen : {T E : Type 0} (result : Result T E) (o : Option ℕ) (at : ℕ) (P : ℕ → T → Type 0) → o ≡ Some at

@@ -34,7 +34,7 @@ none-opened layout kept stamp run ids none h = record {
 refusal-same : (layout : Layout) (run : List Turn) (stamp n : ℕ)
     → open_refusals layout (each_stepped (opening stamp) n run) stamp n ≡ open_refusals layout run stamp n
 refusal-same layout run stamp n =
-    ap (λ past. open_refusal (layout.nodes n) past stamp) (past-after (opening stamp) n n run (omega arith))
+    ap (λ past. open_refusal past stamp) (past-after layout (opening stamp) n n run (omega arith))
 
 pub one-opened : (layout : Layout) (old new : RangesView) (stamp : ℕ) (run : List Turn) (ids : List ℕ) (n id : ℕ)
     → HasOpenedTo layout old stamp run ids n
@@ -42,13 +42,13 @@ pub one-opened : (layout : Layout) (old new : RangesView) (stamp : ℕ) (run : L
     → HasOpenedTo layout new stamp run (ids ++ id ∷ []) (n + 1)
 one-opened layout old new stamp run ids n id h opens =
     let many : length ids ≡ n = h.many in
-    let id_is : id ≡ next_id run n =
-    opens.1 ∙ ap (λ past. opened past + 1) (past-after (opening stamp) n n run (omega arith)) in
+    let id_is : id ≡ next_id layout run n =
+    opens.1 ∙ ap (λ past. opened past + 1) (past-after layout (opening stamp) n n run (omega arith)) in
     record {
       many = length-append ids (id ∷ []) ∙ ap (λ k. k + 1) many;
       assigned = λ s below.
           elim (cases_eq s n) [
-            | inl e ↦ get_or_push ids id 0 s (many ∙ sym e) ∙ id_is ∙ ap (next_id run) (sym e)
+            | inl e ↦ get_or_push ids id 0 s (many ∙ sym e) ∙ id_is ∙ ap (next_id layout run) (sym e)
             | inr e ↦
                 (let b : s < n + 1 = below in
                 let low : s < n = omega (arith, b, e) in
@@ -74,29 +74,27 @@ one-refused layout old new stamp run ids n (Store fault) inside h opens same = r
 }
 
 -- a snapshot that was just opened is open, at its stamp
-pub just-opened : (nodes : ℕ) (past : List Step) (stamp : ℕ) → IsLegalPast nodes past
+pub just-opened : (past : List Step) (stamp : ℕ) → IsLegalPast past
     → stamp_of (opened past + 1) (Opened stamp ∷ past) ≡ Some stamp
-just-opened nodes past stamp legal =
-    opened-here (record { snapshots = open_snapshots past; opened = opened past }) stamp (register-of nodes past legal)
+just-opened past stamp legal =
+    opened-here (record { snapshots = open_snapshots past; opened = opened past }) stamp (register-of past legal)
 
 -- each of the first stores has its snapshot open
 pub opened-each : (layout : Layout) (old kept : RangesView) (stamp : ℕ) (run : List Turn) (ids : List ℕ) (n s : ℕ)
     → Represents layout old run → n ≤ layout.stores → HasOpenedTo layout kept stamp run ids n → s < n
-    → stamp_of (get_or ids s 0) (past_of s (each_stepped (opening stamp) n run)) ≡ Some stamp
+    → stamp_of (get_or ids s 0) (past_of layout s (each_stepped (opening stamp) n run)) ≡ Some stamp
 opened-each layout old kept stamp run ids n s represents few h below =
     let many : length old.stores ≡ layout.stores = represents.many in
     let inside : s < length old.stores = omega (arith, below, few, many) in
     let store = get-some old.stores s inside in
-    let legal : IsLegalPast (layout.nodes s) (past_of s run) =
-    subst (λ k. IsLegalPast k (past_of s run)) (represents.nodes s store.0 store.1)
-    (represents.pasts s store.0 store.1).legal in
-    ap (λ past. stamp_of (get_or ids s 0) past) (past-within (opening stamp) n s run below)
-    ∙ ap (λ id. stamp_of id (Opened stamp ∷ past_of s run)) (h.assigned s below)
-    ∙ just-opened (layout.nodes s) (past_of s run) stamp legal
+    let legal : IsLegalPast (past_of layout s run) = (represents.pasts s store.0 store.1).legal in
+    ap (λ past. stamp_of (get_or ids s 0) past) (past-within layout (opening stamp) n s run below)
+    ∙ ap (λ id. stamp_of id (Opened stamp ∷ past_of layout s run)) (h.assigned s below)
+    ∙ just-opened (past_of layout s run) stamp legal
 
 pub open-to : (layout : Layout) (old kept : RangesView) (stamp : ℕ) (run : List Turn) (ids : List ℕ) (n : ℕ)
     → Represents layout old run → n ≤ layout.stores → HasOpenedTo layout kept stamp run ids n
-    → AreOpenTo (each_stepped (opening stamp) n run) ids
+    → AreOpenTo layout (each_stepped (opening stamp) n run) ids
 open-to layout old kept stamp run ids n represents few h = λ s below.
     let many : length ids ≡ n = h.many in
     let b : s < length ids = below in
@@ -129,18 +127,18 @@ closed-again layout kept new stamp run ids fault h closed = record {
   represents =
       subst (λ r. Represents layout new r)
       (ap (λ n. each_stepped (λ s. Closed (get_or ids s 0)) n (each_stepped (opening stamp) h.at run)) h.opened.many
-      ∙ each-same (λ s. Closed (get_or ids s 0)) (λ s. Closed (next_id run s)) h.at
+      ∙ each-same (λ s. Closed (get_or ids s 0)) (λ s. Closed (next_id layout run s)) h.at
       (each_stepped (opening stamp) h.at run) (λ s below. ap Closed (h.opened.assigned s below))) closed;
 }
 
 -- a stamp at which all stores open a snapshot is a cut
 pub opened-cut : (layout : Layout) (kept : RangesView) (stamp : ℕ) (run : List Turn) (step : ℕ → Step)
     → HaveStepped layout kept run (open_refusals layout run stamp) step layout.stores → IsCut layout run stamp
-opened-cut layout kept stamp run step h = λ s inside. open-below (layout.nodes s) (past_of s run) stamp (h.none s inside)
+opened-cut layout kept stamp run step h = λ s inside. open-below (past_of layout s run) stamp (h.none s inside)
 
 -- the snapshots are closed one after another
 pub one-closed : (layout : Layout) (old new : RangesView) (run : List Turn) (ids : List ℕ) (n : ℕ)
-    (result : Result ℕ RangesFault) → n < layout.stores → n < length ids → AreOpenTo run ids
+    (result : Result ℕ RangesFault) → n < layout.stores → n < length ids → AreOpenTo layout run ids
     → Represents layout old (each_stepped (λ s. Closed (get_or ids s 0)) n run)
     → ClosesIn layout old new n (get_or ids n 0) (each_stepped (λ s. Closed (get_or ids s 0)) n run) result
     → Represents layout new (Stepped n (Closed (get_or ids n 0)) ∷ each_stepped (λ s. Closed (get_or ids s 0)) n run)
@@ -150,29 +148,29 @@ one-closed layout old new run ids n (Err NoStore) inside within are h closes =
     let past : length old.stores ≤ n = closes in omega arith)
 one-closed layout old new run ids n (Err WrongStore) inside within are h closes = absurd closes
 one-closed layout old new run ids n (Err (Store fault)) inside within are h closes =
-    let same : past_of n (each_stepped (λ s. Closed (get_or ids s 0)) n run) ≡ past_of n run =
-    past-after (λ s. Closed (get_or ids s 0)) n n run (omega arith) in
+    let same : past_of layout n (each_stepped (λ s. Closed (get_or ids s 0)) n run) ≡ past_of layout n run =
+    past-after layout (λ s. Closed (get_or ids s 0)) n n run (omega arith) in
     let is = are n within in
     let e : None ≡ Some is.0 = sym closes.1 ∙ ap (stamp_of (get_or ids n 0)) same ∙ is.1 in absurd (cc)
 
 -- what the closing of the snapshots with some ids says of a snapshot that is open in all stores
 pub all-open : (layout : Layout) (new : RangesView) (run : List Turn) (snapshot : SnapshotView) (ids : List ℕ)
     → ids ≡ snapshot.ids → IsOpenAll layout snapshot run
-    → (length ids ≤ layout.stores → AreOpenTo run ids
+    → (length ids ≤ layout.stores → AreOpenTo layout run ids
     → Represents layout new (each_stepped (λ s. Closed (get_or ids s 0)) (length ids) run))
     → Represents layout new (each_stepped (λ s. Closed (get_or snapshot.ids s 0)) layout.stores run)
 all-open layout new run snapshot ids same h closed =
     let many : length ids ≡ layout.stores = ap length same ∙ h.many in
     let made = closed (omega arith) (λ s below.
     let b : s < length ids = below in
-    (snapshot.stamp, ap (λ xs. stamp_of (get_or xs s 0) (past_of s run)) same ∙ h.each s (omega arith))) in
+    (snapshot.stamp, ap (λ xs. stamp_of (get_or xs s 0) (past_of layout s run)) same ∙ h.each s (omega arith))) in
     subst (λ xs. Represents layout new (each_stepped (λ s. Closed (get_or xs s 0)) layout.stores run)) same
     (subst (λ n. Represents layout new (each_stepped (λ s. Closed (get_or ids s 0)) n run)) many made)
 
 -- what is left where a store refused: those before it have closed the snapshot again
 pub few-opened : (layout : Layout) (old kept new : RangesView) (stamp : ℕ) (run : List Turn) (ids : List ℕ)
     (fault : RangesFault) → Represents layout old run → HasOpenedSome layout kept stamp run ids fault
-    → ((later : List Turn) → Represents layout kept later → length ids ≤ layout.stores → AreOpenTo later ids
+    → ((later : List Turn) → Represents layout kept later → length ids ≤ layout.stores → AreOpenTo layout later ids
     → Represents layout new (each_stepped (λ s. Closed (get_or ids s 0)) (length ids) later))
     → HaveClosedAgain layout new stamp run fault
 few-opened layout old kept new stamp run ids fault h opened' closed =
@@ -189,7 +187,6 @@ open-cut layout kept snapshot run h open' = λ s inside.
     let many : length kept.stores ≡ layout.stores = h.many in
     let within : s < layout.stores = inside in
     let store = get-some kept.stores s (omega (arith, within, many)) in
-    let legal : IsLegalPast (layout.nodes s) (past_of s run) =
-    subst (λ k. IsLegalPast k (past_of s run)) (h.nodes s store.0 store.1) (h.pasts s store.0 store.1).legal in
-    stamp_in-all (λ at. at ≤ floor (layout.nodes s) (past_of s run)) (get_or snapshot.ids s 0) snapshot.stamp
-    (open_snapshots (past_of s run)) (open-low (layout.nodes s) (past_of s run) legal) (open'.each s inside)
+    let legal : IsLegalPast (past_of layout s run) = (h.pasts s store.0 store.1).legal in
+    stamp_in-all (λ at. at ≤ floor (past_of layout s run)) (get_or snapshot.ids s 0) snapshot.stamp
+    (open_snapshots (past_of layout s run)) (open-low (past_of layout s run) legal) (open'.each s inside)

@@ -1,12 +1,14 @@
 -- A step of one store extends the run: the others, and their pasts, stay.
-use Rattle.std.proofs.Common.{◌≡◌, ℕ, zero, suc, ◌<◌, List, [], ◌∷◌, ◌++◌, length, Some, set, refl, ap, sym, ◌∙◌, subst}
+use Rattle.std.proofs.Common.{◌≡◌, ℕ, zero, suc, ◌<◌, ◌≤◌, List, [], ◌∷◌, ◌++◌, length, Some, set, refl, ap, sym, ◌∙◌}
+use Rattle.std.proofs.Common.{subst}
 use Rattle.std.proofs.Common.{inl, inr, arith, length-set}
 use Rattle.std.specs.Prelude.{slice_get}
-use Rattle.std.proofs.lemmas.Bool.{cond-true, cond-false, eq-eqb, ne_eqb, cases_eq}
+use Rattle.std.proofs.lemmas.Bool.{cases_eq}
 use Rattle.std.proofs.lemmas.Option.{slice_get_within}
-use Rattle.hlc_core.specs.Past.{Step, IsLegal as IsLegalPast}
-use Rattle.hlc_core.specs.StoreView.{StoreView, nodes, Represents as CoreRepresents}
+use Rattle.hlc_core.specs.Past.{Step, Started, Took, Opened, Closed, Vacuumed, PartVacuumed, Joined, numbered}
+use Rattle.hlc_core.specs.StoreView.{StoreView, Represents as CoreRepresents}
 use Rattle.hlc_ranges.specs.Run.{Layout, Turn, Stepped, past_of, IsIssuedStep}
+use Rattle.hlc_ranges.proofs.TurnLemmas.{past-same, past-other}
 use Rattle.hlc_routing.specs.Ranges.{RangesView, Represents}
 
 pub get-set_same : {X : Type 0} (xs : List X) (i : ℕ) (y : X) → i < length xs → slice_get (set xs i y) i ≡ Some y
@@ -42,13 +44,25 @@ get-push_here (x ∷ xs) y (suc i) e = get-push_here xs y i (omega arith)
 pub some-same : {X : Type 0} (x y : X) → Some x ≡ Some y → x ≡ y
 some-same x y e = cc
 
-pub past-same : (s t : ℕ) (step : Step) (run : List Turn) → t ≡ s
-    → past_of s (Stepped t step ∷ run) ≡ step ∷ past_of s run
-past-same s t step run e = cond-true _ _ _ (eq-eqb _ _ e)
+-- no step takes a number back
+numbered-grows : (step : Step) (past : List Step) → numbered past ≤ numbered (step ∷ past)
+numbered-grows (Started nodes) past = omega arith
+numbered-grows (Took item) past = omega arith
+numbered-grows (Opened stamp) past = omega arith
+numbered-grows (Closed id) past = omega arith
+numbered-grows (Vacuumed at) past = omega arith
+numbered-grows (PartVacuumed at dropped) past = omega arith
+numbered-grows (Joined node start) past = omega arith
 
-pub past-other : (s t : ℕ) (step : Step) (run : List Turn) → (t ≡ s → ⊥)
-    → past_of s (Stepped t step ∷ run) ≡ past_of s run
-past-other s t step run e = cond-false _ _ _ (ne_eqb _ _ e)
+pub numbered-later : (layout : Layout) (run : List Turn) (s t : ℕ) (step : Step)
+    → numbered (past_of layout t run) ≤ numbered (past_of layout t (Stepped s step ∷ run))
+numbered-later layout run s t step =
+    elim (cases_eq s t) [
+      | inl e ↦ subst (λ past. numbered (past_of layout t run) ≤ numbered past) (sym (past-same layout t s step run e))
+          (numbered-grows step (past_of layout t run))
+      | inr e ↦ subst (λ past. numbered (past_of layout t run) ≤ numbered past) (sym (past-other layout t s step run e))
+          (omega arith)
+    ]
 
 -- the stores after one of them changed
 abbrev pub with_store : RangesView → ℕ → StoreView → RangesView
@@ -56,40 +70,24 @@ with_store old s new = record { division = old.division; stores = set old.stores
 
 -- what a store represents after a step, the stores represent after the same step of it
 pub steps : (layout : Layout) (old : RangesView) (run : List Turn) (s : ℕ) (store new : StoreView) (step : Step)
-    → Represents layout old run → slice_get old.stores s ≡ Some store → nodes new ≡ nodes store
-    → CoreRepresents new (step ∷ past_of s run) → IsIssuedStep s step run
+    → Represents layout old run → slice_get old.stores s ≡ Some store
+    → CoreRepresents new (step ∷ past_of layout s run) → IsIssuedStep s step run
     → Represents layout (with_store old s new) (Stepped s step ∷ run)
-steps layout old run s store new step h at same represents issued' =
+steps layout old run s store new step h at represents issued' =
     let inside : s < length old.stores = slice_get_within old.stores s store at in
     let many : length old.stores ≡ layout.stores = h.many in
-    let as_many : nodes new ≡ layout.nodes s = same ∙ h.nodes s store at in
     record {
-      legal = (
-        (
-          omega arith,
-          subst (λ k. IsLegalPast k (step ∷ past_of s run)) as_many represents.legal,
-          issued',
-        ),
-        h.legal,
-      );
+      legal = ((omega arith, represents.legal, issued'), h.legal);
       many = length-set old.stores s new ∙ many;
-      nodes = λ t other there.
-          elim (cases_eq s t) [
-            | inl e ↦
-                (let is : new ≡ other = some-same new other
-                (sym (get-set_same old.stores s new inside) ∙ ap (slice_get (set old.stores s new)) e ∙ there) in
-                ap nodes (sym is) ∙ as_many ∙ ap layout.nodes e)
-            | inr e ↦ h.nodes t other (sym (get-set_other old.stores s t new e) ∙ there)
-          ];
       pasts = λ t other there.
           elim (cases_eq s t) [
             | inl e ↦
                 (let is : new ≡ other = some-same new other
                 (sym (get-set_same old.stores s new inside) ∙ ap (slice_get (set old.stores s new)) e ∙ there) in
-                subst (λ x. CoreRepresents x (past_of t (Stepped s step ∷ run))) is
-                (subst (λ p. CoreRepresents new p) (sym (past-same t s step run e))
-                (subst (λ k. CoreRepresents new (step ∷ past_of k run)) e represents)))
-            | inr e ↦ subst (λ p. CoreRepresents other p) (sym (past-other t s step run e))
+                subst (λ x. CoreRepresents x (past_of layout t (Stepped s step ∷ run))) is
+                (subst (λ p. CoreRepresents new p) (sym (past-same layout t s step run e))
+                (subst (λ k. CoreRepresents new (step ∷ past_of layout k run)) e represents)))
+            | inr e ↦ subst (λ p. CoreRepresents other p) (sym (past-other layout t s step run e))
                 (h.pasts t other (sym (get-set_other old.stores s t new e) ∙ there))
           ];
       routed = h.routed;

@@ -1,15 +1,15 @@
 -- One store after another is vacuumed to a stamp.
-use Rattle.std.proofs.Common.{◌≡◌, ◌≢◌, ℕ, ◌+◌, ◌<◌, ◌≤◌, List, [], ◌∷◌, ◌++◌, length, Some, None, Ok, Err}
+use Rattle.std.proofs.Common.{◌≡◌, ◌≢◌, ℕ, ◌+◌, ◌<◌, ◌≤◌, List, [], ◌∷◌, ◌++◌, length, Some, Ok, Err}
 use Rattle.std.proofs.Common.{ap, sym, ◌∙◌, subst, inl, inr, arith, length-append}
-use Rattle.std.specs.Prelude.{slice_get, ⊤}
+use Rattle.std.specs.Prelude.{slice_get}
 use Rattle.std.proofs.lemmas.Bool.{cases_lt}
 use Rattle.std.proofs.lemmas.Option.{slice_get_within}
 use Rattle.hlc_draft.specs.declared.report.Report.{Report}
 use Rattle.hlc_events.specs.declared.fault.CoreFault.{CoreFault}
 use Rattle.hlc_core.specs.Past.{Step, Vacuumed, vacuum_refusal, writes}
-use Rattle.hlc_core.specs.StoreView.{StoreView, nodes}
+use Rattle.hlc_core.specs.StoreView.{StoreView}
 use Rattle.hlc_core.specs.Stored.{IsReport, LeavesFewest}
-use Rattle.hlc_core.specs.Calls.{VacuumsTo, IsRefusal}
+use Rattle.hlc_core.specs.Calls.{VacuumsTo}
 use Rattle.hlc_ranges.specs.Run.{Layout, Turn, past_of}
 use Rattle.hlc_routing.specs.Ranges.{RangesView, Represents}
 use Rattle.hlc_routing.specs.All.{each_stepped, HaveStepped, HaveStopped, AreReports, IsVacuumedIn, VacuumsIn}
@@ -25,39 +25,37 @@ vacuuming at s = Vacuumed at
 
 -- what a store's vacuum says of all stores
 pub vacuumed : (layout : Layout) (old : RangesView) (run : List Turn) (s at : ℕ) (store new : StoreView)
-    (report : Report) → Represents layout old run → slice_get old.stores s ≡ Some store → nodes new ≡ nodes store
-    → VacuumsTo store new at (past_of s run) (Ok report)
+    (report : Report) → Represents layout old run → slice_get old.stores s ≡ Some store
+    → VacuumsTo store new at (past_of layout s run) (Ok report)
     → VacuumsIn layout old (with_store old s new) s at run (Ok report)
-vacuumed layout old run s at store new report h there same vacuums =
+vacuumed layout old run s at store new report h there vacuums =
     let within : s < length old.stores = slice_get_within old.stores s store there in (
-      subst (λ n. vacuum_refusal n (past_of s run) at ≡ None) (h.nodes s store there) vacuums.0,
+      vacuums.0,
       record {
         expected = vacuums.1.expected;
         fewest = λ other is.
             let one : new ≡ other = some-same new other (sym (get-set_same old.stores s new within) ∙ is) in
-            subst (λ (x : StoreView). LeavesFewest x.rows (writes (past_of s run)) report) one vacuums.1.fewest;
+            subst (λ (x : StoreView). LeavesFewest x.rows (writes (past_of layout s run)) report) one vacuums.1.fewest;
       },
-      steps layout old run s store new (Vacuumed at) h there same vacuums.1.represents tt,
+      steps layout old run s store new (Vacuumed at) h there vacuums.1.represents tt,
     )
 
 pub not-vacuumed : (layout : Layout) (old now : RangesView) (run : List Turn) (s at : ℕ) (store new : StoreView)
     (fault : CoreFault) → Represents layout old run → slice_get old.stores s ≡ Some store
-    → VacuumsTo store new at (past_of s run) (Err fault) → VacuumsIn layout old now s at run (Err (Store fault))
-not-vacuumed layout old now run s at store new fault h there vacuums = (
-  slice_get_within old.stores s store there,
-  subst (λ n. IsRefusal (vacuum_refusal n (past_of s run) at) ⊤ fault) (h.nodes s store there) vacuums,
-)
+    → VacuumsTo store new at (past_of layout s run) (Err fault) → VacuumsIn layout old now s at run (Err (Store fault))
+not-vacuumed layout old now run s at store new fault h there vacuums =
+    (slice_get_within old.stores s store there, vacuums)
 
 refusal-same : (layout : Layout) (run : List Turn) (at n : ℕ)
     → vacuum_refusals layout (each_stepped (vacuuming at) n run) at n ≡ vacuum_refusals layout run at n
 refusal-same layout run at n =
-    ap (λ past. vacuum_refusal (layout.nodes n) past at) (past-after (vacuuming at) n n run (omega arith))
+    ap (λ past. vacuum_refusal past at) (past-after layout (vacuuming at) n n run (omega arith))
 
 -- the first stores were vacuumed, and these are their reports
 pub record AreVacuumedTo (layout : Layout) (kept : RangesView) (at : ℕ) (run : List Turn) (reports : List Report)
     (n : ℕ) : Type 0 where
   pub stepped : HaveStepped layout kept run (vacuum_refusals layout run at) (vacuuming at) n
-  pub made : AreReports kept at run reports n
+  pub made : AreReports layout kept at run reports n
 
 pub none-vacuumed : (layout : Layout) (kept : RangesView) (at : ℕ) (run : List Turn) (reports : List Report)
     → reports ≡ [] → Represents layout kept run → AreVacuumedTo layout kept at run reports 0
@@ -71,17 +69,18 @@ none-vacuumed layout kept at run reports none h = record {
   };
 }
 
-still : (old new : RangesView) (s at : ℕ) (run : List Turn) (report : Report)
-    → slice_get new.stores s ≡ slice_get old.stores s → IsVacuumedIn old s at run report
-    → IsVacuumedIn new s at run report
-still old new s at run report same h = record {
+still : (layout : Layout) (old new : RangesView) (s at : ℕ) (run : List Turn) (report : Report)
+    → slice_get new.stores s ≡ slice_get old.stores s → IsVacuumedIn layout old s at run report
+    → IsVacuumedIn layout new s at run report
+still layout old new s at run report same h = record {
   expected = h.expected;
   fewest = λ store there. h.fewest store (sym same ∙ there);
 }
 
-before : (new : RangesView) (s at : ℕ) (run later : List Turn) (report : Report) → past_of s later ≡ past_of s run
-    → IsVacuumedIn new s at later report → IsVacuumedIn new s at run report
-before new s at run later report same h = record {
+before : (layout : Layout) (new : RangesView) (s at : ℕ) (run later : List Turn) (report : Report)
+    → past_of layout s later ≡ past_of layout s run → IsVacuumedIn layout new s at later report
+    → IsVacuumedIn layout new s at run report
+before layout new s at run later report same h = record {
   expected = subst (λ past. IsReport at past report) same h.expected;
   fewest = λ store there.
       subst (λ past. LeavesFewest store.rows (writes past) report) same (h.fewest store there);
@@ -106,7 +105,7 @@ one-vacuumed layout old new at run reports n report h vacuums others =
             elim (cases_lt s (length reports)) [
               | inl low ↦
                   (let l : s < length reports = low in
-                  still old new s at run other (others s (λ e. absurd (omega (arith, e))))
+                  still layout old new s at run other (others s (λ e. absurd (omega (arith, e))))
                   (h.made.each s other (sym (get-push_before reports report s low) ∙ there)))
               | inr high ↦
                   (let l : length reports ≤ s = high in
@@ -114,10 +113,10 @@ one-vacuumed layout old new at run reports n report h vacuums others =
                   let is_n : n ≡ s = sym many ∙ last in
                   let same : report ≡ other =
                   some-same report other (sym (get-push_here reports report s last) ∙ there) in
-                  subst (λ (x : Report). IsVacuumedIn new s at run x) same
-                  (subst (λ k. IsVacuumedIn new k at run report) is_n
-                  (before new n at run (each_stepped (vacuuming at) n run) report
-                  (past-after (vacuuming at) n n run (omega arith)) vacuums.1)))
+                  subst (λ (x : Report). IsVacuumedIn layout new s at run x) same
+                  (subst (λ k. IsVacuumedIn layout new k at run report) is_n
+                  (before layout new n at run (each_stepped (vacuuming at) n run) report
+                  (past-after layout (vacuuming at) n n run (omega arith)) vacuums.1)))
             ];
       };
     }

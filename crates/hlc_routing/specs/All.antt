@@ -1,5 +1,6 @@
 -- Calls of all stores: what they do to the run that the stores represent.
-use Rattle.std.specs.Prelude.{◌≡◌, ℕ, zero, suc, ◌+◌, ◌<◌, ◌≤◌, ◌⊎◌, List, [], ◌∷◌, length, Option, Some, None, get_or, slice_get}
+use Rattle.std.specs.Prelude.{◌≡◌, ℕ, zero, suc, ◌+◌, ◌<◌, ◌≤◌, ◌⊎◌, List, [], ◌∷◌, length, Option, Some, None, get_or}
+use Rattle.std.specs.Prelude.{slice_get}
 use Rattle.std.specs.Prelude.{Result, Ok, Err, ⊤}
 use Rattle.hlc_events.specs.declared.fault.CoreFault.{CoreFault}
 use Rattle.hlc_events.specs.declared.fault.CoreFault.TheVariants.{NoMemory}
@@ -52,30 +53,31 @@ HaveNoMemory old new fault = (fault ≡ Store NoMemory) × (new ≡ old)
 -- the snapshot is open in each store, at its stamp
 pub record IsOpenAll (layout : Layout) (snapshot : SnapshotView) (run : List Turn) : Type 0 where
   pub many : length snapshot.ids ≡ layout.stores
-  pub each : (s : ℕ) → s < layout.stores → stamp_of (get_or snapshot.ids s 0) (past_of s run) ≡ Some snapshot.stamp
+  pub each : (s : ℕ) → s < layout.stores
+      → stamp_of (get_or snapshot.ids s 0) (past_of layout s run) ≡ Some snapshot.stamp
 
 -- the snapshot has this id in the store, and is open there at its stamp
-abbrev pub IsIdAt : SnapshotView → List Turn → ℕ → ℕ → Type 0
-IsIdAt snapshot run s id =
-    (slice_get snapshot.ids s ≡ Some id) × (stamp_of id (past_of s run) ≡ Some snapshot.stamp)
+abbrev pub IsIdAt : Layout → SnapshotView → List Turn → ℕ → ℕ → Type 0
+IsIdAt layout snapshot run s id =
+    (slice_get snapshot.ids s ≡ Some id) × (stamp_of id (past_of layout s run) ≡ Some snapshot.stamp)
 
 -- the snapshot is open in the store, at its stamp
-abbrev pub IsOpenAt : SnapshotView → List Turn → ℕ → Type 0
-IsOpenAt snapshot run s = (id : ℕ) × IsIdAt snapshot run s id
+abbrev pub IsOpenAt : Layout → SnapshotView → List Turn → ℕ → Type 0
+IsOpenAt layout snapshot run s = (id : ℕ) × IsIdAt layout snapshot run s id
 
 -- why a store opens no snapshot at a stamp
 abbrev pub open_refusals : Layout → List Turn → ℕ → ℕ → Option CoreFault
-open_refusals layout run stamp s = open_refusal (layout.nodes s) (past_of s run) stamp
+open_refusals layout run stamp s = open_refusal (past_of layout s run) stamp
 
 -- the id that the next snapshot of a store gets
-abbrev pub next_id : List Turn → ℕ → ℕ
-next_id run s = opened (past_of s run) + 1
+abbrev pub next_id : Layout → List Turn → ℕ → ℕ
+next_id layout run s = opened (past_of layout s run) + 1
 
 -- Each store opened the snapshot at the stamp, with its next id.
 pub record HaveOpened (layout : Layout) (new : RangesView) (stamp : ℕ) (run : List Turn) (snapshot : SnapshotView)
     : Type 0 where
   pub stamp_is : snapshot.stamp ≡ stamp
-  pub ids : (s : ℕ) → s < layout.stores → get_or snapshot.ids s 0 ≡ next_id run s
+  pub ids : (s : ℕ) → s < layout.stores → get_or snapshot.ids s 0 ≡ next_id layout run s
   pub stepped : HaveStepped layout new run (open_refusals layout run stamp) (λ _. Opened stamp) layout.stores
   pub opens : IsOpenAll layout snapshot (each_stepped (λ _. Opened stamp) layout.stores run)
 
@@ -87,7 +89,7 @@ pub record HaveClosedAgain (layout : Layout) (new : RangesView) (stamp : ℕ) (r
   pub none : (s : ℕ) → s < at → open_refusals layout run stamp s ≡ None
   pub why : IsStoreRefusal (open_refusals layout run stamp at) fault
   pub represents : Represents layout new
-      (each_stepped (λ s. Closed (next_id run s)) at (each_stepped (λ _. Opened stamp) at run))
+      (each_stepped (λ s. Closed (next_id layout run s)) at (each_stepped (λ _. Opened stamp) at run))
 
 -- a snapshot was opened in all stores, or in none
 abbrev pub OpensAll : Layout → RangesView → RangesView → ℕ → List Turn → Result SnapshotView RangesFault → Type 0
@@ -100,10 +102,11 @@ closed_at None s id run = run
 closed_at (Some stamp) s id run = Stepped s (Closed id) ∷ run
 
 -- the run after each of the first stores closed the snapshot with its id, where it is open
-abbrev pub each_closed : List ℕ → ℕ → List Turn → List Turn
-each_closed ids zero run = run
-each_closed ids (suc n) run =
-    closed_at (stamp_of (get_or ids n 0) (past_of n (each_closed ids n run))) n (get_or ids n 0) (each_closed ids n run)
+abbrev pub each_closed : Layout → List ℕ → ℕ → List Turn → List Turn
+each_closed layout ids zero run = run
+each_closed layout ids (suc n) run =
+    closed_at (stamp_of (get_or ids n 0) (past_of layout n (each_closed layout ids n run))) n (get_or ids n 0)
+    (each_closed layout ids n run)
 
 -- the snapshot was closed in all stores
 abbrev pub ClosesAll : Layout → RangesView → SnapshotView → List Turn → Type 0
@@ -112,18 +115,19 @@ ClosesAll layout new snapshot run =
 
 -- why a store makes no vacuum to a stamp
 abbrev pub vacuum_refusals : Layout → List Turn → ℕ → ℕ → Option CoreFault
-vacuum_refusals layout run at s = vacuum_refusal (layout.nodes s) (past_of s run) at
+vacuum_refusals layout run at s = vacuum_refusal (past_of layout s run) at
 
 -- one store was vacuumed to the stamp: the report is the expected one, and the remaining rows are the fewest
-pub record IsVacuumedIn (new : RangesView) (s at : ℕ) (run : List Turn) (report : Report) : Type 0 where
-  pub expected : IsReport at (past_of s run) report
+pub record IsVacuumedIn (layout : Layout) (new : RangesView) (s at : ℕ) (run : List Turn) (report : Report)
+    : Type 0 where
+  pub expected : IsReport at (past_of layout s run) report
   pub fewest : (store : StoreView) → slice_get new.stores s ≡ Some store
-      → LeavesFewest store.rows (writes (past_of s run)) report
+      → LeavesFewest store.rows (writes (past_of layout s run)) report
 
 -- one store was vacuumed to the stamp, or refused it
 abbrev pub VacuumsIn : Layout → RangesView → RangesView → ℕ → ℕ → List Turn → Result Report RangesFault → Type 0
 VacuumsIn layout old new s at run (Ok report) =
-    (vacuum_refusals layout run at s ≡ None) × IsVacuumedIn new s at run report
+    (vacuum_refusals layout run at s ≡ None) × IsVacuumedIn layout new s at run report
     × Represents layout new (Stepped s (Vacuumed at) ∷ run)
 VacuumsIn layout old new s at run (Err NoStore) = length old.stores ≤ s
 VacuumsIn layout old new s at run (Err WrongStore) = ⊥
@@ -131,15 +135,16 @@ VacuumsIn layout old new s at run (Err (Store fault)) =
     (s < length old.stores) × IsRefusal (vacuum_refusals layout run at s) ⊤ fault
 
 -- the reports of the first stores, in order
-pub record AreReports (new : RangesView) (at : ℕ) (run : List Turn) (reports : List Report) (n : ℕ) : Type 0 where
+pub record AreReports (layout : Layout) (new : RangesView) (at : ℕ) (run : List Turn) (reports : List Report) (n : ℕ)
+    : Type 0 where
   pub many : length reports ≡ n
-  pub each : (s : ℕ) (report : Report) → slice_get reports s ≡ Some report → IsVacuumedIn new s at run report
+  pub each : (s : ℕ) (report : Report) → slice_get reports s ≡ Some report → IsVacuumedIn layout new s at run report
 
 -- all stores were vacuumed to the stamp, and these are their reports, in order
 abbrev pub AreVacuumed : Layout → RangesView → ℕ → List Turn → List Report → Type 0
 AreVacuumed layout new at run reports =
     HaveStepped layout new run (vacuum_refusals layout run at) (λ _. Vacuumed at) layout.stores
-    × AreReports new at run reports layout.stores
+    × AreReports layout new at run reports layout.stores
 
 -- memory ran out before anything changed; or a store refused the vacuum, and those before it were vacuumed
 abbrev pub AreVacuumedSome : Layout → RangesView → RangesView → ℕ → List Turn → RangesFault → Type 0
@@ -149,11 +154,11 @@ AreVacuumedSome layout old new at run fault =
 
 -- why no node joins a store
 abbrev pub join_refusals : Layout → List Turn → ℕ → Option CoreFault
-join_refusals layout run s = join_refusal (layout.nodes s) (past_of s run)
+join_refusals layout run s = join_refusal (past_of layout s run)
 
 -- the number of the node that joins a store next, and its start: the store's floor
 abbrev pub next_join : Layout → List Turn → ℕ → ℕ × ℕ
-next_join layout run s = (numbered (layout.nodes s) (past_of s run), floor (layout.nodes s) (past_of s run))
+next_join layout run s = (numbered (past_of layout s run), floor (past_of layout s run))
 
 -- a node joined one store, or the store refused it
 abbrev pub JoinsIn : Layout → RangesView → RangesView → ℕ → List Turn → Result (ℕ × ℕ) RangesFault → Type 0
@@ -191,7 +196,7 @@ HaveJoinedSome layout old new run fault made =
 pub record HasOpenedTo (layout : Layout) (kept : RangesView) (stamp : ℕ) (run : List Turn) (ids : List ℕ) (n : ℕ)
     : Type 0 where
   pub many : length ids ≡ n
-  pub assigned : (s : ℕ) → s < n → get_or ids s 0 ≡ next_id run s
+  pub assigned : (s : ℕ) → s < n → get_or ids s 0 ≡ next_id layout run s
   pub stepped : HaveStepped layout kept run (open_refusals layout run stamp) (λ _. Opened stamp) n
 
 -- a store refused to open it, and those before it have opened it
@@ -203,20 +208,20 @@ pub record HasOpenedSome (layout : Layout) (kept : RangesView) (stamp : ℕ) (ru
   pub why : IsStoreRefusal (open_refusals layout run stamp at) fault
 
 -- a snapshot with the id is open in the store
-abbrev pub IsOpenIn : List Turn → ℕ → ℕ → Type 0
-IsOpenIn run s id = (stamp : ℕ) × (stamp_of id (past_of s run) ≡ Some stamp)
+abbrev pub IsOpenIn : Layout → List Turn → ℕ → ℕ → Type 0
+IsOpenIn layout run s id = (stamp : ℕ) × (stamp_of id (past_of layout s run) ≡ Some stamp)
 
 -- a snapshot with each of the first ids is open in its store, the first store's first
-abbrev pub AreOpenUpto : List Turn → List ℕ → ℕ → Type 0
-AreOpenUpto run ids n = (s : ℕ) → s < n → IsOpenIn run s (get_or ids s 0)
+abbrev pub AreOpenUpto : Layout → List Turn → List ℕ → ℕ → Type 0
+AreOpenUpto layout run ids n = (s : ℕ) → s < n → IsOpenIn layout run s (get_or ids s 0)
 
 -- with each of these ids
-abbrev pub AreOpenTo : List Turn → List ℕ → Type 0
-AreOpenTo run ids = AreOpenUpto run ids (length ids)
+abbrev pub AreOpenTo : Layout → List Turn → List ℕ → Type 0
+AreOpenTo layout run ids = AreOpenUpto layout run ids (length ids)
 
 -- each store has a snapshot with its id open
 abbrev pub AreOpenIn : Layout → List Turn → List ℕ → Type 0
-AreOpenIn layout run ids = (length ids ≡ layout.stores) × AreOpenTo run ids
+AreOpenIn layout run ids = (length ids ≡ layout.stores) × AreOpenTo layout run ids
 
 -- each checkpoint is that of its store
 pub record AreCheckpoints (stores made : List StoreView) : Type 0 where

@@ -44,4 +44,4 @@ pub record ArePairsOf (layout : Layout) (run : List Turn) (stamp : ℕ) (from : 
   pub exact : (key value : List ℕ)
       → Contains pairs (record { key = key; value = value })
       ↔ (IsBetween from to key × (layout.store_of key < n)
-      × (answer (writes (past_of (layout.store_of key) run)) key stamp ≡ Some value))
+      × (answer (writes (past_of layout (layout.store_of key) run)) key stamp ≡ Some value))

@@ -1,5 +1,6 @@
 -- A machine that writes to several stores: one clock, and a node in each store.
-use Rattle.std.specs.Prelude.{◌≡◌, ℕ, ◌+◌, ◌<◌, ◌≤◌, List, [], ◌∷◌, ◌++◌, length, max, set, Option, Some, None, slice_get}
+use Rattle.std.specs.Prelude.{◌≡◌, ℕ, ◌+◌, ◌<◌, ◌≤◌, List, [], ◌∷◌, ◌++◌, length, max, set, Option, Some, None}
+use Rattle.std.specs.Prelude.{slice_get}
 use Rattle.std.specs.Prelude.{Ok, Err, false, ◌⊎◌}
 use Rattle.std.specs.Option.{option_map}
 use Rattle.hlc_rows.specs.declared.write.Write.{Write}

@@ -4,7 +4,7 @@ use Rattle.hlc_node.specs.declared.item.Body.{Body}
 use Rattle.hlc_node.specs.declared.item.Body.TheVariants.{Write, Batch, Report, Retire}
 use Rattle.hlc_node.specs.declared.item.Item.{Item}
 use Rattle.hlc_core.specs.Past.{Step, Took, Opened, Closed, item_refusal, open_refusal, opened, stamp_of}
-use Rattle.hlc_core.specs.StoreView.{StoreView, nodes, Represents as CoreRepresents}
+use Rattle.hlc_core.specs.StoreView.{StoreView, Represents as CoreRepresents}
 use Rattle.hlc_core.specs.Checkpoint.{floor_in}
 use Rattle.hlc_core.specs.Calls.{IsRefusal, IsWrite}
 use Rattle.hlc_ranges.specs.Run.{Layout, Turn, Stepped, past_of, IsLegal}
@@ -18,14 +18,13 @@ pub record RangesView : Type 0 where
   pub division : DivisionView
   pub stores : List StoreView
 
--- The stores represent the run: it is legal; each store represents its past, and had the layout's nodes at the start;
--- and the layout's store of each key is the division's.
+-- The stores represent the run: it is legal; each store represents its past, which starts with the layout's nodes; and
+-- the layout's store of each key is the division's.
 pub record Represents (layout : Layout) (kept : RangesView) (run : List Turn) : Type 0 where
   pub legal : IsLegal layout run
   pub many : length kept.stores ≡ layout.stores
-  pub nodes : (s : ℕ) (store : StoreView) → slice_get kept.stores s ≡ Some store → nodes store ≡ layout.nodes s
   pub pasts : (s : ℕ) (store : StoreView) → slice_get kept.stores s ≡ Some store
-      → CoreRepresents store (past_of s run)
+      → CoreRepresents store (past_of layout s run)
   pub routed : (key : List ℕ) → layout.store_of key ≡ store_of kept.division key
 
 -- the stamp is the floor of one of these stores
@@ -52,30 +51,30 @@ IsRefusedFor kept s item WrongStore = (s < length kept.stores) × (IsOfStore kep
 IsRefusedFor kept s item (Store fault) =
     (s < length kept.stores) × IsOfStore kept.division s item.body
     × ((store : StoreView) (past : List Step) → slice_get kept.stores s ≡ Some store → CoreRepresents store past
-    → IsRefusal (item_refusal (nodes store) past item) (IsWrite item.body) fault)
+    → IsRefusal (item_refusal past item) (IsWrite item.body) fault)
 
 -- the store took the item, whoever issued it, and the others stay
 pub record HasTaken (old new : RangesView) (s : ℕ) (item : Item) : Type 0 where
   pub took : (store made : StoreView) (past : List Step) → slice_get old.stores s ≡ Some store
       → slice_get new.stores s ≡ Some made → CoreRepresents store past
-      → (item_refusal (nodes store) past item ≡ None) × CoreRepresents made (Took item ∷ past)
+      → (item_refusal past item ≡ None) × CoreRepresents made (Took item ∷ past)
   pub others : (other : ℕ) → other ≢ s → slice_get new.stores other ≡ slice_get old.stores other
 
 -- a snapshot of one store was opened, with an id one above the number of those opened there before, or refused
 abbrev pub OpensIn : Layout → RangesView → RangesView → ℕ → ℕ → List Turn → Result ℕ RangesFault → Type 0
 OpensIn layout old new s stamp run (Ok id) =
-    (open_refusal (layout.nodes s) (past_of s run) stamp ≡ None) × (id ≡ opened (past_of s run) + 1)
+    (open_refusal (past_of layout s run) stamp ≡ None) × (id ≡ opened (past_of layout s run) + 1)
     × Represents layout new (Stepped s (Opened stamp) ∷ run)
 OpensIn layout old new s stamp run (Err NoStore) = length old.stores ≤ s
 OpensIn layout old new s stamp run (Err WrongStore) = ⊥
 OpensIn layout old new s stamp run (Err (Store fault)) =
-    (s < length old.stores) × IsRefusal (open_refusal (layout.nodes s) (past_of s run) stamp) ⊤ fault
+    (s < length old.stores) × IsRefusal (open_refusal (past_of layout s run) stamp) ⊤ fault
 
 -- the snapshot of one store was closed, and this was its stamp; or there was none with this id
 abbrev pub ClosesIn : Layout → RangesView → RangesView → ℕ → ℕ → List Turn → Result ℕ RangesFault → Type 0
 ClosesIn layout old new s id run (Ok stamp) =
-    (stamp_of id (past_of s run) ≡ Some stamp) × Represents layout new (Stepped s (Closed id) ∷ run)
+    (stamp_of id (past_of layout s run) ≡ Some stamp) × Represents layout new (Stepped s (Closed id) ∷ run)
 ClosesIn layout old new s id run (Err NoStore) = length old.stores ≤ s
 ClosesIn layout old new s id run (Err WrongStore) = ⊥
 ClosesIn layout old new s id run (Err (Store fault)) =
-    (s < length old.stores) × (stamp_of id (past_of s run) ≡ None) × (fault ≡ NoSnapshot)
+    (s < length old.stores) × (stamp_of id (past_of layout s run) ≡ None) × (fault ≡ NoSnapshot)

@@ -69,7 +69,7 @@ impl Ranges {
     pub fn close_all(&mut self, snapshot: &RangesSnapshot) -> Result<(), NoSnapshot>
         ensures represents { (layout : Layout) (run : List Turn) → Represents layout self.old run
             → Represents layout self.new
-            (each_closed snapshot.now.ids (length snapshot.now.ids) run) }
+            (each_closed layout snapshot.now.ids (length snapshot.now.ids) run) }
         ensures ok { (layout : Layout) (run : List Turn) → Represents layout self.old run
             → OnOk result (AreOpenIn layout run snapshot.now.ids) }
         ensures err { (layout : Layout) (run : List Turn) → Represents layout self.old run
@@ -99,11 +99,11 @@ impl Ranges {
             → IsOpenAll layout snapshot.now run → IsOkAnd result
             (λ value. option_copied value ≡ answer (issued_writes run) key.now snapshot.now.stamp) }
         ensures ok { (layout : Layout) (run : List Turn) → Represents layout self.now run → IfOk result (λ value.
-            IsOpenAt snapshot.now run (store_of self.now.division key.now)
+            IsOpenAt layout snapshot.now run (store_of self.now.division key.now)
             × (option_copied value ≡ answer
-            (writes (past_of (store_of self.now.division key.now) run)) key.now snapshot.now.stamp)) }
+            (writes (past_of layout (store_of self.now.division key.now) run)) key.now snapshot.now.stamp)) }
         ensures err { (layout : Layout) (run : List Turn) → Represents layout self.now run
-            → OnErr result (IsOpenAt snapshot.now run (store_of self.now.division key.now) → ⊥) }
+            → OnErr result (IsOpenAt layout snapshot.now run (store_of self.now.division key.now) → ⊥) }
     {
         let store = self.store_of(key);
         let Some(id) = self.id_in(snapshot, store) else {
@@ -112,7 +112,8 @@ impl Ranges {
         self.read(id, key)
     }
 
-    /// Vacuums all stores to a stamp, as `Core::vacuum_to` does, and returns the reports, that of the first store first.
+    /// Vacuums all stores to a stamp, as `Core::vacuum_to` does, and returns the reports, that of the first store
+    /// first.
     ///
     /// Refused: out of memory for the list, first of all; or by the first store that refuses. Then those before it are
     /// vacuumed: the call may be repeated.
@@ -199,9 +200,9 @@ impl Ranges {
     /// all were.
     fn close_each(&mut self, ids: &[u64]) -> bool
         ensures represents { (layout : Layout) (run : List Turn) → Represents layout self.old run
-            → Represents layout self.new (each_closed ids.now (length ids.now) run) }
+            → Represents layout self.new (each_closed layout ids.now (length ids.now) run) }
         ensures open { (layout : Layout) (run : List Turn) → Represents layout self.old run
-            → IsTrue result ↔ AreOpenTo run ids.now }
+            → IsTrue result ↔ AreOpenTo layout run ids.now }
         ensures division { self.new.division ≡ self.old.division }
     {
         let mut open = true;
@@ -216,9 +217,9 @@ impl Ranges {
     /// Closes the snapshot of one store with this id, if it is open there, and returns whether it was.
     fn close_open(&mut self, store: usize, id: u64) -> bool
         ensures represents { (layout : Layout) (run : List Turn) → Represents layout self.old run
-            → Represents layout self.new (closed_at (stamp_of id (past_of store run)) store id run) }
+            → Represents layout self.new (closed_at (stamp_of id (past_of layout store run)) store id run) }
         ensures open { (layout : Layout) (run : List Turn) → Represents layout self.old run
-            → IsTrue result ↔ IsOpenIn run store id }
+            → IsTrue result ↔ IsOpenIn layout run store id }
         ensures division { self.new.division ≡ self.old.division }
     {
         self.close(store, id).is_ok()

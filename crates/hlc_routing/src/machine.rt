@@ -320,7 +320,7 @@ impl Machine {
     pub fn send(&mut self, reading: u64) -> Result<Stamp, ClockFault>
         ensures expected { result ≡ expected_stamp (self.old.last ∷ []) reading }
         ensures ok { IfOk result (λ stamp. self.new ≡ record self.old { last = stamp }) }
-        ensures err { OnErr result (self.new ≡ self.old) }
+        ensures unchanged { OnErr result (self.new ≡ self.old) }
         ensures extends { (layout : Layout) (run : List Turn) (m : ℕ) → IsLegal layout run
             → IsMachineOf layout run m self.old
             → IfOk result (λ stamp. GoesOn layout (Sent m stamp) run m self.new) }
@@ -334,7 +334,7 @@ impl Machine {
     pub fn receive(&mut self, seen: Stamp, reading: u64) -> Result<Stamp, ClockFault>
         ensures expected { result ≡ expected_stamp (self.old.last ∷ seen ∷ []) reading }
         ensures ok { IfOk result (λ stamp. self.new ≡ record self.old { last = stamp }) }
-        ensures err { OnErr result (self.new ≡ self.old) }
+        ensures unchanged { OnErr result (self.new ≡ self.old) }
         ensures extends { (layout : Layout) (run : List Turn) (m sender message : ℕ)
             → IsLegal layout run → IsMachineOf layout run m self.old
             → turn_at run message ≡ Some (Sent sender seen)
@@ -350,10 +350,10 @@ impl Machine {
     pub fn observe(&mut self, seen: Stamp, reading: u64) -> Result<Stamp, ClockFault>
         ensures expected { result ≡ expected_stamp (self.old.last ∷ seen ∷ []) reading }
         ensures ok { IfOk result (λ stamp. self.new ≡ record self.old { last = stamp }) }
-        ensures err { OnErr result (self.new ≡ self.old) }
+        ensures unchanged { OnErr result (self.new ≡ self.old) }
         ensures extends { (layout : Layout) (run : List Turn) (m s : ℕ) → IsLegal layout run
             → IsMachineOf layout run m self.old → s < layout.stores
-            → seen ≤ floor (layout.nodes s) (past_of s run)
+            → seen ≤ floor (past_of layout s run)
             → IfOk result (λ stamp. GoesOn layout (Observed m s seen stamp) run m self.new) }
     {
         self.clock.receive(seen, reading)

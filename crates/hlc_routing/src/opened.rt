@@ -28,7 +28,7 @@ impl Ranges {
     /// Returns the id of a snapshot in a store, or none if it is not open there at its stamp.
     pub(crate) fn id_in(&self, snapshot: &RangesSnapshot, store: usize) -> Option<u64>
         ensures { (layout : Layout) (run : List Turn) → Represents layout self.now run
-            → MatchOption result (IsOpenAt snapshot.now run store → ⊥) (IsIdAt snapshot.now run store) }
+            → MatchOption result (IsOpenAt layout snapshot.now run store → ⊥) (IsIdAt layout snapshot.now run store) }
     {
         let Some(id) = snapshot.ids().get(store) else {
             return None;

@@ -211,12 +211,12 @@ impl Ranges {
     /// Refused if the key's store has no such snapshot open.
     pub fn read(&self, id: u64, key: &[u8]) -> Result<Option<&[u8]>, NoSnapshot>
         ensures represents { (layout : Layout) (run : List Turn) → Represents layout self.now run
-            → MatchOption (stamp_of id (past_of (store_of self.now.division key.now) run)) (IsErr result)
+            → MatchOption (stamp_of id (past_of layout (store_of self.now.division key.now) run)) (IsErr result)
             (λ stamp. IsOkAnd result (λ value. option_copied value
-            ≡ answer (writes (past_of (store_of self.now.division key.now) run)) key.now stamp)) }
+            ≡ answer (writes (past_of layout (store_of self.now.division key.now) run)) key.now stamp)) }
         ensures newest { (layout : Layout) (run : List Turn) (stamp : ℕ) → Represents layout self.now run
             → IsCut layout run stamp
-            → stamp_of id (past_of (store_of self.now.division key.now) run) ≡ Some stamp
+            → stamp_of id (past_of layout (store_of self.now.division key.now) run) ≡ Some stamp
             → IsOkAnd result (λ value. option_copied value ≡ answer (issued_writes run) key.now stamp) }
     {
         // The law of every cut, for the contract alone.

@@ -1,7 +1,8 @@
 -- Writes of different keys, found by the marks of their keys.
 use Rattle.std.proofs.Common.{◌≡◌, ◌≢◌, ◌∙◌, ◌⊎◌, ℕ, zero, suc, ◌+◌, ◌-◌, ◌<◌, List, [], ◌∷◌, ◌++◌, length}
 use Rattle.std.proofs.Common.{take, set, get_or}
-use Rattle.std.proofs.Common.{Bool, true, false, Option, None, Some, ◌||◌, bytes_eq, refl, sym, ap, subst, inl, inr, arith, length-append}
+use Rattle.std.proofs.Common.{Bool, true, false, Option, None, Some, ◌||◌, bytes_eq, refl, sym, ap, subst, inl, inr}
+use Rattle.std.proofs.Common.{arith, length-append}
 use Rattle.std.proofs.lemmas.Bool.{cases_Bool, or_parts, false≢true}
 use Rattle.std.proofs.lemmas.List.{append_assoc, append-nil, take_at, get_or-set_same, get_or-set_other, length-set}
 use Rattle.std.proofs.lemmas.Bool.{cases_eq}

@@ -98,7 +98,8 @@ pub rows_made : (old new : Saver) (word : ℕ) (kept : StoreView) (read : List �
     → AreNext kept.rows old.last.items most columns → HasColumns columns [] new.made.items
     → ((front body : List ℕ) → HasPut old.frame front body → HasPut new.frame front (body ++ new.made.items))
     → HasMade old word kept read → HasMade new word kept read
-rows_made old new word kept read most [] all' more mark whole last at some next made put has = absurd (omega (arith, some))
+rows_made old new word kept read most [] all' more mark whole last at some next made put has =
+    absurd (omega (arith, some))
 rows_made old new word kept read most (one ∷ others) all' more mark whole last at some next (rows, listed, is) put has =
     let fm : List ℕ = flat_map row_bytes rows in
     let follow = rows_follow kept.rows old.last.items most one others next has.rows rows

@@ -87,7 +87,8 @@ pub stays_wrong : (stage : Stage) (bytes : List ℕ) (fault : WireFault) (read :
 stays_wrong stages.Start bytes fault read fails not has = λ more.
     sym (not_begun (bytes ++ more) fault (preamble_steady.wrong bytes more fault fails not)) ∙ has more
 stays_wrong (stages.Rows growing left) bytes fault read fails not has = λ more.
-    sym (rows_fail has.0 left (bytes ++ more) fault fails.0 (row_steady.wrong bytes more fault fails.1 not)) ∙ has.2 more
+    sym (rows_fail has.0 left (bytes ++ more) fault fails.0 (row_steady.wrong bytes more fault fails.1 not))
+    ∙ has.2 more
 stays_wrong (stages.Wrong wrong) bytes fault read fails not has = absurd fails
 
 -- with Short, nothing more is read

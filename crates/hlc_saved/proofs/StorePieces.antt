@@ -178,7 +178,8 @@ sorted_whole word kept rows store fits moved ascend =
     ap₂ (λ (f : List ℕ) (p : Preamble). f ++ preamble_bytes p) front same in
     let end : end_bytes word kept rows ≡ end_bytes word made rows =
     ap₂ (λ (f : List ℕ) (p : Preamble). sha256 (f ++ (preamble_bytes p ++ flat_map row_bytes rows))) front same in
-    let spelled : (begin_bytes word kept ++ flat_map row_bytes rows) ++ end_bytes word kept rows ≡ saved_bytes word made =
+    let spelled : (begin_bytes word kept ++ flat_map row_bytes rows) ++ end_bytes word kept rows
+    ≡ saved_bytes word made =
     ap₂ (λ (l m : List ℕ). (l ++ flat_map row_bytes rows) ++ m) begin end ∙ pieces word made in
     let fit : SavedFits word made = record {
       frame = record {

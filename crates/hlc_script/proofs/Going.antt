@@ -12,7 +12,7 @@ use Rattle.hlc_text.specs.Text.{printed}
 use Rattle.hlc_text.specs.Lines.{lines_of, bad_line}
 use Rattle.hlc_world.specs.Schedule.{Event}
 use Rattle.hlc_world.specs.declared.reply.Reply.{Reply}
-use Rattle.hlc_world.specs.WorldView.{WorldView, world_nodes, Represents}
+use Rattle.hlc_world.specs.WorldView.{WorldView, Represents}
 use Rattle.hlc_script.specs.Line.{event_line, HasLine, HasHeader, header_line}
 use Rattle.hlc_script.specs.Reply.{reply_text}
 use Rattle.hlc_script.specs.Run.{AnswersLine, Answers, AnswersScript}
@@ -22,13 +22,13 @@ pub record Going {W : Type 0} (contents : W → Option (List ℕ)) (nodes : ℕ)
     (number : ℕ) (old new : Printer W) : Type 0 where
   pub schedule : List (Event × Reply)
   pub so_far : List ℕ
-  pub represents : Represents world schedule
+  pub represents : Represents nodes world schedule
   pub wrote : Prints contents old new so_far
   pub completes : (output : List ℕ) (bad : Option ℕ) → Answers nodes schedule number (lines_of rest) output bad
       → Answers nodes [] 2 (lines_of text) (so_far ++ output) bad
 
 pub going_first : {W : Type 0} {contents : W → Option (List ℕ)} {nodes : ℕ} {world : WorldView} {text : List ℕ}
-    {old : Printer W} → Represents world [] → Going contents nodes world text text 2 old old
+    {old : Printer W} → Represents nodes world [] → Going contents nodes world text text 2 old old
 going_first represents =
     record {
       schedule = [];
@@ -42,14 +42,14 @@ going_first represents =
 pub going_more : {W : Type 0} {contents : W → Option (List ℕ)} {nodes : ℕ} {world world_after : WorldView}
     {text rest : List ℕ} (after : List ℕ) {line : List ℕ} {number : ℕ} {old mid new : Printer W} {event : Event}
     {reply : Reply} → Going contents nodes world text rest number old mid → lines_of rest ≡ line ∷ lines_of after
-    → HasLine event → line ≡ event_line event → world_nodes world ≡ nodes
-    → ((s : List (Event × Reply)) → Represents world s → (t : List (Event × Reply))
-    × AnswersLine (world_nodes world) s event reply t × Represents world_after t)
+    → HasLine event → line ≡ event_line event
+    → ((n : ℕ) (s : List (Event × Reply)) → Represents n world s → (t : List (Event × Reply))
+    × AnswersLine n s event reply t × Represents n world_after t)
     → Prints contents mid new (reply_text reply)
     → Going contents nodes world_after text after (number + 1) old new
 going_more {W} {contents} {nodes} {world} {world_after} {text} {rest} after {line} {number} {old} {mid} {new} {event}
-    {reply} going first has spelled same answered wrote =
-    let next = answered going.schedule going.represents in
+    {reply} going first has spelled answered wrote =
+    let next = answered nodes going.schedule going.represents in
     record {
       schedule = next.0;
       so_far = going.so_far ++ reply_text reply;
@@ -68,7 +68,7 @@ going_more {W} {contents} {nodes} {world} {world_after} {text} {rest} after {lin
             output,
             has,
             spelled,
-            subst (λ (n : ℕ). AnswersLine n going.schedule event reply next.0) same next.1,
+            next.1,
             refl,
             answers,
           ))));
@@ -104,24 +104,13 @@ going_end (x ∷ rest) going none = absurd (omega (arith, none))
 
 -- a header and the answers after it
 pub script_answered : {W : Type 0} {contents : W → Option (List ℕ)} {old mid new : Printer W} (input : List ℕ)
-    (rest : List ℕ) (nodes made : ℕ) (bad : Option ℕ) → length input ≤ 16777216
-    → lines_of input ≡ header_line nodes ∷ lines_of rest → HasHeader nodes → made ≡ nodes
+    (rest : List ℕ) (nodes : ℕ) (bad : Option ℕ) → length input ≤ 16777216
+    → lines_of input ≡ header_line nodes ∷ lines_of rest → HasHeader nodes
     → Prints contents old mid (printed (header_line nodes)) → (output : List ℕ)
-    × Answers made [] 2 (lines_of rest) output bad × Prints contents mid new output → (output : List ℕ)
+    × Answers nodes [] 2 (lines_of rest) output bad × Prints contents mid new output → (output : List ℕ)
     × ((length input ≤ 16777216) × AnswersScript input output bad) × Prints contents old new output
-script_answered input rest nodes made bad fits first has same wrote (output, answers, more) = (
+script_answered input rest nodes bad fits first has wrote (output, answers, more) = (
   printed (header_line nodes) ++ output,
-  (
-    fits,
-    (
-      nodes,
-      lines_of rest,
-      output,
-      has,
-      first,
-      refl,
-      subst (λ (n : ℕ). Answers n [] 2 (lines_of rest) output bad) same answers,
-    ),
-  ),
+  (fits, (nodes, lines_of rest, output, has, first, refl, answers)),
   printed_then wrote more,
 )

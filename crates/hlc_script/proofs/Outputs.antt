@@ -75,11 +75,11 @@ same_listing : (o : Option ℕ) (rows : List Row) (pairs pairs2 : List Pair) →
 same_listing None rows pairs pairs2 expected also = absurd expected
 same_listing (Some stamp) rows pairs pairs2 expected also = one-listing rows stamp pairs pairs2 expected also
 
-same_acceptance : (nodes node : ℕ) (past : List Step) (o : Option Item) (stamp stamp2 : ℕ)
-    → IsExpectedOfStore nodes past (paired (accepted node stamp o) (accepting o))
-    → IsExpectedOfStore nodes past (paired (accepted node stamp2 o) (accepting o)) → stamp ≡ stamp2
-same_acceptance nodes node past None stamp stamp2 expected also = absurd expected
-same_acceptance nodes node past (Some item) stamp stamp2 expected also = ap (λ x. x.stamp) (expected ∙ sym also)
+same_acceptance : (node : ℕ) (past : List Step) (o : Option Item) (stamp stamp2 : ℕ)
+    → IsExpectedOfStore past (paired (accepted node stamp o) (accepting o))
+    → IsExpectedOfStore past (paired (accepted node stamp2 o) (accepting o)) → stamp ≡ stamp2
+same_acceptance node past None stamp stamp2 expected also = absurd expected
+same_acceptance node past (Some item) stamp stamp2 expected also = ap (λ x. x.stamp) (expected ∙ sym also)
 
 -- where nothing is refused, only one reply is expected
 expected_once : (nodes : ℕ) (schedule : List (Event × Reply)) (event : Event) (reply other : Reply)
@@ -111,7 +111,7 @@ expected_once nodes schedule (Receive node reading message) (Received stamp) (Re
 expected_once nodes schedule (Receive node reading message) (Received stamp) other expected also = absurd also
 expected_once nodes schedule (Deliver node number) (Accepted stamp) (Accepted stamp2) expected also =
     ap Accepted
-    (same_acceptance nodes node (core_past schedule) (item_at node number schedule) stamp stamp2 expected also)
+    (same_acceptance node (core_past nodes schedule) (item_at node number schedule) stamp stamp2 expected also)
 expected_once nodes schedule (Deliver node number) (Accepted stamp) other expected also = absurd also
 expected_once nodes schedule (Observe node reading id) (Observed stamp) (Observed stamp2) expected also =
     ap Observed (same_observation _ _ reading stamp stamp2 expected also)
@@ -137,11 +137,11 @@ expected_once nodes schedule (Close id) (Closed stamp) other expected also = abs
 expected_once nodes schedule Floor (FloorIs stamp) (FloorIs stamp2) expected also = ap FloorIs (expected ∙ sym also)
 expected_once nodes schedule Floor (FloorIs stamp) other expected also = absurd also
 expected_once nodes schedule Vacuum (Vacuumed report) (Vacuumed report2) expected also =
-    ap Vacuumed (there_is_one_report (floor nodes (core_past schedule)) (core_past schedule) report report2 expected
-    also)
+    ap Vacuumed
+    (there_is_one_report (floor (core_past nodes schedule)) (core_past nodes schedule) report report2 expected also)
 expected_once nodes schedule Vacuum (Vacuumed report) other expected also = absurd also
 expected_once nodes schedule Rows (RowsAre count) (RowsAre count2) expected also =
-    ap RowsAre (there_is_one_count (core_past schedule) count count2 expected also)
+    ap RowsAre (there_is_one_count (core_past nodes schedule) count count2 expected also)
 expected_once nodes schedule Rows (RowsAre count) other expected also = absurd also
 expected_once nodes schedule _ _ _ expected also = absurd expected
 

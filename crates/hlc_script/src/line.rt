@@ -21,6 +21,7 @@ pub fn read_line(line: &[u8]) -> Option<Event<Spelled<'_>>>
 }
 
 /// Returns the event with copies of its key and its value. Other events take no memory.
+#[inline(always)]
 pub fn owned_event(alloc: Global, event: Event<Spelled<'_>>) -> Result<Event, NoMemory>
     ensures ok { IfOk result (λ owned. owned ≡ event.entry) }
     ensures err { OnErr result (BearsBytes event.entry) }
@@ -67,6 +68,7 @@ pub fn owned_event(alloc: Global, event: Event<Spelled<'_>>) -> Result<Event, No
 }
 
 /// Returns the write with copies of its key and its value.
+#[inline(always)]
 fn owned_write(
     alloc: Global,
     node: u16,
@@ -86,7 +88,7 @@ fn owned_write(
 
 /// Returns a copy of the bytes. Up to 30 bytes that are their own spelling take no memory.
 #[inline(always)]
-pub(crate) fn owned(alloc: Global, spelled: &Spelled<'_>) -> Result<Bytes, NoMemory>
+fn owned(alloc: Global, spelled: &Spelled<'_>) -> Result<Bytes, NoMemory>
     ensures { IfOk result (λ owned. owned ≡ spelled.now) }
 {
     match spelled.as_word() {

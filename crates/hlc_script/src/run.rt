@@ -7,12 +7,12 @@ ghost use Rattle.hlc_text.specs.Watched.{has_failed};
 ghost use Rattle.hlc_text.specs.Printing.{Prints};
 ghost use Rattle.hlc_world.specs.Schedule.{Event as AnEvent};
 ghost use Rattle.hlc_world.specs.declared.reply.Reply.{Reply as AReply};
-ghost use Rattle.hlc_world.specs.WorldView.{Represents, world_nodes};
+ghost use Rattle.hlc_world.specs.WorldView.{Represents};
 ghost use Rattle.hlc_script.specs.Line.{header_line, header_words, HasHeader};
 ghost use Rattle.hlc_script.specs.Reply.{reply_text};
 ghost use Rattle.hlc_script.specs.Run.{Answers, AnswersLine, MayWrite, IsOfLoaded, ReadsScript, RunsScript, status_of};
 
-use crate::line::{owned, owned_event, read_line};
+use crate::line::{owned_event, read_line};
 use crate::reply::{put_reply, put_value_line};
 use hlc_text::bytes::Spelled;
 use hlc_text::input::{InputFault, first_line, put_fault, read_input};
@@ -174,10 +174,9 @@ fn answer_lines<W: Write>(
     text: &[u8],
     printer: &mut Printer<'_, W>,
 ) -> Option<u64>
-    requires fits { length text.now ≤ INPUT_LIMIT }
-    requires fresh { Represents world.old [] }
-    ensures { (output : List ℕ)
-        × Answers (world_nodes world.old) [] 2 (lines_of text.now) output result
+    requires { length text.now ≤ INPUT_LIMIT }
+    ensures { (nodes : ℕ) → Represents nodes world.old [] → (output : List ℕ)
+        × Answers nodes [] 2 (lines_of text.now) output result
         × Prints W.contents printer.old printer.new output }
 {
     let mut rest = text;
@@ -195,7 +194,8 @@ fn answer_lines<W: Write>(
     None
 }
 
-/// Prints the answer to a good line. Events that have no bytes are passed to the world directly.
+/// Prints the answer to a good line. The key of a read is looked up as a part of the line, if possible, and its value is
+/// printed without a copy.
 #[inline(always)]
 fn answer_line<W: Write>(
     alloc: Global,
@@ -203,92 +203,12 @@ fn answer_line<W: Write>(
     event: Event<Spelled<'_>>,
     printer: &mut Printer<'_, W>,
 )
-    ensures nodes { world_nodes world.new ≡ world_nodes world.old }
-    ensures answers { (reply : AReply)
-        × ((schedule : List (AnEvent × AReply)) → Represents world.old schedule
+    ensures { (reply : AReply)
+        × ((nodes : ℕ) (schedule : List (AnEvent × AReply)) → Represents nodes world.old schedule
         → (after : List (AnEvent × AReply))
-        × AnswersLine (world_nodes world.old) schedule event.entry reply after
-        × Represents world.new after)
+        × AnswersLine nodes schedule event.entry reply after × Represents nodes world.new after)
         × Prints W.contents printer.old printer.new (reply_text reply) }
 {
-    match &event {
-        Event::Report { node, reading } => {
-            let reply = world.report(*node, *reading);
-            put_reply(printer, reply);
-        }
-        Event::Send { node, reading } => {
-            let reply = world.send(*node, *reading);
-            put_reply(printer, reply);
-        }
-        Event::Receive {
-            node,
-            reading,
-            message,
-        } => {
-            let reply = world.receive(*node, *reading, *message);
-            put_reply(printer, reply);
-        }
-        Event::Deliver { node, number } => {
-            let reply = world.deliver(*node, *number);
-            put_reply(printer, reply);
-        }
-        _ => answer_other(alloc, world, event, printer),
-    }
-}
-
-/// Returns the answer to a write: the reply of the world, or out of memory where there is none for its bytes.
-#[inline(always)]
-fn reply_to_write(
-    alloc: Global,
-    world: &mut World,
-    node: u16,
-    reading: u64,
-    key: &Spelled<'_>,
-    value: &Spelled<'_>,
-) -> Reply
-    ensures nodes { world_nodes world.new ≡ world_nodes world.old }
-    ensures answers { (schedule : List (AnEvent × AReply)) → Represents world.old schedule
-        → (after : List (AnEvent × AReply))
-        × AnswersLine (world_nodes world.old) schedule (Event.Write node reading key.now value.now)
-        result after
-        × Represents world.new after }
-{
-    let Ok(key) = owned(alloc, key) else {
-        return Reply::Refused(Refusal::NoMemory);
-    };
-    let Ok(value) = owned(alloc, value) else {
-        return Reply::Refused(Refusal::NoMemory);
-    };
-    world.write(node, reading, key, value)
-}
-
-/// Prints the answer to a good line, whatever its event. The key of a read is looked up as a part of the line, if
-/// possible, and its value is printed without a copy.
-fn answer_other<W: Write>(
-    alloc: Global,
-    world: &mut World,
-    event: Event<Spelled<'_>>,
-    printer: &mut Printer<'_, W>,
-)
-    ensures nodes { world_nodes world.new ≡ world_nodes world.old }
-    ensures answers { (reply : AReply)
-        × ((schedule : List (AnEvent × AReply)) → Represents world.old schedule
-        → (after : List (AnEvent × AReply))
-        × AnswersLine (world_nodes world.old) schedule event.entry reply after
-        × Represents world.new after)
-        × Prints W.contents printer.old printer.new (reply_text reply) }
-{
-    if let Event::Write {
-        node,
-        reading,
-        key,
-        value,
-    } = &event
-    {
-        let reply = reply_to_write(alloc, world, *node, *reading, key, value);
-        put_reply(printer, reply);
-        return;
-    }
     if let Event::Read { id, key } = &event {
         if let Some(word) = key.as_word() {
             answer_read(world, *id, word, printer);
@@ -302,8 +222,8 @@ fn answer_other<W: Write>(
 /// Prints the answer to a read.
 fn answer_read<W: Write>(world: &World, id: u64, key: &[u8], printer: &mut Printer<'_, W>)
     ensures { (reply : AReply)
-        × ((schedule : List (AnEvent × AReply)) → Represents world.now schedule
-        → Represents world.now ((Event.Read id key.now, reply) ∷ schedule))
+        × ((nodes : ℕ) (schedule : List (AnEvent × AReply)) → Represents nodes world.now schedule
+        → Represents nodes world.now ((Event.Read id key.now, reply) ∷ schedule))
         × Prints W.contents printer.old printer.new (reply_text reply) }
 {
     match world.look(id, key) {
@@ -316,11 +236,9 @@ fn answer_read<W: Write>(world: &World, id: u64, key: &[u8], printer: &mut Print
 /// event's bytes.
 #[inline(always)]
 fn reply_to(alloc: Global, world: &mut World, event: Event<Spelled<'_>>) -> Reply
-    ensures nodes { world_nodes world.new ≡ world_nodes world.old }
-    ensures answers { (schedule : List (AnEvent × AReply)) → Represents world.old schedule
+    ensures { (nodes : ℕ) (schedule : List (AnEvent × AReply)) → Represents nodes world.old schedule
         → (after : List (AnEvent × AReply))
-        × AnswersLine (world_nodes world.old) schedule event.entry result after
-        × Represents world.new after }
+        × AnswersLine nodes schedule event.entry result after × Represents nodes world.new after }
 {
     match owned_event(alloc, event) {
         Ok(event) => world.step(event),

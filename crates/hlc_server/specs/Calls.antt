@@ -4,7 +4,7 @@ use Rattle.std.specs.Option.{ForSome}
 use Rattle.hlc_events.specs.declared.event.CoreEvent.{CoreEvent}
 use Rattle.hlc_core.specs.declared.reply.CoreReply.{CoreReply}
 use Rattle.std.specs.declared.alloc.AllocError.{AllocError}
-use Rattle.hlc_core.specs.StoreView.{StoreView, nodes}
+use Rattle.hlc_core.specs.StoreView.{StoreView}
 use Rattle.hlc_core.specs.History.{RepresentsHistory, IsStep, IsExpected, IsReplyTo, past_of}
 use Rattle.hlc_server.specs.declared.entry.Entry.{Entry}
 use Rattle.hlc_server.specs.declared.entry.Receipt.{Receipt}
@@ -43,9 +43,9 @@ pub record IsOneLockedCall (old new : GuardedView) (event : CoreEvent) (receipt 
   pub calls : new.calls ≡ old.calls + 1
   pub trail : new.trail ≡ with_entry old.trail (entry receipt.caller receipt.event receipt.reply)
   pub expected : ForSome old.trail
-      (λ trail. IsExpected (nodes old.core) (past_of (history_of trail)) event receipt.reply)
-  pub step : (history : List (CoreEvent × CoreReply)) → RepresentsHistory old.core history
-      → IsStep old.core new.core event history receipt.reply
+      (λ trail. IsExpected (past_of old.core.start (history_of trail)) event receipt.reply)
+  pub step : (nodes : ℕ) (history : List (CoreEvent × CoreReply)) → RepresentsHistory nodes old.core history
+      → IsStep nodes old.core new.core event history receipt.reply
 
 -- where it is not made, nothing changed; no number is left exactly where the book is full, otherwise it ran out of
 -- memory
@@ -62,8 +62,8 @@ IsLockedCall old new event returned = MatchResult returned (λ receipt. IsOneLoc
 -- expected and the core represents the history with it.
 pub record IsReplied (old new : StoreView) (event : CoreEvent) (reply : CoreReply) : Type 0 where
   pub form : IsReplyTo event reply
-  pub step : (history : List (CoreEvent × CoreReply)) → RepresentsHistory old history
-      → IsStep old new event history reply
+  pub step : (nodes : ℕ) (history : List (CoreEvent × CoreReply)) → RepresentsHistory nodes old history
+      → IsStep nodes old new event history reply
 
 -- A call of the core was made and entered: the trail has one entry more where there is one.
 pub record IsEntered (old new : StoreView) (before after : Option (List Entry)) (caller : ℕ) (event : CoreEvent)

@@ -2,8 +2,7 @@
 use Rattle.std.specs.Prelude.{◌≡◌, ℕ, ◌+◌, ◌<◌, ◌⊎◌, List, [], ◌∷◌, ◌++◌, length, map, filter, ◌==◌, take, slice_get}
 use Rattle.std.specs.Prelude.{Option, Some, None, Result, Ok, Err, ⊤}
 use Rattle.std.specs.declared.vec.Vec.{Vec}
-use Rattle.hlc_core.specs.StoreView.{nodes}
-use Rattle.hlc_core.specs.History.{IsLegalHistory, RepresentsHistory}
+use Rattle.hlc_core.specs.History.{RepresentsHistory}
 use Rattle.hlc_core.specs.Headline.{IsFaithful}
 use Rattle.hlc_server.specs.declared.entry.Entry.{Entry}
 use Rattle.hlc_server.specs.declared.entry.Receipt.{Receipt}
@@ -96,9 +95,8 @@ pub record Settles (lock : GuardedView) (claims : List Claim) (settled : Settled
   pub kept : lock.trail ≡ Some trail
   pub all : IsSettled trail claims
   pub returned : EachIsClaimed trail claims
-  pub legal : IsLegalHistory (nodes settled.core) (history_of trail)
-  pub represents : RepresentsHistory settled.core (history_of trail)
-  pub faithful : IsFaithful (nodes settled.core) (history_of trail) settled.core.rows
+  pub represents : RepresentsHistory settled.core.start settled.core (history_of trail)
+  pub faithful : IsFaithful settled.core.start (history_of trail) settled.core.rows
   pub core : settled.core ≡ lock.core
   pub entries : settled.entries ≡ length trail
 

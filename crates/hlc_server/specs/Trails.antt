@@ -3,8 +3,8 @@ use Rattle.std.specs.Prelude.{◌≡◌, ℕ, List, [], ◌∷◌, ◌++◌, len
 use Rattle.std.specs.Option.{option_map}
 use Rattle.hlc_events.specs.declared.event.CoreEvent.{CoreEvent}
 use Rattle.hlc_core.specs.declared.reply.CoreReply.{CoreReply}
-use Rattle.hlc_core.specs.StoreView.{StoreView, nodes}
-use Rattle.hlc_core.specs.History.{IsLegalHistory, RepresentsHistory}
+use Rattle.hlc_core.specs.StoreView.{StoreView}
+use Rattle.hlc_core.specs.History.{RepresentsHistory}
 use Rattle.hlc_server.specs.declared.entry.Entry.{Entry}
 use Rattle.hlc_server.specs.declared.trail.Trail.{Trail}
 
@@ -29,14 +29,13 @@ history_of trail = history_after [] trail
 
 -- the trail is a legal history, the core represents it, and its length is the number of calls
 pub record IsAudited (core : StoreView) (trail : List Entry) (calls : ℕ) : Type 0 where
-  pub legal : IsLegalHistory (nodes core) (history_of trail)
-  pub represents : RepresentsHistory core (history_of trail)
+  pub represents : RepresentsHistory core.start core (history_of trail)
   pub counted : length trail ≡ calls
 
 -- the core represents a history of this many calls
 pub record HasHistory (core : StoreView) (calls : ℕ) : Type 0 where
   pub history : List (CoreEvent × CoreReply)
-  pub represents : RepresentsHistory core history
+  pub represents : RepresentsHistory core.start core history
   pub counted : length history ≡ calls
 
 -- the trail with one more entry, where there is one

@@ -2,7 +2,6 @@
 ghost use Rattle.std.specs.Prelude.{◌≡◌, ◌<◌, [], ⊤, Some, None, IfOk, MatchResult, map, if◌then◌else◌};
 ghost use Rattle.std.specs.Option.{ForSome};
 ghost use Rattle.std.specs.List.{range_with_len};
-ghost use Rattle.hlc_core.specs.StoreView.{nodes as nodes_of};
 ghost use Rattle.hlc_core.specs.Calls.{new_refusal, IsRefusal};
 ghost use Rattle.hlc_core.specs.History.{RepresentsHistory};
 ghost use Rattle.hlc_server.specs.Seats.{fresh_seat};
@@ -63,7 +62,7 @@ impl<L: Ledger> Guarded<L> {
         ensures callers { IfOk result
             (λ made. made.1.items ≡ map fresh_seat (range_with_len 0 callers)) }
         ensures fresh { IfOk result
-            (λ made. (nodes_of made.0.core ≡ nodes) × RepresentsHistory made.0.core []
+            (λ made. RepresentsHistory nodes made.0.core []
             × (made.0.trail ≡ (if audit then Some [] else None)) × (made.0.calls ≡ 0)) }
     {
         let core = Core::new(alloc, nodes)?;

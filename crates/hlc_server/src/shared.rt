@@ -108,9 +108,9 @@ impl<L: Ledger> Shared<L> {
         }
     }
 
-    /// Lends the core for reading, with the lock taken for as long: its checkpoint, ranges, versions, sizes, links and so
-    /// on. It is no call: nothing is counted, and no receipt returned. The core represents a legal history, as whenever
-    /// nobody is in a call.
+    /// Lends the core for reading, with the lock taken for as long: its checkpoint, ranges, versions, sizes, links and
+    /// so on. It is no call: nothing is counted, and no receipt returned. The core represents a legal history, as
+    /// whenever nobody is in a call.
     pub fn look<R: Wait, T, F: FnOnce(&Core) -> T>(&self, rt: &R, reader: F) -> T
         requires { F.IsAlwaysCallable reader }
         ensures { (core : StoreView) × (calls : ℕ) × HasHistory core calls

@@ -1,6 +1,6 @@
 -- The writes of some keys of a batch are a batch, or none.
 use Rattle.std.proofs.Common.{◌≡◌, ℕ, Bool, true, false, ◌≤◌, cond, eqb, ltb, bytes_eq, List, [], ◌∷◌, length}
-use Rattle.std.proofs.Common.{Option, Some, None, refl, arith}
+use Rattle.std.proofs.Common.{None, refl, arith}
 use Rattle.std.proofs.lemmas.Bool.{or_parts, le-ltb, ne_eqb}
 use Rattle.hlc_rows.specs.declared.limits.TheConstants.{MAX_WRITES}
 use Rattle.hlc_rows.specs.declared.write.Write.{Write}

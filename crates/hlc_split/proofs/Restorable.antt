@@ -6,7 +6,7 @@ use Rattle.hlc_rows.specs.declared.row.Row.{Row}
 use Rattle.hlc_heads.specs.declared.heads.TheConstants.{MAX_INITIAL_NODES}
 use Rattle.hlc_witness.specs.Certificate.{RowsAscend, row_cmp}
 use Rattle.hlc_core.specs.Past.{Step}
-use Rattle.hlc_core.specs.StoreView.{StoreView, nodes, Represents}
+use Rattle.hlc_core.specs.StoreView.{StoreView, Represents}
 use Rattle.hlc_checkpoint.specs.Checkpoint.{IsCheckpoint}
 use Rattle.hlc_core.proofs.CheckpointLemmas.{checkpoint-sound}
 use Rattle.hlc_split.specs.Split.{part_of}
@@ -32,7 +32,7 @@ sorted-filter c p (x ∷ xs) h =
     ]
 
 pub part-restores : (kept : StoreView) (past : List Step) (is_of : List ℕ → Bool) → Represents kept past
-    → 0 < nodes kept → nodes kept ≤ MAX_INITIAL_NODES → RowsAscend kept.rows → IsCheckpoint (part_of is_of kept)
+    → 0 < kept.start → kept.start ≤ MAX_INITIAL_NODES → RowsAscend kept.rows → IsCheckpoint (part_of is_of kept)
 part-restores kept past is_of h some few up =
     checkpoint-sound (part_of is_of kept) _ (represents-part kept past is_of h).represents some few
     (sorted-filter row_cmp (λ (row : Row). is_of row.key) kept.rows up)

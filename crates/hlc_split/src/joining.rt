@@ -2,7 +2,7 @@
 ghost use Rattle.std.specs.Prelude.{◌≡◌, ◌++◌, ◌∷◌, ◌↔◌, ⊤, not, true, All, IfOk, IfErr, IsTrue, List};
 ghost use Rattle.std.specs.Prelude.{ℕ, Bool, MatchOption};
 ghost use Rattle.hlc_core.specs.Past.{Step, PartVacuumed, IsLegal};
-ghost use Rattle.hlc_core.specs.StoreView.{nodes, with_rows_left, Represents};
+ghost use Rattle.hlc_core.specs.StoreView.{with_rows_left, Represents};
 ghost use Rattle.hlc_split.specs.Split.{RepresentsPart, is_under, is_from};
 ghost use Rattle.hlc_split.specs.OwnPast.{IsOwnPast};
 ghost use Rattle.hlc_split.specs.Merge.{AreDivided, HaveSameLinks, HaveSameSnapshots, IsReason, merge_code};
@@ -86,11 +86,11 @@ impl From<NoMemory> for MergeFault {
 #[tactic(auto, using(crate::proofs::Joined::merged_represents))]
 pub fn merge(left: Checkpoint, right: Checkpoint) -> Result<Checkpoint, MergeFault>
     ensures ok { IfOk result (λ made. made ≡ with_rows_left left (left.rows ++ right.rows) left.horizon) }
-    ensures represents { (past : List Step) (is_of : List ℕ → Bool) → IsLegal (nodes left) past
+    ensures represents { (past : List Step) (is_of : List ℕ → Bool) → IsLegal past
         → RepresentsPart is_of left past → RepresentsPart (λ key. not (is_of key)) right past
         → IfOk result (λ made. RepresentsPart (λ _. true) made past) }
     ensures vacuumed { (past own_left own_right : List Step) (is_of : List ℕ → Bool)
-        → IsLegal (nodes left) past → IsOwnPast is_of past own_left
+        → IsLegal past → IsOwnPast is_of past own_left
         → IsOwnPast (λ key. not (is_of key)) past own_right
         → Represents left own_left → Represents right own_right
         → IfOk result (λ made. RepresentsPart (λ _. true) made (PartVacuumed left.horizon 0 ∷ past)) }

@@ -7,7 +7,7 @@ mod joining;
 ghost use Rattle.std.specs.Prelude.{◌≡◌, ◌<◌, ◌≤◌, ◌++◌, ◌∷◌, ℕ, Bool, true, not, List};
 ghost use Rattle.hlc_rows.specs.Rows.{answer};
 ghost use Rattle.hlc_core.specs.Past.{Step, PartVacuumed, IsLegal, writes, floor, horizon, open_snapshots};
-ghost use Rattle.hlc_core.specs.StoreView.{StoreView, nodes, with_rows_left, Represents};
+ghost use Rattle.hlc_core.specs.StoreView.{StoreView, with_rows_left, Represents};
 ghost use Rattle.hlc_checkpoint.specs.Checkpoint.{IsCheckpoint};
 ghost use Rattle.hlc_witness.specs.Certificate.{RowsAscend};
 ghost use Rattle.hlc_heads.specs.declared.heads.TheConstants.{MAX_INITIAL_NODES};
@@ -27,8 +27,7 @@ pub fn ranges_represent_their_part()
 /// The store of the keys of one kind has the floor, the horizon and the open snapshots of the whole store, and answers
 /// at its keys as the whole store does, at each stamp.
 pub fn ranges_answer_alike()
-    ensures floor { (nodes : ℕ) (past : List Step) (is_of : List ℕ → Bool)
-        → floor nodes (past_in is_of past) ≡ floor nodes past }
+    ensures floor { (past : List Step) (is_of : List ℕ → Bool) → floor (past_in is_of past) ≡ floor past }
     ensures horizon { (past : List Step) (is_of : List ℕ → Bool) → horizon (past_in is_of past) ≡ horizon past }
     ensures snapshots { (past : List Step) (is_of : List ℕ → Bool)
         → open_snapshots (past_in is_of past) ≡ open_snapshots past }
@@ -39,13 +38,13 @@ pub fn ranges_answer_alike()
 /// A part of a checkpoint is a checkpoint, so `Core::restore` refuses it only if memory runs out.
 pub fn parts_restore()
     ensures { (kept : StoreView) (past : List Step) (is_of : List ℕ → Bool) → Represents kept past
-        → 0 < nodes kept → nodes kept ≤ MAX_INITIAL_NODES → RowsAscend kept.rows → IsCheckpoint (part_of is_of kept) }
+        → 0 < kept.start → kept.start ≤ MAX_INITIAL_NODES → RowsAscend kept.rows → IsCheckpoint (part_of is_of kept) }
 {}
 
 /// The stores of the keys of a kind and of the others, of one past, are together a store of all keys: one with the rows
 /// of both. It represents that past, in which vacuums are parts of one.
 pub fn parts_merge()
-    ensures { (left right : StoreView) (past : List Step) (is_of : List ℕ → Bool) → IsLegal (nodes left) past
+    ensures { (left right : StoreView) (past : List Step) (is_of : List ℕ → Bool) → IsLegal past
         → RepresentsPart is_of left past → RepresentsPart (λ key. not (is_of key)) right past
         → RepresentsPart (λ _. true) (with_rows_left left (left.rows ++ right.rows) left.horizon) past }
 {}
@@ -55,13 +54,13 @@ pub fn parts_merge()
 /// vacuumed to that stamp. There and above it answers as all that they took does, and so does each part at its keys.
 pub fn vacuumed_parts_merge()
     ensures merged { (left right : StoreView) (past own_left own_right : List Step) (is_of : List ℕ → Bool)
-        → IsLegal (nodes left) past → IsOwnPast is_of past own_left
+        → IsLegal past → IsOwnPast is_of past own_left
         → IsOwnPast (λ key. not (is_of key)) past own_right
         → Represents left own_left → Represents right own_right → left.horizon ≡ right.horizon
         → RepresentsPart (λ _. true) (with_rows_left left (left.rows ++ right.rows) left.horizon)
         (PartVacuumed left.horizon 0 ∷ past) }
     ensures answers { (left right : StoreView) (past own_left own_right : List Step) (is_of : List ℕ → Bool)
-        (key : List ℕ) (stamp : ℕ) → IsLegal (nodes left) past → IsOwnPast is_of past own_left
+        (key : List ℕ) (stamp : ℕ) → IsLegal past → IsOwnPast is_of past own_left
         → IsOwnPast (λ key. not (is_of key)) past own_right
         → Represents left own_left → Represents right own_right → left.horizon ≡ right.horizon
         → left.horizon ≤ stamp → answer (left.rows ++ right.rows) key stamp ≡ answer (writes past) key stamp }

@@ -5,12 +5,13 @@ use Rattle.std.proofs.lemmas.List.Elements.{All-head, All-tail, All-weaker, All-
 use Rattle.hlc_snapshot.specs.declared.snapshot.Snapshot.{Snapshot}
 use Rattle.hlc_snapshot.specs.RegistryView.{stamp_in}
 use Rattle.hlc_snapshot.proofs.RegisterLemmas.{stamp_in-hit, stamp_in-miss}
-use Rattle.hlc_core.specs.Past.{Step, Took, Opened, Closed, Vacuumed, PartVacuumed, Joined, opened, open_snapshots}
-use Rattle.hlc_core.specs.Past.{stamp_of}
+use Rattle.hlc_core.specs.Past.{Step, Started, Took, Opened, Closed, Vacuumed, PartVacuumed, Joined, opened}
+use Rattle.hlc_core.specs.Past.{open_snapshots, stamp_of}
 
 -- the ids of the open snapshots are no greater than the number of those opened
 ids_low : (past : List Step) → All (λ (s : Snapshot). s.id ≤ opened past) (open_snapshots past)
 ids_low [] = All-nil (λ (s : Snapshot). s.id ≤ 0)
+ids_low (Started nodes ∷ past) = ids_low past
 ids_low (Took item ∷ past) = ids_low past
 ids_low (Vacuumed at ∷ past) = ids_low past
 ids_low (PartVacuumed at dropped ∷ past) = ids_low past

@@ -15,12 +15,12 @@ use Rattle.hlc_storm_report.specs.declared.report.StormFault.{StormFault}
 use Rattle.hlc_storm_report.specs.declared.report.StormFault.TheVariants.{Work, Settle}
 use Rattle.hlc_server.specs.declared.end.WorkEnd.TheVariants.{Done}
 
--- For a past of a core with this many nodes: the number of accepted items of each node of the plan, the floor, the keys
--- that have a value there, with the newest accepted one, and the rows that a vacuum to the floor keeps, made after the
--- snapshot of the listing is closed.
-pub record IsFoundIn (plan : StormPlan) (nodes : ℕ) (past : List Step) (report : StormReport) : Type 0 where
+-- For a past of a core: the number of accepted items of each node of the plan, the floor, the keys that have a value
+-- there, with the newest accepted one, and the rows that a vacuum to the floor keeps, made after the snapshot of the
+-- listing is closed.
+pub record IsFoundIn (plan : StormPlan) (past : List Step) (report : StormReport) : Type 0 where
   pub accepted : report.accepted.items ≡ map (λ node. count node past) (range_with_len 0 plan.nodes)
-  pub floor : report.floor ≡ floor nodes past
+  pub floor : report.floor ≡ floor past
   pub pairs : IsListing (writes past) report.floor report.pairs
   pub vacuum : Report
   pub expected : IsReport report.floor (Closed (opened past + 1) ∷ Opened report.floor ∷ past) vacuum
@@ -35,5 +35,5 @@ MayRefuse fault = (fault ≢ Work Done) × (fault ≢ Settle NoTrail)
 abbrev pub MayReport : StormPlan → Result StormReport StormFault → Type 0
 MayReport plan (Ok report) =
     (nodes : ℕ) × (history : List (CoreEvent × CoreReply))
-    × IsLegalHistory nodes history × IsFoundIn plan nodes (past_of history) report
+    × IsLegalHistory nodes history × IsFoundIn plan (past_of nodes history) report
 MayReport plan (Err fault) = MayRefuse fault

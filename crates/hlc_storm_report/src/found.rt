@@ -5,7 +5,7 @@ ghost use Rattle.hlc_draft.specs.declared.report.Report.{Report as AReport};
 ghost use Rattle.hlc_core.specs.Past.{Step, Opened, Closed, count, floor, opened, writes};
 ghost use Rattle.hlc_core.specs.Listing.{IsListing};
 ghost use Rattle.hlc_core.specs.Stored.{IsReport};
-ghost use Rattle.hlc_core.specs.StoreView.{nodes, Represents};
+ghost use Rattle.hlc_core.specs.StoreView.{Represents};
 ghost use Rattle.hlc_storm_report.specs.Found.{IsFoundIn};
 
 use crate::report::{StormFault, StormReport};
@@ -16,8 +16,7 @@ use std::alloc::Global;
 /// Returns what the settled core contains. Refused where it runs out of memory.
 pub fn report_of(alloc: Global, core: Core, plan: StormPlan) -> Result<StormReport, StormFault>
     ensures found { IfOk result
-        (λ report. (past : List Step) → Represents core past
-        → IsFoundIn plan (nodes core) past report) }
+        (λ report. (past : List Step) → Represents core past → IsFoundIn plan past report) }
     ensures memory { IfErr result (λ fault. fault ≡ StormFault.NoMemory) }
 {
     let mut core = core;
@@ -27,8 +26,7 @@ pub fn report_of(alloc: Global, core: Core, plan: StormPlan) -> Result<StormRepo
 /// Returns what a core contains, and vacuums it. Refused where it runs out of memory.
 fn found_in(alloc: Global, core: &mut Core, plan: StormPlan) -> Result<StormReport, StormFault>
     ensures found { IfOk result
-        (λ report. (past : List Step) → Represents core.old past
-        → IsFoundIn plan (nodes core.old) past report) }
+        (λ report. (past : List Step) → Represents core.old past → IsFoundIn plan past report) }
     ensures memory { IfErr result (λ fault. fault ≡ StormFault.NoMemory) }
 {
     let accepted = counts_of(alloc, core, plan.nodes)?;
@@ -47,9 +45,8 @@ fn found_in(alloc: Global, core: &mut Core, plan: StormPlan) -> Result<StormRepo
 fn listed_at_floor(core: &mut Core) -> Result<(Stamp, Listing), StormFault>
     ensures found { IfOk result
         (λ found. (past : List Step) → Represents core.old past
-        → (found.0 ≡ floor (nodes core.old) past) × IsListing (writes past) found.0 found.1
+        → (found.0 ≡ floor past) × IsListing (writes past) found.0 found.1
         × Represents core.new (Closed (opened past + 1) ∷ Opened found.0 ∷ past)) }
-    ensures nodes { nodes core.new ≡ nodes core.old }
     ensures memory { IfErr result (λ fault. fault ≡ StormFault.NoMemory) }
 {
     let Ok(opening) = core.open_floor() else {
@@ -69,8 +66,7 @@ fn listed_at_floor(core: &mut Core) -> Result<(Stamp, Listing), StormFault>
 fn kept_by_vacuum(core: &mut Core) -> Result<u64, StormFault>
     ensures kept { IfOk result
         (λ kept. (past : List Step) → Represents core.old past
-        → (report : AReport) × IsReport (floor (nodes core.old) past) past report
-        × (kept ≡ report.kept)) }
+        → (report : AReport) × IsReport (floor past) past report × (kept ≡ report.kept)) }
     ensures memory { IfErr result (λ fault. fault ≡ StormFault.NoMemory) }
 {
     match core.vacuum_counted() {

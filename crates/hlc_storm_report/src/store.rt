@@ -1,7 +1,6 @@
 //! The store of a storm.
 ghost use Rattle.std.specs.Prelude.{◌≡◌, ◌+◌, [], Some, IfOk, IfErr, map};
 ghost use Rattle.std.specs.List.{range_with_len};
-ghost use Rattle.hlc_core.specs.StoreView.{nodes as nodes_of};
 ghost use Rattle.hlc_core.specs.History.{RepresentsHistory};
 ghost use Rattle.hlc_server.specs.Seats.{fresh_seat};
 ghost use Rattle.hlc_storm_report.specs.Found.{MayRefuse};
@@ -22,7 +21,7 @@ pub fn new_store<L: Ledger>(
     requires ledger { (blank.name ≡ L.name) × (blank.parts ≡ L.parts) }
     requires callers { blank.parts ≡ plan.now.nodes + plan.now.readers + 1 }
     ensures store { IfOk result
-        (λ made. (nodes_of made.0.core ≡ plan.now.nodes) × RepresentsHistory made.0.core []
+        (λ made. RepresentsHistory plan.now.nodes made.0.core []
         × (made.0.trail ≡ Some []) × (made.0.calls ≡ 0)) }
     ensures callers { IfOk result (λ made. made.1.items
         ≡ map fresh_seat (range_with_len 0 (plan.now.nodes + plan.now.readers + 1))) }

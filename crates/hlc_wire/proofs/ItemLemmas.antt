@@ -17,7 +17,8 @@ use Rattle.hlc_wire.proofs.BatchLemmas.{batch_reader, batch_fits, write_fits, wr
 use Rattle.hlc_wire.specs.Reading.{◌>>=◌, Gives, number_at, key_at, value_at, batch_at, body_at}
 use Rattle.hlc_wire.specs.Reading.{item_rest_at, item_at}
 use Rattle.hlc_wire.specs.Reading.{message_rest_at, message_at, whole}
-use Rattle.hlc_wire.proofs.FieldLemmas.{IsBytes, IsBytes-rest, bind_ok, done, ok_is, Takes, Takes-then, Takes-cons, IsReader}
+use Rattle.hlc_wire.proofs.FieldLemmas.{IsBytes, IsBytes-rest, bind_ok, done, ok_is, Takes, Takes-then, Takes-cons}
+use Rattle.hlc_wire.proofs.FieldLemmas.{IsReader}
 use Rattle.hlc_wire.proofs.FieldLemmas.{wide16, wide64, number_reader, key_reader, value_reader, whole_takes}
 
 abbrev two : IsReader (number_at w16) (to_be_bytes w16) (λ n. n < 65536)

@@ -2,7 +2,8 @@
 use Rattle.std.proofs.Common.{◌≡◌, ℕ, ◌+◌, ◌≤◌, ◌∙◌, sym, ap, ap₂, refl, List, [], ◌∷◌, ◌++◌, take, drop, length}
 use Rattle.std.proofs.Common.{arith, length-append, Option, Some, None}
 use Rattle.std.specs.Prelude.{IsSome}
-use Rattle.std.proofs.lemmas.List.{append_assoc, append-nil, length-take, length-drop, take-append-le, take_all, take_at}
+use Rattle.std.proofs.lemmas.List.{append_assoc, append-nil, length-take, length-drop, take-append-le, take_all}
+use Rattle.std.proofs.lemmas.List.{take_at}
 use Rattle.std.proofs.lemmas.List.{drop-drop, nil_from_length}
 use Rattle.std.proofs.Math.Seq.{drop-append-add}
 use Rattle.hlc_node.specs.declared.item.Item.{Item}

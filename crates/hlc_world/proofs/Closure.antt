@@ -70,12 +70,12 @@ issued-found (last ∷ s) turn item entry at made =
           (Contains-push (issued item.node s) item))
     ]
 
-pub closed : (nodes : ℕ) (s : List (Event × Reply)) → IsLegal nodes s → IsClosed s
+pub closed : (nodes : ℕ) (s : List (Event × Reply)) → IsLegal nodes s → IsClosed nodes s
 closed nodes s legal = λ id stamp first later item earlier there at accepted low before at-earlier.
     let under : earlier.stamp < item.stamp = less nodes s first later _ _ _ _ legal before
     (issued-stamped s first earlier at-earlier) (issued-stamped s later item at) in
-    let top : stamp ≤ floor nodes (core_past s) = stamp_in-all (λ x. x ≤ floor nodes (core_past s)) id stamp
-    (open_snapshots (core_past s)) (open-low nodes (core_past s) (legal-past nodes s legal)) there in
+    let top : stamp ≤ floor (core_past nodes s) = stamp_in-all (λ x. x ≤ floor (core_past nodes s)) id stamp
+    (open_snapshots (core_past nodes s)) (open-low (core_past nodes s) (legal-past nodes s legal)) there in
     let low' : item.stamp ≤ stamp = low in (
       complete nodes s legal earlier
           (earlier.node, issued-found s first earlier at-earlier.entry at-earlier.at at-earlier.made) (omega arith),

@@ -89,29 +89,30 @@ ended-took items overs past p k item h own at next =
 abbrev IsEndedAt : List (Event × Reply) → List Step → Type 0
 IsEndedAt s past = Ended (λ n. issued n s) (λ n. has_retired n s) (λ n. count n past) (λ n. retired n past)
 
-abbrev IsEnded : List (Event × Reply) → Type 0
-IsEnded s = IsEndedAt s (core_past s)
+abbrev IsEnded : ℕ → List (Event × Reply) → Type 0
+IsEnded nodes s = IsEndedAt s (core_past nodes s)
 
 ended-delivered : (nodes : ℕ) (s : List (Event × Reply)) (p k st : ℕ) (o : Option Item)
-    → slice_get (issued p s) k ≡ o → deliver_refusal nodes (core_past s) o ≡ None → IsOrderly nodes s
-    → IsEnded s → IsEndedAt s (past_taken p st o (store_history s))
+    → slice_get (issued p s) k ≡ o → deliver_refusal (core_past nodes s) o ≡ None → IsOrderly nodes s
+    → IsEnded nodes s → IsEndedAt s (past_taken nodes p st o (store_history s))
 ended-delivered nodes s p k st None at none ordered h = h
 ended-delivered nodes s p k st (Some item) at none ordered h =
     let is = ordered.each p k item at in
-    ended-took (λ j. issued j s) (λ j. has_retired j s) (core_past s) p k item h is.node at
-    (delivered nodes (core_past s) p k item is.node is.number none)
+    ended-took (λ j. issued j s) (λ j. has_retired j s) (core_past nodes s) p k item h is.node at
+    (delivered (core_past nodes s) p k item is.node is.number none)
 
 ended-issued : (nodes : ℕ) (s : List (Event × Reply)) (item : Item) (rest : Option Refusal)
-    → on_node nodes s item.node rest ≡ None → IsEnded s
+    → on_node nodes s item.node rest ≡ None → IsEnded nodes s
     → Ended (λ n. with_item n (Some item) (issued n s)) (λ n. ends n (Some item) (has_retired n s))
-    (λ n. count n (core_past s)) (λ n. retired n (core_past s))
+    (λ n. count n (core_past nodes s)) (λ n. retired n (core_past nodes s))
 ended-issued nodes s item rest none h =
-    ended-issue (λ j. issued j s) (λ j. has_retired j s) (λ n. count n (core_past s)) (λ n. retired n (core_past s))
+    ended-issue (λ j. issued j s) (λ j. has_retired j s) (λ n. count n (core_past nodes s))
+    (λ n. retired n (core_past nodes s))
     item h
     (on_node-none nodes s item.node rest none).1
 
 ended-entry : (nodes : ℕ) (s : List (Event × Reply)) (event : Event) (reply : Reply) → MayReply nodes s event reply
-    → IsOrderly nodes s → IsEnded s → IsEnded ((event, reply) ∷ s)
+    → IsOrderly nodes s → IsEnded nodes s → IsEnded nodes ((event, reply) ∷ s)
 ended-entry nodes s (Write p reading key value) (Stamped st num) allowed ordered h =
     ended-issued nodes s (an_item p num st (a_write key (Some value))) _ allowed.0 h
 ended-entry nodes s (Delete p reading key) (Stamped st num) allowed ordered h =
@@ -132,7 +133,7 @@ ended-entry nodes s Vacuum (Vacuumed report) allowed ordered h = h
 ended-entry nodes s _ _ allowed ordered h = h
 
 -- the items of every legal schedule end like this
-pub ended : (nodes : ℕ) (s : List (Event × Reply)) → IsLegal nodes s → IsEnded s
+pub ended : (nodes : ℕ) (s : List (Event × Reply)) → IsLegal nodes s → IsEnded nodes s
 ended nodes [] legal =
     record {
       last = λ n k item m. absurd (let w : k < 0 = slice_get_within [] k item m in omega arith);

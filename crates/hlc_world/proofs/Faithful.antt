@@ -11,7 +11,7 @@ use Rattle.hlc_world.specs.Schedule.{Event}
 use Rattle.hlc_world.specs.declared.reply.Reply.{Reply}
 use Rattle.hlc_world.specs.Store.{share, with_entry, store_history}
 use Rattle.hlc_world.specs.Expected.{IsLegal}
-use Rattle.hlc_world.specs.WorldView.{WorldView, world_nodes, Represents}
+use Rattle.hlc_world.specs.WorldView.{WorldView, Represents}
 use Rattle.hlc_world.specs.Headline.{MomentsAreReported, ReadsAreClosed, IsFaithful}
 use Rattle.hlc_world.proofs.Histories.{history-legal, left-by-none}
 use Rattle.hlc_world.proofs.Closure.{closed}
@@ -41,25 +41,25 @@ before-legal nodes [] before legal = legal
 before-legal nodes (entry ∷ later) before legal = before-legal nodes later before legal.1
 
 -- each moment of a legal schedule is legal
-reads-closed : (nodes : ℕ) (s : List (Event × Reply)) → IsLegal nodes s → ReadsAreClosed s
+reads-closed : (nodes : ℕ) (s : List (Event × Reply)) → IsLegal nodes s → ReadsAreClosed nodes s
 reads-closed nodes s legal =
     λ before moment. closed nodes before
     (before-legal nodes moment.later before (subst (λ x. IsLegal nodes x) moment.order legal))
 
 -- the core represents the store's history
-represents : (state : WorldView) (s : List (Event × Reply)) → Represents state s
-    → RepresentsHistory state.core (store_history s)
-represents state s h = record {
-  legal = history-legal (world_nodes state) s h.legal;
+represents : (nodes : ℕ) (state : WorldView) (s : List (Event × Reply)) → Represents nodes state s
+    → RepresentsHistory nodes state.core (store_history s)
+represents nodes state s h = record {
+  legal = history-legal nodes s h.legal;
   core = h.core;
-  left = left-by-none s state.core.rows;
+  left = left-by-none nodes s state.core.rows;
 }
 
 -- a world is faithful to each schedule that it represents
-pub faithful : (state : WorldView) (s : List (Event × Reply)) → Represents state s
-    → IsFaithful (world_nodes state) s state.core.rows
-faithful state s h = record {
-  store = histories_are_faithful state.core (store_history s) (represents state s h);
+pub faithful : (nodes : ℕ) (state : WorldView) (s : List (Event × Reply)) → Represents nodes state s
+    → IsFaithful nodes s state.core.rows
+faithful nodes state s h = record {
+  store = histories_are_faithful nodes state.core (store_history s) (represents nodes state s h);
   moments = moments-returned s;
-  closed = reads-closed (world_nodes state) s h.legal;
+  closed = reads-closed nodes s h.legal;
 }

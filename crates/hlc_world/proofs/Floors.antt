@@ -86,46 +86,46 @@ taken-took n p k item items past own at next h =
           })
     ]
 
-abbrev AllTaken : List (Event × Reply) → Type 0
-AllTaken s = (n : ℕ) → AreTaken (issued n s) (count n (core_past s)) (core_past s)
+abbrev AllTaken : ℕ → List (Event × Reply) → Type 0
+AllTaken nodes s = (n : ℕ) → AreTaken (issued n s) (count n (core_past nodes s)) (core_past nodes s)
 
 taken-delivered : (nodes : ℕ) (s : List (Event × Reply)) (p k st : ℕ) (o : Option Item)
-    → slice_get (issued p s) k ≡ o → deliver_refusal nodes (core_past s) o ≡ None → IsOrderly nodes s
-    → AllTaken s → (n : ℕ) → AreTaken (issued n s) (count n (past_taken p st o (store_history s)))
-    (past_taken p st o (store_history s))
+    → slice_get (issued p s) k ≡ o → deliver_refusal (core_past nodes s) o ≡ None → IsOrderly nodes s
+    → AllTaken nodes s → (n : ℕ) → AreTaken (issued n s) (count n (past_taken nodes p st o (store_history s)))
+    (past_taken nodes p st o (store_history s))
 taken-delivered nodes s p k st None at none ordered h n = h n
 taken-delivered nodes s p k st (Some item) at none ordered h n =
     let is = ordered.each p k item at in
-    taken-took n p k item (λ j. issued j s) (core_past s) is.node at
-    (delivered nodes (core_past s) p k item is.node is.number none) (h n)
+    taken-took n p k item (λ j. issued j s) (core_past nodes s) is.node at
+    (delivered (core_past nodes s) p k item is.node is.number none) (h n)
 
 taken-entry : (nodes : ℕ) (s : List (Event × Reply)) (event : Event) (reply : Reply) → MayReply nodes s event reply
-    → IsOrderly nodes s → AllTaken s → AllTaken ((event, reply) ∷ s)
+    → IsOrderly nodes s → AllTaken nodes s → AllTaken nodes ((event, reply) ∷ s)
 taken-entry nodes s (Write p reading key value) (Stamped st num) allowed ordered h =
-    λ n. taken-issue n _ (issued n s) (count n (core_past s)) (core_past s) (h n)
+    λ n. taken-issue n _ (issued n s) (count n (core_past nodes s)) (core_past nodes s) (h n)
 taken-entry nodes s (Delete p reading key) (Stamped st num) allowed ordered h =
-    λ n. taken-issue n _ (issued n s) (count n (core_past s)) (core_past s) (h n)
+    λ n. taken-issue n _ (issued n s) (count n (core_past nodes s)) (core_past nodes s) (h n)
 taken-entry nodes s (Report p reading) (Stamped st num) allowed ordered h =
-    λ n. taken-issue n _ (issued n s) (count n (core_past s)) (core_past s) (h n)
+    λ n. taken-issue n _ (issued n s) (count n (core_past nodes s)) (core_past nodes s) (h n)
 taken-entry nodes s (Retire p reading) (Stamped st num) allowed ordered h =
-    λ n. taken-issue n _ (issued n s) (count n (core_past s)) (core_past s) (h n)
+    λ n. taken-issue n _ (issued n s) (count n (core_past nodes s)) (core_past nodes s) (h n)
 taken-entry nodes s Join (Joined node start) allowed ordered h =
-    λ n. taken-more (issued n s) (count n (core_past s)) (core_past s) (JoinedOf node start) (h n)
+    λ n. taken-more (issued n s) (count n (core_past nodes s)) (core_past nodes s) (JoinedOf node start) (h n)
 taken-entry nodes s (Deliver p k) (Accepted st) allowed ordered h =
     taken-delivered nodes s p k st (slice_get (issued p s) k) refl (on_link-none nodes s p _ allowed.0).1 ordered h
 taken-entry nodes s (OpenAt at) (Snapshot id st) allowed ordered h =
-    λ n. taken-more (issued n s) (count n (core_past s)) (core_past s) (Opened st) (h n)
+    λ n. taken-more (issued n s) (count n (core_past nodes s)) (core_past nodes s) (Opened st) (h n)
 taken-entry nodes s OpenFloor (Snapshot id st) allowed ordered h =
-    λ n. taken-more (issued n s) (count n (core_past s)) (core_past s) (Opened st) (h n)
+    λ n. taken-more (issued n s) (count n (core_past nodes s)) (core_past nodes s) (Opened st) (h n)
 taken-entry nodes s (Read id key) (Answer value) allowed ordered h = h
 taken-entry nodes s (ListAll id) (Listing pairs) allowed ordered h = h
 taken-entry nodes s (Close id) (Closed st) allowed ordered h =
-    λ n. taken-more (issued n s) (count n (core_past s)) (core_past s) (ClosedOf id) (h n)
+    λ n. taken-more (issued n s) (count n (core_past nodes s)) (core_past nodes s) (ClosedOf id) (h n)
 taken-entry nodes s Vacuum (Vacuumed report) allowed ordered h =
-    λ n. taken-more (issued n s) (count n (core_past s)) (core_past s) (VacuumedOf report.floor) (h n)
+    λ n. taken-more (issued n s) (count n (core_past nodes s)) (core_past nodes s) (VacuumedOf report.floor) (h n)
 taken-entry nodes s _ _ allowed ordered h = h
 
-taken : (nodes : ℕ) (s : List (Event × Reply)) → IsLegal nodes s → AllTaken s
+taken : (nodes : ℕ) (s : List (Event × Reply)) → IsLegal nodes s → AllTaken nodes s
 taken nodes [] legal = λ n. record { low = omega arith; each = λ k x at lt. absurd (omega arith) }
 taken nodes (entry ∷ s) legal =
     taken-entry nodes s entry.0 entry.1 legal.0 (orderly nodes s legal.1) (taken nodes s legal.1)
@@ -139,21 +139,21 @@ complete nodes s legal = λ item from low.
     let at : slice_get (issued n s) k ≡ Some item = slice_get-get_or (issued n s) k item within ∙ ap Some from.1.2 in
     let is = (orderly nodes s legal).each n k item at in
     (taken nodes s legal n).each k item at
-    (elim (cases_lt k (count n (core_past s))) [
+    (elim (cases_lt k (count n (core_past nodes s))) [
       | inl before ↦ before
       | inr later ↦
-          elim (cases_Bool (retired n (core_past s))) [
+          elim (cases_Bool (retired n (core_past nodes s))) [
             | inl out ↦ (let each = ((ended nodes s legal).done n out).0 in omega (arith, within, each))
             | inr here ↦ absurd
-                (let least : floor nodes (core_past s) ≤ head n (core_past s) =
-                floor-le nodes (core_past s) n is.inside here in
-                let up : head n (core_past s) < item.stamp = is.ahead later in
-                let low' : item.stamp ≤ floor nodes (core_past s) = low in omega arith)
+                (let least : floor (core_past nodes s) ≤ head n (core_past nodes s) =
+                floor-le (core_past nodes s) n is.inside here in
+                let up : head n (core_past nodes s) < item.stamp = is.ahead later in
+                let low' : item.stamp ≤ floor (core_past nodes s) = low in omega arith)
           ]
     ])
 
 -- no clock of a node whose last item was not accepted is below the floor
 pub below_clocks : (nodes : ℕ) (s : List (Event × Reply)) → IsLegal nodes s → IsBelowClocks nodes s
 below_clocks nodes s legal = λ n inside here.
-    let least : floor nodes (core_past s) ≤ head n (core_past s) = floor-le nodes (core_past s) n inside here in
+    let least : floor (core_past nodes s) ≤ head n (core_past nodes s) = floor-le (core_past nodes s) n inside here in
     let low = (orderly nodes s legal).head_low n in omega (arith, low)

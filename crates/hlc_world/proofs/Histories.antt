@@ -1,6 +1,6 @@
 -- The store's history of a legal schedule is legal, since the expected reply to an event that asks something of the
 -- store is what the store is expected to return; and what took place in a legal history is a legal past.
-use Rattle.std.proofs.Common.{◌≡◌, ℕ, ◌≤◌, List, [], ◌∷◌, Some, None, Option, ◌∙◌, sym, subst, inl, inr, arith}
+use Rattle.std.proofs.Common.{◌≡◌, ℕ, ◌≤◌, List, [], ◌∷◌, Some, None, Option, refl, ◌∙◌, sym, subst, inl, inr, arith}
 use Rattle.std.proofs.lemmas.Bool.{cond-true, cond-false, lt-leb, le-leb, lt-ltb, cases_lt}
 use Rattle.hlc_node.specs.declared.item.Item.{Item}
 use Rattle.hlc_rows.specs.declared.row.Row.{Row}
@@ -28,8 +28,8 @@ use Rattle.hlc_world.proofs.Orderly.{no-core, on_link-none}
 
 -- the store's part of a delivery is an expected reply
 history-taken : (nodes : ℕ) (h : List (CoreEvent × CoreReply)) (p st : ℕ) (o : Option Item)
-    → deliver_refusal nodes (past_of h) o ≡ None
-    → IsExpectedOfStore nodes (past_of h) (paired (accepted p st o) (accepting o)) → IsLegalHistory nodes h
+    → deliver_refusal (past_of nodes h) o ≡ None
+    → IsExpectedOfStore (past_of nodes h) (paired (accepted p st o) (accepting o)) → IsLegalHistory nodes h
     → IsLegalHistory nodes (with_entry (paired (accepted p st o) (accepting o)) h)
 history-taken nodes h p st None none expected legal = legal
 history-taken nodes h p st (Some item) none expected legal = ((no-core _ none, expected), legal)
@@ -52,80 +52,82 @@ pub history-legal : (nodes : ℕ) (s : List (Event × Reply)) → IsLegal nodes 
 history-legal nodes [] legal = tt
 history-legal nodes (entry ∷ s) legal = history-entry nodes s entry.0 entry.1 legal.0 (history-legal nodes s legal.1)
 
-left-taken : (h : List (CoreEvent × CoreReply)) (p st : ℕ) (o : Option Item) (rows : List Row) → IsLeft h rows
-    → IsLeft (with_entry (paired (accepted p st o) (accepting o)) h) rows
-left-taken h p st None rows left = left
-left-taken h p st (Some item) rows left = tt
+left-taken : (nodes : ℕ) (h : List (CoreEvent × CoreReply)) (p st : ℕ) (o : Option Item) (rows : List Row)
+    → IsLeft nodes h rows
+    → IsLeft nodes (with_entry (paired (accepted p st o) (accepting o)) h) rows
+left-taken nodes h p st None rows left = left
+left-taken nodes h p st (Some item) rows left = tt
 
-left-entry : (s : List (Event × Reply)) (event : Event) (reply : Reply) (rows : List Row)
-    → IsLeft (store_history s) rows → IsLeft (store_history ((event, reply) ∷ s)) rows
-left-entry s (Deliver p k) (Accepted st) rows left = left-taken (store_history s) p st (item_at p k s) rows left
-left-entry s Join (Joined node start) rows left = tt
-left-entry s (OpenAt at) (Snapshot id st) rows left = tt
-left-entry s OpenFloor (Snapshot id st) rows left = tt
-left-entry s (Read id key) (Answer value) rows left = tt
-left-entry s (ListAll id) (Listing pairs) rows left = tt
-left-entry s (Close id) (Closed st) rows left = tt
-left-entry s Vacuum (Vacuumed report) rows left = tt
-left-entry s _ _ rows left = left
+left-entry : (nodes : ℕ) (s : List (Event × Reply)) (event : Event) (reply : Reply) (rows : List Row)
+    → IsLeft nodes (store_history s) rows → IsLeft nodes (store_history ((event, reply) ∷ s)) rows
+left-entry nodes s (Deliver p k) (Accepted st) rows left =
+    left-taken nodes (store_history s) p st (item_at p k s) rows left
+left-entry nodes s Join (Joined node start) rows left = tt
+left-entry nodes s (OpenAt at) (Snapshot id st) rows left = tt
+left-entry nodes s OpenFloor (Snapshot id st) rows left = tt
+left-entry nodes s (Read id key) (Answer value) rows left = tt
+left-entry nodes s (ListAll id) (Listing pairs) rows left = tt
+left-entry nodes s (Close id) (Closed st) rows left = tt
+left-entry nodes s Vacuum (Vacuumed report) rows left = tt
+left-entry nodes s _ _ rows left = left
 
 -- no event of a schedule is part of a vacuum, so none leaves rows just after it
-pub left-by-none : (s : List (Event × Reply)) (rows : List Row) → IsLeft (store_history s) rows
-left-by-none [] rows = tt
-left-by-none (entry ∷ s) rows = left-entry s entry.0 entry.1 rows (left-by-none s rows)
+pub left-by-none : (nodes : ℕ) (s : List (Event × Reply)) (rows : List Row) → IsLeft nodes (store_history s) rows
+left-by-none nodes [] rows = tt
+left-by-none nodes (entry ∷ s) rows = left-entry nodes s entry.0 entry.1 rows (left-by-none nodes s rows)
 
 no-list : (o : Option ℕ) → list_refusal o ≡ None → o ≡ None → ⊥
 no-list None h e = absurd (cc)
 no-list (Some stamp) h e = absurd (cc)
 
 -- a start that is not refused is not below the floor
-starts : (nodes : ℕ) (past : List Step) (start : ℕ) → join_at_refusal nodes past start ≡ None
-    → (join_refusal nodes past ≡ None) × (floor nodes past ≤ start)
-starts nodes past start none =
-    elim (cases_lt (numbered nodes past) MAX_NODES) [
+starts : (past : List Step) (start : ℕ) → join_at_refusal past start ≡ None
+    → (join_refusal past ≡ None) × (floor past ≤ start)
+starts past start none =
+    elim (cases_lt (numbered past) MAX_NODES) [
       | inl few ↦
-          let f = lt-leb MAX_NODES (numbered nodes past) few in (
+          let f = lt-leb MAX_NODES (numbered past) few in (
             cond-false _ _ _ f,
-            elim (cases_lt start (floor nodes past)) [
-              | inl below ↦ absurd (let e : Some (joining (BelowFloor (floor nodes past))) ≡ None =
-                  sym (cond-true _ _ _ (lt-ltb start (floor nodes past) below)) ∙ sym (cond-false _ _ _ f) ∙ none in cc)
+            elim (cases_lt start (floor past)) [
+              | inl below ↦ absurd (let e : Some (joining (BelowFloor (floor past))) ≡ None =
+                  sym (cond-true _ _ _ (lt-ltb start (floor past) below)) ∙ sym (cond-false _ _ _ f) ∙ none in cc)
               | inr up ↦ up
             ],
           )
       | inr full ↦ absurd (let e : Some (joining TooManyNodes) ≡ None =
-          sym (cond-true _ _ _ (le-leb MAX_NODES (numbered nodes past) full)) ∙ none in cc)
+          sym (cond-true _ _ _ (le-leb MAX_NODES (numbered past) full)) ∙ none in cc)
     ]
 
-past-step : (nodes : ℕ) (past : List Step) (event : CoreEvent) (reply : CoreReply) → IsExpected nodes past event reply
-    → IsLegalPast nodes past → IsLegalPast nodes (with_step (step_of event reply) past)
-past-step nodes past (core_event.Accept item) (core_reply.Accepted acceptance) expected legal = (expected.0, legal)
-past-step nodes past (core_event.OpenAt at) (core_reply.Opened id st) expected legal =
-    (subst (λ x. open_refusal nodes past x ≡ None) (sym expected.1.1) expected.0, legal)
-past-step nodes past core_event.OpenFloor (core_reply.Opened id st) expected legal =
-    let e : st ≡ floor nodes past = expected.1.1 in
-    let low : horizon past ≤ floor nodes past = horizon-low nodes past legal in
-    (open-room nodes past st (omega arith) (omega arith) ∙ expected.0, legal)
-past-step nodes past (core_event.Close id) (core_reply.Closed st) expected legal =
+past-step : (past : List Step) (event : CoreEvent) (reply : CoreReply) → IsExpected past event reply
+    → IsLegalPast past → IsLegalPast (with_step (step_of event reply) past)
+past-step past (core_event.Accept item) (core_reply.Accepted acceptance) expected legal = (expected.0, legal)
+past-step past (core_event.OpenAt at) (core_reply.Opened id st) expected legal =
+    (subst (λ x. open_refusal past x ≡ None) (sym expected.1.1) expected.0, legal)
+past-step past core_event.OpenFloor (core_reply.Opened id st) expected legal =
+    let e : st ≡ floor past = expected.1.1 in
+    let low : horizon past ≤ floor past = horizon-low past legal in
+    (open-room past st (omega arith) (omega arith) ∙ expected.0, legal)
+past-step past (core_event.Close id) (core_reply.Closed st) expected legal =
     (no-list (stamp_of id past) expected.0, legal)
-past-step nodes past core_event.Join (core_reply.Joined node start) expected legal =
-    let e : start ≡ floor nodes past = expected.1.1 in (expected.0, expected.1.0, omega arith, legal)
-past-step nodes past (core_event.JoinAt at) (core_reply.Joined node start) expected legal =
-    let free = starts nodes past at expected.0 in
-    let up : floor nodes past ≤ at = free.1 in
+past-step past core_event.Join (core_reply.Joined node start) expected legal =
+    let e : start ≡ floor past = expected.1.1 in (expected.0, expected.1.0, omega arith, legal)
+past-step past (core_event.JoinAt at) (core_reply.Joined node start) expected legal =
+    let free = starts past at expected.0 in
+    let up : floor past ≤ at = free.1 in
     let e : start ≡ at = expected.1.1 in (free.0, expected.1.0, omega arith, legal)
-past-step nodes past core_event.Vacuum (core_reply.Vacuumed report) expected legal =
-    let e : report.floor ≡ floor nodes past = expected.1.at_stamp in
-    let low : horizon past ≤ floor nodes past = horizon-low nodes past legal in
-    (vacuum-none nodes past report.floor (omega arith) (omega arith), legal)
-past-step nodes past (core_event.VacuumTo at) (core_reply.Vacuumed report) expected legal = (expected.0, legal)
-past-step nodes past (core_event.VacuumPart at after most) (core_reply.VacuumedPart report end) expected legal =
+past-step past core_event.Vacuum (core_reply.Vacuumed report) expected legal =
+    let e : report.floor ≡ floor past = expected.1.at_stamp in
+    let low : horizon past ≤ floor past = horizon-low past legal in
+    (vacuum-none past report.floor (omega arith) (omega arith), legal)
+past-step past (core_event.VacuumTo at) (core_reply.Vacuumed report) expected legal = (expected.0, legal)
+past-step past (core_event.VacuumPart at after most) (core_reply.VacuumedPart report end) expected legal =
     (expected.0, legal)
-past-step nodes past _ _ expected legal = legal
+past-step past _ _ expected legal = legal
 
-past-legal : (nodes : ℕ) (h : List (CoreEvent × CoreReply)) → IsLegalHistory nodes h → IsLegalPast nodes (past_of h)
-past-legal nodes [] legal = tt
-past-legal nodes (entry ∷ h) legal = past-step nodes (past_of h) entry.0 entry.1 legal.0 (past-legal nodes h legal.1)
+past-legal : (nodes : ℕ) (h : List (CoreEvent × CoreReply)) → IsLegalHistory nodes h → IsLegalPast (past_of nodes h)
+past-legal nodes [] legal = (refl, tt)
+past-legal nodes (entry ∷ h) legal = past-step (past_of nodes h) entry.0 entry.1 legal.0 (past-legal nodes h legal.1)
 
 -- the core's past of a legal schedule is legal
-pub legal-past : (nodes : ℕ) (s : List (Event × Reply)) → IsLegal nodes s → IsLegalPast nodes (core_past s)
+pub legal-past : (nodes : ℕ) (s : List (Event × Reply)) → IsLegal nodes s → IsLegalPast (core_past nodes s)
 legal-past nodes s legal = past-legal nodes (store_history s) (history-legal nodes s legal)

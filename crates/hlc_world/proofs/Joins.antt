@@ -7,7 +7,7 @@ use Rattle.hlc_node.specs.declared.item.Item.{Item}
 use Rattle.hlc_heads.specs.declared.heads.TheConstants.{MAX_NODES}
 use Rattle.hlc_events.specs.declared.fault.CoreFault.{CoreFault}
 use Rattle.hlc_core.specs.Past.{Joined as JoinedOf, numbered, floor, join_refusal}
-use Rattle.hlc_core.specs.StoreView.{StoreView, nodes, Represents as CoreRepresents}
+use Rattle.hlc_core.specs.StoreView.{StoreView, Represents as CoreRepresents}
 use Rattle.hlc_core.specs.Calls.{IsRefusal}
 use Rattle.hlc_world.specs.declared.event.Event.TheVariants.{Join}
 use Rattle.hlc_world.specs.declared.reply.Reply.{Reply}
@@ -17,8 +17,8 @@ use Rattle.hlc_events.specs.declared.fault.CoreFault.TheVariants.{Join as joinin
 use Rattle.hlc_world.specs.declared.refusal.Refusal.TheVariants.{Store, NoMemory}
 use Rattle.hlc_world.specs.Schedule.{Event, item_made, with_item, ends, stamp_or, issued, has_retired, last_stamp}
 use Rattle.hlc_world.specs.Store.{core_past}
-use Rattle.hlc_world.specs.Expected.{of_core, core_refusal, IsLegal}
-use Rattle.hlc_world.specs.WorldView.{IssuerView, WorldView, world_nodes, Represents}
+use Rattle.hlc_world.specs.Expected.{of_core, core_refusal}
+use Rattle.hlc_world.specs.WorldView.{IssuerView, WorldView, Represents}
 use Rattle.hlc_world.proofs.Lists.{get-append_left, get-push}
 use Rattle.hlc_world.proofs.Nodes.{a_node, stays, stamp_or-same, stamp_or-other, with_item-same, with_item-other}
 use Rattle.hlc_world.proofs.Nodes.{ends-other}
@@ -48,29 +48,28 @@ not-retired n [] e = refl
 not-retired n (entry ∷ s) e = item-ends n (item_made entry.0 entry.1) (issued n s) (has_retired n s) (not-retired n s) e
 
 -- a node joined, with the next number
-pub joins : (state : WorldView) (s : List (Event × Reply)) (node start : ℕ) (core : StoreView) → Represents state s
-    → nodes core ≡ nodes state.core → join_refusal (world_nodes state) (core_past s) ≡ None
-    → node ≡ numbered (world_nodes state) (core_past s) → start ≡ floor (world_nodes state) (core_past s)
-    → CoreRepresents core (JoinedOf node start ∷ core_past s) → Represents (record {
+pub joins : (nodes : ℕ) (state : WorldView) (s : List (Event × Reply)) (node start : ℕ) (core : StoreView)
+    → Represents nodes state s → join_refusal (core_past nodes s) ≡ None
+    → node ≡ numbered (core_past nodes s) → start ≡ floor (core_past nodes s)
+    → CoreRepresents core (JoinedOf node start ∷ core_past nodes s) → Represents nodes (record {
       core = core;
       nodes = state.nodes ++ a_node node start [] false ∷ [];
       sent_stamps = state.sent_stamps;
     }) ((Join, Joined node start) ∷ s)
-joins state s node start core h same none is at represents =
+joins nodes state s node start core h none is at represents =
     let x : IssuerView = a_node node start [] false in
     let l : length (state.nodes ++ x ∷ []) ≡ length state.nodes + 1 = length-append state.nodes (x ∷ []) in
     record {
-      legal = subst (λ n. IsLegal n ((Join, Joined node start) ∷ s)) (sym same)
-          ((ap core_refusal none, (is, at)), h.legal);
+      legal = ((ap core_refusal none, (is, at)), h.legal);
       core = represents;
-      many = l ∙ ap (λ n. n + 1) h.many ∙ ap (λ n. numbered n (core_past s) + 1) (sym same);
-      nodes = λ n lt.
+      many = l ∙ ap (λ n. n + 1) h.many;
+      each = λ n lt.
           elim (cases_eq n (length state.nodes)) [
             | inl last ↦
                 let own : node ≡ n = is ∙ sym h.many ∙ sym last in
                 let empty : issued n s ≡ [] =
                 no-items (issued n s) (λ k item there.
-                (let i = ((orderly (world_nodes state) s h.legal).each n k item there).inside in
+                (let i = ((orderly nodes s h.legal).each n k item there).inside in
                 omega (arith, i, is, own))) in
                 ap (λ k. slice_get (state.nodes ++ x ∷ []) k) last
                 ∙ get-push state.nodes x
@@ -84,7 +83,7 @@ joins state s node start core h same none is at represents =
                 let within : n < length state.nodes = omega (arith, lt, l) in
                 let other : node ≡ n → ⊥ = λ e. (let m = h.many in omega (arith, is, m, e)) in
                 get-append_left state.nodes (x ∷ []) n within
-                ∙ h.nodes n within
+                ∙ h.each n within
                 ∙ sym (ap (λ a. Some (a_node n a (issued n s) (has_retired n s)))
                 (stamp_or-other n node start (last_stamp n s) other))
           ];
@@ -92,28 +91,29 @@ joins state s node start core h same none is at represents =
     }
 
 -- none joined: 1,024 numbers are assigned
-pub joins_full : (state : WorldView) (s : List (Event × Reply)) → Represents state s → MAX_NODES ≤ length state.nodes
-    → Represents state ((Join, Refused (Store (joining TooManyNodes))) ∷ s)
-joins_full state s h full =
-    stays state s Join (Store (joining TooManyNodes)) refl
-    (inl (ap core_refusal (cond-true _ _ _ (le-leb MAX_NODES (numbered (world_nodes state) (core_past s))
+pub joins_full : (nodes : ℕ) (state : WorldView) (s : List (Event × Reply)) → Represents nodes state s
+    → MAX_NODES ≤ length state.nodes → Represents nodes state ((Join, Refused (Store (joining TooManyNodes))) ∷ s)
+joins_full nodes state s h full =
+    stays nodes state s Join (Store (joining TooManyNodes)) refl
+    (inl (ap core_refusal (cond-true _ _ _ (le-leb MAX_NODES (numbered (core_past nodes s))
     (let m = h.many in omega (arith, m)))))) h
 
 -- or it is out of memory
-pub joins_lost : (state : WorldView) (s : List (Event × Reply)) → Represents state s → length state.nodes < MAX_NODES
-    → Represents state ((Join, Refused NoMemory) ∷ s)
-joins_lost state s h few =
-    let none : join_refusal (world_nodes state) (core_past s) ≡ None =
-    cond-false _ _ _ (lt-leb MAX_NODES (numbered (world_nodes state) (core_past s))
+pub joins_lost : (nodes : ℕ) (state : WorldView) (s : List (Event × Reply)) → Represents nodes state s
+    → length state.nodes < MAX_NODES → Represents nodes state ((Join, Refused NoMemory) ∷ s)
+joins_lost nodes state s h few =
+    let none : join_refusal (core_past nodes s) ≡ None =
+    cond-false _ _ _ (lt-leb MAX_NODES (numbered (core_past nodes s))
     (let m = h.many in omega (arith, m))) in
-    stays state s Join NoMemory refl (inr (ap core_refusal none, refl, tt)) h
+    stays nodes state s Join NoMemory refl (inr (ap core_refusal none, refl, tt)) h
 
 -- or the core refuses it
-pub joins_not : (state : WorldView) (s : List (Event × Reply)) (fault : CoreFault) → Represents state s
-    → IsRefusal (join_refusal (world_nodes state) (core_past s)) ⊤ fault
-    → Represents state ((Join, Refused (of_core fault)) ∷ s)
-joins_not state s fault h (inl expected) =
-    stays state s Join (of_core fault) refl (inl (ap core_refusal expected)) h
-joins_not state s fault h (inr lost) =
-    subst (λ f. Represents state ((Join, Refused (of_core f)) ∷ s)) (sym lost.1)
-    (stays state s Join NoMemory refl (inr (ap core_refusal lost.0, refl, tt)) h)
+pub joins_not : (nodes : ℕ) (state : WorldView) (s : List (Event × Reply)) (fault : CoreFault)
+    → Represents nodes state s
+    → IsRefusal (join_refusal (core_past nodes s)) ⊤ fault
+    → Represents nodes state ((Join, Refused (of_core fault)) ∷ s)
+joins_not nodes state s fault h (inl expected) =
+    stays nodes state s Join (of_core fault) refl (inl (ap core_refusal expected)) h
+joins_not nodes state s fault h (inr lost) =
+    subst (λ f. Represents nodes state ((Join, Refused (of_core f)) ∷ s)) (sym lost.1)
+    (stays nodes state s Join NoMemory refl (inr (ap core_refusal lost.0, refl, tt)) h)

@@ -14,9 +14,9 @@ use Rattle.hlc_node.specs.Items.{an_item, retires}
 use Rattle.hlc_node.specs.Node.{NodeView, clocked, unless_retired, expected_event, expected_issue, next_item, stamped}
 use Rattle.hlc_node.specs.Node.{after_issue}
 use Rattle.hlc_core.specs.declared.reply.CoreReply.{CoreReply}
-use Rattle.hlc_core.specs.Past.{Step, numbered, stamp_of}
+use Rattle.hlc_core.specs.Past.{Step, Started, numbered, stamp_of}
 use Rattle.hlc_core.specs.History.{past_of}
-use Rattle.hlc_core.specs.StoreView.{StoreView, nodes as core_nodes, Represents as CoreRepresents}
+use Rattle.hlc_core.specs.StoreView.{StoreView, Represents as CoreRepresents}
 use Rattle.hlc_world.specs.declared.content.Content.{Content}
 use Rattle.hlc_world.specs.declared.content.Content.TheVariants as contents
 use Rattle.hlc_world.specs.declared.event.Event.TheVariants.{Send, Receive, Observe}
@@ -31,7 +31,7 @@ use Rattle.hlc_world.specs.Schedule.{node_of}
 use Rattle.hlc_world.specs.Store.{asked, returned, paired, with_entry, store_history, core_past}
 use Rattle.hlc_world.specs.Expected.{issue_refusal, stamp_refusal, receive_refusal, observe_refusal, on_link}
 use Rattle.hlc_world.specs.Expected.{on_node, expected_refusal, IsReceived, IsObserved, MayRunOutOfMemory, MayReply}
-use Rattle.hlc_world.specs.WorldView.{IssuerView, WorldView, world_nodes, Represents, fresh_issuers, stamps_of, Issues}
+use Rattle.hlc_world.specs.WorldView.{IssuerView, WorldView, Represents, fresh_issuers, stamps_of, Issues}
 use Rattle.hlc_world.specs.WorldView.{Sees}
 use Rattle.std.proofs.lemmas.List.{map-append, length-map}
 use Rattle.std.proofs.lemmas.Option.{slice_get-map}
@@ -64,8 +64,8 @@ pub ends-other : (n : ℕ) (item : Item) (was_last : Bool) → (item.node ≡ n 
 ends-other n item was_last e = cond-false _ _ _ (ne_eqb _ _ e)
 
 pub on_link-inside : (nodes : ℕ) (s : List (Event × Reply)) (p : ℕ) (rest : Option Refusal)
-    → p < numbered nodes (core_past s) → on_link nodes s p rest ≡ rest
-on_link-inside nodes s p rest h = cond-false _ _ _ (lt-leb (numbered nodes (core_past s)) p h)
+    → p < numbered (core_past nodes s) → on_link nodes s p rest ≡ rest
+on_link-inside nodes s p rest h = cond-false _ _ _ (lt-leb (numbered (core_past nodes s)) p h)
 
 retired-issue : (was_last : Bool) (r : Result ℕ NodeFault)
     → (if was_last then Some (at_node Retired) else issue_refusal (unless_retired was_last r))
@@ -82,12 +82,12 @@ retired-sight false (Err fault) = refl
 
 -- an event of a known node is refused as the node refuses it
 issue-expected : (nodes : ℕ) (s : List (Event × Reply)) (p : ℕ) (r : Result ℕ NodeFault)
-    → p < numbered nodes (core_past s) → on_node nodes s p (issue_refusal (unless_retired (has_retired p s) r))
+    → p < numbered (core_past nodes s) → on_node nodes s p (issue_refusal (unless_retired (has_retired p s) r))
     ≡ issue_refusal (unless_retired (has_retired p s) r)
 issue-expected nodes s p r h = on_link-inside nodes s p _ h ∙ retired-issue (has_retired p s) r
 
 sight-expected : (nodes : ℕ) (s : List (Event × Reply)) (p : ℕ) (r : Result ℕ ClockFault)
-    → p < numbered nodes (core_past s) → on_node nodes s p (stamp_refusal r)
+    → p < numbered (core_past nodes s) → on_node nodes s p (stamp_refusal r)
     ≡ issue_refusal (unless_retired (has_retired p s) (clocked r))
 sight-expected nodes s p r h = on_link-inside nodes s p _ h ∙ retired-sight (has_retired p s) r
 
@@ -150,8 +150,8 @@ nodes-stamped nodes lasts items overs p st inside h n lt =
     ]
 
 -- the core's past after an event to which the store returned this
-abbrev past_reported : List (Event × Reply) → Event → Option CoreReply → List Step
-past_reported s e reply = past_of (with_entry (paired reply (asked s e)) (store_history s))
+abbrev past_reported : ℕ → List (Event × Reply) → Event → Option CoreReply → List Step
+past_reported nodes s e reply = past_of nodes (with_entry (paired reply (asked s e)) (store_history s))
 
 -- what is stored for a node after an event that set this mark and issued this item, if it did
 abbrev node_by : ℕ → Option (ℕ × ℕ) → Option Item → List (Event × Reply) → IssuerView
@@ -159,15 +159,16 @@ node_by n mark item s =
     a_node n (stamp_or n mark (last_stamp n s)) (with_item n item (issued n s)) (ends n item (has_retired n s))
 
 -- a stored node has an assigned number
-there : (state : WorldView) (s : List (Event × Reply)) (p : ℕ) → Represents state s → p < length state.nodes
-    → p < numbered (world_nodes state) (core_past s)
-there state s p h inside = (let m = h.many in omega (arith, m))
+there : (nodes : ℕ) (state : WorldView) (s : List (Event × Reply)) (p : ℕ) → Represents nodes state s
+    → p < length state.nodes → p < numbered (core_past nodes s)
+there nodes state s p h inside = (let m = h.many in omega (arith, m))
 
 -- and it is as the schedule says
-was : (state : WorldView) (s : List (Event × Reply)) (p : ℕ) (before : IssuerView) → Represents state s
+was : (nodes : ℕ) (state : WorldView) (s : List (Event × Reply)) (p : ℕ) (before : IssuerView)
+    → Represents nodes state s
     → p < length state.nodes → slice_get state.nodes p ≡ Some before
     → before ≡ a_node p (last_stamp p s) (issued p s) (has_retired p s)
-was state s p before h inside at = some-injective _ _ (sym at ∙ h.nodes p inside)
+was nodes state s p before h inside at = some-injective _ _ (sym at ∙ h.each p inside)
 
 -- what an event did by this reply: the item that it issued, its mark, the message that it sent, and what the store
 -- returned
@@ -178,39 +179,39 @@ abbrev deed : List (Event × Reply) → Event → Reply → Deed
 deed s e reply = (item_made e reply, mark_of e reply, message_made e reply, returned s e reply)
 
 -- an event that sent no message and to which the store returned nothing changes nothing but the nodes
-goes-on : (state : WorldView) (s : List (Event × Reply)) (e : Event) (reply : Reply) (item : Option Item)
-    (mark : Option (ℕ × ℕ)) (nodes : List IssuerView) → deed s e reply ≡ (item, mark, None, None)
-    → MayReply (world_nodes state) s e reply → Represents state s → length nodes ≡ length state.nodes
-    → ((n : ℕ) → n < length nodes → slice_get nodes n ≡ Some (node_by n mark item s))
-    → Represents (record { core = state.core; nodes = nodes; sent_stamps = state.sent_stamps }) ((e, reply) ∷ s)
-goes-on state s e reply item mark nodes did allowed h same each =
+goes-on : (nodes : ℕ) (state : WorldView) (s : List (Event × Reply)) (e : Event) (reply : Reply) (item : Option Item)
+    (mark : Option (ℕ × ℕ)) (issuers : List IssuerView) → deed s e reply ≡ (item, mark, None, None)
+    → MayReply nodes s e reply → Represents nodes state s → length issuers ≡ length state.nodes
+    → ((n : ℕ) → n < length issuers → slice_get issuers n ≡ Some (node_by n mark item s)) → Represents nodes
+    (record { core = state.core; nodes = issuers; sent_stamps = state.sent_stamps }) ((e, reply) ∷ s)
+goes-on nodes state s e reply item mark issuers did allowed h same each =
     record {
       legal = (allowed, h.legal);
-      core = subst (λ (d : Deed). CoreRepresents state.core (past_reported s e d.3)) (sym did) h.core;
-      many = subst (λ (d : Deed). length nodes ≡ numbered (world_nodes state) (past_reported s e d.3)) (sym did)
+      core = subst (λ (d : Deed). CoreRepresents state.core (past_reported nodes s e d.3)) (sym did) h.core;
+      many = subst (λ (d : Deed). length issuers ≡ numbered (past_reported nodes s e d.3)) (sym did)
           (same ∙ h.many);
-      nodes = λ n lt. subst (λ (d : Deed). slice_get nodes n ≡ Some (node_by n d.1 d.0 s)) (sym did) (each n lt);
+      each = λ n lt. subst (λ (d : Deed). slice_get issuers n ≡ Some (node_by n d.1 d.0 s)) (sym did) (each n lt);
       sent_stamps = subst (λ (d : Deed). state.sent_stamps ≡ stamps_of (with_message d.2 (sent s))) (sym did)
           h.sent_stamps;
     }
 
 -- a refused event changes nothing
-pub stays : (state : WorldView) (s : List (Event × Reply)) (e : Event) (refusal : Refusal)
+pub stays : (nodes : ℕ) (state : WorldView) (s : List (Event × Reply)) (e : Event) (refusal : Refusal)
     → deed s e (Refused refusal) ≡ (None, None, None, None)
-    → MayReply (world_nodes state) s e (Refused refusal) → Represents state s
-    → Represents state ((e, Refused refusal) ∷ s)
-stays state s e refusal nothing allowed h =
-    goes-on state s e (Refused refusal) None None state.nodes nothing allowed h refl h.nodes
+    → MayReply nodes s e (Refused refusal) → Represents nodes state s
+    → Represents nodes state ((e, Refused refusal) ∷ s)
+stays nodes state s e refusal nothing allowed h =
+    goes-on nodes state s e (Refused refusal) None None state.nodes nothing allowed h refl h.each
 
 abbrev with_node : WorldView → ℕ → IssuerView → WorldView
 with_node state p node =
     record { core = state.core; nodes = slice_set state.nodes p node; sent_stamps = state.sent_stamps }
 
 -- to write back what is stored for a node changes nothing
-pub put-back : (state : WorldView) (s : List (Event × Reply)) (p : ℕ) (node : IssuerView)
-    → slice_get state.nodes p ≡ Some node → Represents state s → Represents (with_node state p node) s
-put-back state s p node at h =
-    subst (λ xs. Represents (record { core = state.core; nodes = xs; sent_stamps = state.sent_stamps }) s)
+pub put-back : (nodes : ℕ) (state : WorldView) (s : List (Event × Reply)) (p : ℕ) (node : IssuerView)
+    → slice_get state.nodes p ≡ Some node → Represents nodes state s → Represents nodes (with_node state p node) s
+put-back nodes state s p node at h =
+    subst (λ xs. Represents nodes (record { core = state.core; nodes = xs; sent_stamps = state.sent_stamps }) s)
     (sym (set-same state.nodes p node at)) h
 
 -- an event by which a node issues an item with this body
@@ -221,7 +222,7 @@ pub record IsIssue (nodes : ℕ) (s : List (Event × Reply)) (e : Event) (p : �
   pub left : (f : Refusal) → deed s e (Refused f) ≡ (None, None, None, None)
   pub allowed : (st num : ℕ) → expected_refusal nodes s e ≡ None → expected_issue (node_of p s) body reading ≡ Ok st
       → num ≡ length (issued p s) → MayReply nodes s e (Stamped st num)
-  pub may : MayRunOutOfMemory s e
+  pub may : MayRunOutOfMemory nodes s e
 
 issuing-is : (nodes : ℕ) (s : List (Event × Reply)) (p reading : ℕ) (content : Content)
     → IsIssue nodes s (issuing p reading content) p (body_of content) reading
@@ -235,18 +236,19 @@ issuing-is nodes s p reading contents.Retire =
     record { expected = refl; done = λ st num. refl; left = λ f. refl; allowed = λ st num a b c. (a, (b, c)); may = tt }
 
 -- an item that a node issued
-pub issues : (state : WorldView) (s : List (Event × Reply)) (p reading : ℕ) (content : Content)
-    (before after : IssuerView) (made : ℕ × ℕ) → Represents state s → p < length state.nodes
+pub issues : (nodes : ℕ) (state : WorldView) (s : List (Event × Reply)) (p reading : ℕ) (content : Content)
+    (before after : IssuerView) (made : ℕ × ℕ) → Represents nodes state s → p < length state.nodes
     → slice_get state.nodes p ≡ Some before
     → Issues before after (body_of content) reading (Ok made)
-    → Represents (with_node state p after) ((issuing p reading content, Stamped made.0 made.1) ∷ s)
-issues state s p reading content before after made h inside at taken =
+    → Represents nodes (with_node state p after) ((issuing p reading content, Stamped made.0 made.1) ∷ s)
+issues nodes state s p reading content before after made h inside at taken =
     let e : Event = issuing p reading content in
     let body : Body = body_of content in
-    let is = issuing-is (world_nodes state) s p reading content in
+    let is = issuing-is nodes s p reading content in
     let st : ℕ = made.0 in
     let number : ℕ = length (issued p s) in
-    let so : before ≡ a_node p (last_stamp p s) (issued p s) (has_retired p s) = was state s p before h inside at in
+    let so : before ≡ a_node p (last_stamp p s) (issued p s) (has_retired p s) =
+    was nodes state s p before h inside at in
     let expected : expected_issue (node_of p s) body reading ≡ Ok st =
     ap (λ issuer. expected_issue issuer.node body reading) (sym so) ∙ taken.0 in
     let next : made.1 ≡ number = taken.1 ∙ ap (λ issuer. issuer.node.next) so in
@@ -262,49 +264,52 @@ issues state s p reading content before after made h inside at taken =
       node = record { id = p; last = st; next = k; retired = retires body };
       issued = issued p s ++ an_item p number st body ∷ [];
     }) (sym longer) in
-    let none : expected_refusal (world_nodes state) s e ≡ None =
-    is.expected ∙ issue-expected (world_nodes state) s p _ (there state s p h inside) ∙ ap issue_refusal expected in
+    let none : expected_refusal nodes s e ≡ None =
+    is.expected ∙ issue-expected nodes s p _ (there nodes state s p h inside) ∙ ap issue_refusal expected in
     let same : length (slice_set state.nodes p after) ≡ length state.nodes = length-set state.nodes p after in
-    subst (λ k. Represents (with_node state p after) ((e, Stamped st k) ∷ s)) (sym next)
-    (goes-on state s e (Stamped st number) (Some (an_item p number st body)) (Some (p, st))
+    subst (λ k. Represents nodes (with_node state p after) ((e, Stamped st k) ∷ s)) (sym next)
+    (goes-on nodes state s e (Stamped st number) (Some (an_item p number st body)) (Some (p, st))
     (slice_set state.nodes p after) (is.done st number) (is.allowed st number none expected refl) h same
     (λ n lt. subst (λ x. slice_get (slice_set state.nodes p x) n
     ≡ Some (node_by n (Some (p, st)) (Some (an_item p number st body)) s)) (sym came)
     (nodes-issued state.nodes (λ k. last_stamp k s) (λ k. issued k s) (λ k. has_retired k s) p st
-    (an_item p number st body) refl inside h.nodes n (rw same at lt))))
+    (an_item p number st body) refl inside h.each n (rw same at lt))))
 
 -- an item that it did not issue
-pub issues_not : (state : WorldView) (s : List (Event × Reply)) (p reading : ℕ) (content : Content)
+pub issues_not : (nodes : ℕ) (state : WorldView) (s : List (Event × Reply)) (p reading : ℕ) (content : Content)
     (before after : IssuerView)
-    (refusal : Refusal) → Represents state s → p < length state.nodes → slice_get state.nodes p ≡ Some before
+    (refusal : Refusal) → Represents nodes state s → p < length state.nodes → slice_get state.nodes p ≡ Some before
     → Issues before after (body_of content) reading (Err refusal)
-    → Represents (with_node state p after) ((issuing p reading content, Refused refusal) ∷ s)
-issues_not state s p reading content before after refusal h inside at left =
+    → Represents nodes (with_node state p after) ((issuing p reading content, Refused refusal) ∷ s)
+issues_not nodes state s p reading content before after refusal h inside at left =
     let e : Event = issuing p reading content in
     let body : Body = body_of content in
-    let is = issuing-is (world_nodes state) s p reading content in
-    let first : expected_refusal (world_nodes state) s e ≡ issue_refusal (expected_issue before.node body reading) =
-    is.expected ∙ issue-expected (world_nodes state) s p _ (there state s p h inside)
-    ∙ ap (λ issuer. issue_refusal (expected_issue issuer.node body reading)) (sym (was state s p before h inside at)) in
-    let allowed : MayReply (world_nodes state) s e (Refused refusal) =
+    let is = issuing-is nodes s p reading content in
+    let first : expected_refusal nodes s e ≡ issue_refusal (expected_issue before.node body reading) =
+    is.expected ∙ issue-expected nodes s p _ (there nodes state s p h inside)
+    ∙ ap (λ issuer. issue_refusal (expected_issue issuer.node body reading))
+    (sym (was nodes state s p before h inside at)) in
+    let allowed : MayReply nodes s e (Refused refusal) =
     elim left.0 [ inl expected ↦ inl (first ∙ expected) | inr lost ↦ inr (first ∙ lost.0, lost.1, is.may) ] in
-    subst (λ x. Represents (with_node state p x) ((e, Refused refusal) ∷ s)) (sym left.1)
-    (put-back state _ p before at (stays state s e refusal (is.left refusal) allowed h))
+    subst (λ x. Represents nodes (with_node state p x) ((e, Refused refusal) ∷ s)) (sym left.1)
+    (put-back nodes state _ p before at (stays nodes state s e refusal (is.left refusal) allowed h))
 
 -- a message that a node sent
-pub sends : (state : WorldView) (s : List (Event × Reply)) (p reading : ℕ) (before : IssuerView) (node : NodeView)
-    (st : ℕ) (stamps : List ℕ) → Represents state s → p < length state.nodes
+pub sends : (nodes : ℕ) (state : WorldView) (s : List (Event
+    × Reply)) (p reading : ℕ) (before : IssuerView) (node : NodeView)
+    (st : ℕ) (stamps : List ℕ) → Represents nodes state s → p < length state.nodes
     → slice_get state.nodes p ≡ Some before
     → expected_event before.node (before.node.last ∷ []) reading ≡ Ok st
     → node ≡ stamped before.node st
-    → stamps ≡ state.sent_stamps ++ st ∷ [] → Represents (record {
+    → stamps ≡ state.sent_stamps ++ st ∷ [] → Represents nodes (record {
       core = state.core;
       nodes = slice_set state.nodes p (record { node = node; issued = before.issued });
       sent_stamps = stamps;
     }) ((Send p reading, Sent st (length state.sent_stamps)) ∷ s)
-sends state s p reading before node st stamps h inside at expected node-is posted =
+sends nodes state s p reading before node st stamps h inside at expected node-is posted =
     let after : IssuerView = record { node = node; issued = before.issued } in
-    let so : before ≡ a_node p (last_stamp p s) (issued p s) (has_retired p s) = was state s p before h inside at in
+    let so : before ≡ a_node p (last_stamp p s) (issued p s) (has_retired p s) =
+    was nodes state s p before h inside at in
     let by : expected_event (node_of p s) (last_stamp p s ∷ []) reading ≡ Ok st =
     ap (λ issuer. expected_event issuer.node (issuer.node.last ∷ []) reading) (sym so) ∙ expected in
     let expected' : expected_stamp (last_stamp p s ∷ []) reading ≡ Ok st = event-ok (has_retired p s) _ st by in
@@ -316,49 +321,50 @@ sends state s p reading before node st stamps h inside at expected node-is poste
     record {
       legal = (
         (
-          sight-expected (world_nodes state) s p _ (there state s p h inside) ∙ ap issue_refusal by,
+          sight-expected nodes s p _ (there nodes state s p h inside) ∙ ap issue_refusal by,
           (expected', ap length h.sent_stamps ∙ length-map (sent s) (λ (message : Message). message.stamp)),
         ),
         h.legal,
       );
       core = h.core;
       many = same ∙ h.many;
-      nodes = λ n lt.
+      each = λ n lt.
           subst (λ x. slice_get (slice_set state.nodes p x) n ≡ Some (node_by n (Some (p, st)) None s)) (sym came)
           (nodes-stamped state.nodes (λ k. last_stamp k s) (λ k. issued k s) (λ k. has_retired k s) p st inside
-          h.nodes n (rw same at lt));
+          h.each n (rw same at lt));
       sent_stamps = posted ∙ ap (λ xs. xs ++ st ∷ []) h.sent_stamps
           ∙ sym (map-append (λ (message : Message). message.stamp) (sent s) (last ∷ []));
     }
 
 -- the world refuses a message for the same reason as the node
-sends-expected : (state : WorldView) (s : List (Event × Reply)) (p reading : ℕ) (before : IssuerView)
-    → Represents state s
+sends-expected : (nodes : ℕ) (state : WorldView) (s : List (Event × Reply)) (p reading : ℕ) (before : IssuerView)
+    → Represents nodes state s
     → p < length state.nodes → slice_get state.nodes p ≡ Some before
-    → expected_refusal (world_nodes state) s (Send p reading)
+    → expected_refusal nodes s (Send p reading)
     ≡ issue_refusal (expected_event before.node (before.node.last ∷ []) reading)
-sends-expected state s p reading before h inside at =
-    sight-expected (world_nodes state) s p _ (there state s p h inside)
+sends-expected nodes state s p reading before h inside at =
+    sight-expected nodes s p _ (there nodes state s p h inside)
     ∙ ap (λ issuer. issue_refusal (expected_event issuer.node (issuer.node.last ∷ []) reading))
-    (sym (was state s p before h inside at))
+    (sym (was nodes state s p before h inside at))
 
 -- a message that was not sent: the node refuses, or it is out of memory
-pub sends_not : (state : WorldView) (s : List (Event × Reply)) (p reading : ℕ) (before : IssuerView) (fault : NodeFault)
-    → Represents state s → p < length state.nodes → slice_get state.nodes p ≡ Some before
+pub sends_not : (nodes : ℕ) (state : WorldView) (s : List (Event
+    × Reply)) (p reading : ℕ) (before : IssuerView) (fault : NodeFault)
+    → Represents nodes state s → p < length state.nodes → slice_get state.nodes p ≡ Some before
     → expected_event before.node (before.node.last ∷ []) reading ≡ Err fault
-    → Represents state ((Send p reading, Refused (at_node fault)) ∷ s)
-sends_not state s p reading before fault h inside at expected =
-    stays state s (Send p reading) (at_node fault) refl
-    (inl (sends-expected state s p reading before h inside at ∙ ap issue_refusal expected)) h
+    → Represents nodes state ((Send p reading, Refused (at_node fault)) ∷ s)
+sends_not nodes state s p reading before fault h inside at expected =
+    stays nodes state s (Send p reading) (at_node fault) refl
+    (inl (sends-expected nodes state s p reading before h inside at ∙ ap issue_refusal expected)) h
 
-pub sends_lost : (state : WorldView) (s : List (Event × Reply)) (p reading st : ℕ) (before : IssuerView)
-    → Represents state s
+pub sends_lost : (nodes : ℕ) (state : WorldView) (s : List (Event × Reply)) (p reading st : ℕ) (before : IssuerView)
+    → Represents nodes state s
     → p < length state.nodes → slice_get state.nodes p ≡ Some before
     → expected_event before.node (before.node.last ∷ []) reading ≡ Ok st
-    → Represents state ((Send p reading, Refused NoMemory) ∷ s)
-sends_lost state s p reading st before h inside at expected =
-    stays state s (Send p reading) NoMemory refl
-    (inr (sends-expected state s p reading before h inside at ∙ ap issue_refusal expected, refl, tt)) h
+    → Represents nodes state ((Send p reading, Refused NoMemory) ∷ s)
+sends_lost nodes state s p reading st before h inside at expected =
+    stays nodes state s (Send p reading) NoMemory refl
+    (inr (sends-expected nodes state s p reading before h inside at ∙ ap issue_refusal expected, refl, tt)) h
 
 -- an event by which a node sees a stamp
 pub record IsSight (nodes : ℕ) (s : List (Event × Reply)) (e : Event) (reply : ℕ → Reply)
@@ -377,10 +383,11 @@ was-sent : (o : Option Message) (seen : ℕ) → option_map (λ (message : Messa
 was-sent None seen h = absurd (cc)
 was-sent (Some message) seen h = (message, refl, some-injective _ _ h)
 
-pub message-there : (state : WorldView) (s : List (Event × Reply)) (number seen : ℕ) → Represents state s
+pub message-there : (nodes : ℕ) (state : WorldView) (s : List (Event × Reply)) (number seen : ℕ)
+    → Represents nodes state s
     → slice_get state.sent_stamps number ≡ Some seen
     → (message : Message) × (message_at number s ≡ Some message) × (message.stamp ≡ seen)
-message-there state s number seen h at =
+message-there nodes state s number seen h at =
     was-sent (message_at number s) seen
     (sym (slice_get-map (λ (message : Message). message.stamp) (sent s) number)
     ∙ ap (λ xs. slice_get xs number) (sym h.sent_stamps) ∙ at)
@@ -402,7 +409,8 @@ receive-is nodes s p reading number seen (message, found, same) =
     subst (λ x. IsSight nodes s (Receive p reading number) Received p x reading) same
     (receives nodes s p reading number message found)
 
-pub observe-is : (nodes : ℕ) (s : List (Event × Reply)) (p reading id seen : ℕ) → stamp_of id (core_past s) ≡ Some seen
+pub observe-is : (nodes : ℕ) (s : List (Event × Reply)) (p reading id seen : ℕ)
+    → stamp_of id (core_past nodes s) ≡ Some seen
     → IsSight nodes s (Observe p reading id) Observed p seen reading
 observe-is nodes s p reading id seen found =
     record {
@@ -413,37 +421,41 @@ observe-is nodes s p reading id seen found =
     }
 
 -- a node that saw a stamp
-pub sees : (state : WorldView) (s : List (Event × Reply)) (e : Event) (reply : ℕ → Reply) (p seen reading st : ℕ)
-    (before after : IssuerView) → IsSight (world_nodes state) s e reply p seen reading
-    → Represents state s → p < length state.nodes → slice_get state.nodes p ≡ Some before
-    → Sees before after seen reading (Ok st) → Represents (with_node state p after) ((e, reply st) ∷ s)
-sees state s e reply p seen reading st before after is h inside at saw =
-    let so : before ≡ a_node p (last_stamp p s) (issued p s) (has_retired p s) = was state s p before h inside at in
+pub sees : (nodes : ℕ) (state : WorldView) (s : List (Event × Reply)) (e : Event) (reply : ℕ
+    → Reply) (p seen reading st : ℕ)
+    (before after : IssuerView) → IsSight nodes s e reply p seen reading
+    → Represents nodes state s → p < length state.nodes → slice_get state.nodes p ≡ Some before
+    → Sees before after seen reading (Ok st) → Represents nodes (with_node state p after) ((e, reply st) ∷ s)
+sees nodes state s e reply p seen reading st before after is h inside at saw =
+    let so : before ≡ a_node p (last_stamp p s) (issued p s) (has_retired p s) =
+    was nodes state s p before h inside at in
     let by : expected_event (node_of p s) (last_stamp p s ∷ seen ∷ []) reading ≡ Ok st =
     ap (λ issuer. expected_event issuer.node (issuer.node.last ∷ seen ∷ []) reading) (sym so) ∙ saw.0 in
     let came : after ≡ a_node p st (issued p s) (has_retired p s) =
     saw.1 ∙ ap (λ issuer. record { node = stamped issuer.node st; issued = issuer.issued }) so in
-    let none : expected_refusal (world_nodes state) s e ≡ None =
-    is.expected ∙ sight-expected (world_nodes state) s p _ (there state s p h inside) ∙ ap issue_refusal by in
+    let none : expected_refusal nodes s e ≡ None =
+    is.expected ∙ sight-expected nodes s p _ (there nodes state s p h inside) ∙ ap issue_refusal by in
     let same : length (slice_set state.nodes p after) ≡ length state.nodes = length-set state.nodes p after in
-    goes-on state s e (reply st) None (Some (p, st)) (slice_set state.nodes p after) (is.done st)
+    goes-on nodes state s e (reply st) None (Some (p, st)) (slice_set state.nodes p after) (is.done st)
     (is.allowed st none (event-ok (has_retired p s) _ st by)) h same
     (λ n lt. subst (λ x. slice_get (slice_set state.nodes p x) n ≡ Some (node_by n (Some (p, st)) None s)) (sym came)
     (nodes-stamped state.nodes (λ k. last_stamp k s) (λ k. issued k s) (λ k. has_retired k s) p st inside
-    h.nodes n (rw same at lt)))
+    h.each n (rw same at lt)))
 
 -- one that did not see it
-pub sees_not : (state : WorldView) (s : List (Event × Reply)) (e : Event) (reply : ℕ → Reply) (p seen reading : ℕ)
-    (before after : IssuerView) (refusal : Refusal) → IsSight (world_nodes state) s e reply p seen reading
-    → Represents state s → p < length state.nodes → slice_get state.nodes p ≡ Some before
-    → Sees before after seen reading (Err refusal) → Represents (with_node state p after) ((e, Refused refusal) ∷ s)
-sees_not state s e reply p seen reading before after refusal is h inside at left =
+pub sees_not : (nodes : ℕ) (state : WorldView) (s : List (Event × Reply)) (e : Event) (reply : ℕ
+    → Reply) (p seen reading : ℕ)
+    (before after : IssuerView) (refusal : Refusal) → IsSight nodes s e reply p seen reading
+    → Represents nodes state s → p < length state.nodes → slice_get state.nodes p ≡ Some before
+    → Sees before after seen reading (Err refusal)
+    → Represents nodes (with_node state p after) ((e, Refused refusal) ∷ s)
+sees_not nodes state s e reply p seen reading before after refusal is h inside at left =
     let expected : issue_refusal (expected_event (node_of p s) (last_stamp p s ∷ seen ∷ []) reading) ≡ Some refusal =
     ap (λ issuer. issue_refusal (expected_event issuer.node (issuer.node.last ∷ seen ∷ []) reading))
-    (sym (was state s p before h inside at)) ∙ left.0 in
-    subst (λ x. Represents (with_node state p x) ((e, Refused refusal) ∷ s)) (sym left.1)
-    (put-back state _ p before at (stays state s e refusal (is.left refusal)
-    (inl (is.expected ∙ sight-expected (world_nodes state) s p _ (there state s p h inside) ∙ expected)) h))
+    (sym (was nodes state s p before h inside at)) ∙ left.0 in
+    subst (λ x. Represents nodes (with_node state p x) ((e, Refused refusal) ∷ s)) (sym left.1)
+    (put-back nodes state _ p before at (stays nodes state s e refusal (is.left refusal)
+    (inl (is.expected ∙ sight-expected nodes s p _ (there nodes state s p h inside) ∙ expected)) h))
 
 pub fresh-length : (n : ℕ) → length (fresh_issuers n) ≡ n
 fresh-length zero = refl
@@ -461,12 +473,12 @@ fresh-at (suc n) k h =
     ]
 
 -- a new world
-pub starts : (n : ℕ) (core : StoreView) → core_nodes core ≡ n → CoreRepresents core []
-    → Represents (record { core = core; nodes = fresh_issuers n; sent_stamps = [] }) []
-starts n core is h = record {
+pub starts : (n : ℕ) (core : StoreView) → CoreRepresents core (Started n ∷ [])
+    → Represents n (record { core = core; nodes = fresh_issuers n; sent_stamps = [] }) []
+starts n core h = record {
   legal = tt;
   core = h;
-  many = fresh-length n ∙ sym is;
-  nodes = λ k lt. fresh-at n k (let e = fresh-length n in omega (arith, e));
+  many = (let e = fresh-length n in omega (arith, e));
+  each = λ k lt. fresh-at n k (let e = fresh-length n in omega (arith, e));
   sent_stamps = refl;
 }

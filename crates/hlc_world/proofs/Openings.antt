@@ -9,7 +9,7 @@ use Rattle.hlc_snapshot.proofs.RegisterLemmas.{stamp_in-push_cases, stamp_in-wit
 use Rattle.hlc_events.specs.declared.event.CoreEvent.{CoreEvent}
 use Rattle.hlc_core.specs.declared.reply.CoreReply.{CoreReply}
 use Rattle.hlc_core.specs.History.{step_of, with_step, past_of}
-use Rattle.hlc_core.specs.Past.{Step, Took, Opened, Closed as ClosedOf, Vacuumed as VacuumedOf}
+use Rattle.hlc_core.specs.Past.{Step, Started, Took, Opened, Closed as ClosedOf, Vacuumed as VacuumedOf}
 use Rattle.hlc_core.specs.Past.{PartVacuumed as PartVacuumedOf}
 use Rattle.hlc_core.specs.Past.{Joined as JoinedOf, opened, open_snapshots, stamp_of}
 use Rattle.hlc_world.specs.Schedule.{Event}
@@ -31,6 +31,7 @@ opening id (_ ∷ past) = opening id past
 opening-low : (past : List Step) (id stamp : ℕ) → opening id past ≡ Some stamp → id ≤ opened past
 opening-low [] id stamp is = absurd (cc)
 opening-low (Took item ∷ past) id stamp is = opening-low past id stamp is
+opening-low (Started nodes ∷ past) id stamp is = opening-low past id stamp is
 opening-low (ClosedOf other ∷ past) id stamp is = opening-low past id stamp is
 opening-low (VacuumedOf at ∷ past) id stamp is = opening-low past id stamp is
 opening-low (PartVacuumedOf at dropped ∷ past) id stamp is = opening-low past id stamp is
@@ -45,6 +46,7 @@ opening-low (Opened at ∷ past) id stamp is =
 
 opening-stays : (step : Step) (past : List Step) (id stamp : ℕ) → opening id past ≡ Some stamp
     → opening id (step ∷ past) ≡ Some stamp
+opening-stays (Started nodes) past id stamp is = is
 opening-stays (Took item) past id stamp is = is
 opening-stays (ClosedOf other) past id stamp is = is
 opening-stays (VacuumedOf at) past id stamp is = is
@@ -59,10 +61,11 @@ opening-step : (o : Option Step) (past : List Step) (id stamp : ℕ) → opening
 opening-step None past id stamp is = is
 opening-step (Some step) past id stamp is = opening-stays step past id stamp is
 
-opening-later : (o : Option (CoreEvent × CoreReply)) (h : List (CoreEvent × CoreReply)) (id stamp : ℕ)
-    → opening id (past_of h) ≡ Some stamp → opening id (past_of (with_entry o h)) ≡ Some stamp
-opening-later None h id stamp is = is
-opening-later (Some entry) h id stamp is = opening-step (step_of entry.0 entry.1) (past_of h) id stamp is
+opening-later : (nodes : ℕ) (o : Option (CoreEvent × CoreReply)) (h : List (CoreEvent × CoreReply)) (id stamp : ℕ)
+    → opening id (past_of nodes h) ≡ Some stamp → opening id (past_of nodes (with_entry o h)) ≡ Some stamp
+opening-later nodes None h id stamp is = is
+opening-later nodes (Some entry) h id stamp is =
+    opening-step (step_of entry.0 entry.1) (past_of nodes h) id stamp is
 
 opening-here : (past : List Step) (id stamp : ℕ) → id ≡ opened past + 1 → opening id (Opened stamp ∷ past) ≡ Some stamp
 opening-here past id stamp is = cond-true _ _ _ (eq-eqb _ _ (sym is))
@@ -70,6 +73,7 @@ opening-here past id stamp is = cond-true _ _ _ (eq-eqb _ _ (sym is))
 -- an open snapshot has the stamp of its opening
 open-opening : (past : List Step) (id stamp : ℕ) → stamp_of id past ≡ Some stamp → opening id past ≡ Some stamp
 open-opening [] id stamp is = absurd (cc)
+open-opening (Started nodes ∷ past) id stamp is = open-opening past id stamp is
 open-opening (Took item ∷ past) id stamp is = open-opening past id stamp is
 open-opening (VacuumedOf at ∷ past) id stamp is = open-opening past id stamp is
 open-opening (PartVacuumedOf at dropped ∷ past) id stamp is = open-opening past id stamp is
@@ -89,23 +93,24 @@ open-opening (ClosedOf other ∷ past) id stamp is =
 
 opened-here : (nodes : ℕ) (s : List (Event × Reply)) (event : Event) (id stamp : ℕ)
     → MayReply nodes s event (Snapshot id stamp)
-    → opening id (past_of (with_entry (share s event (Snapshot id stamp)) (store_history s))) ≡ Some stamp
-opened-here nodes s (OpenAt at) id stamp allowed = opening-here (core_past s) id stamp allowed.1.0
-opened-here nodes s OpenFloor id stamp allowed = opening-here (core_past s) id stamp allowed.1.0
+    → opening id (past_of nodes (with_entry (share s event (Snapshot id stamp)) (store_history s))) ≡ Some stamp
+opened-here nodes s (OpenAt at) id stamp allowed = opening-here (core_past nodes s) id stamp allowed.1.0
+opened-here nodes s OpenFloor id stamp allowed = opening-here (core_past nodes s) id stamp allowed.1.0
 opened-here nodes s _ id stamp allowed = absurd allowed.1
 
 -- the reply to an opening has the snapshot's stamp
 pub opened-found : (nodes : ℕ) (s : List (Event × Reply)) (turn : ℕ) (event : Event) (id stamp : ℕ) → IsLegal nodes s
-    → entry_at s turn ≡ Some (event, Snapshot id stamp) → opening id (core_past s) ≡ Some stamp
+    → entry_at s turn ≡ Some (event, Snapshot id stamp) → opening id (core_past nodes s) ≡ Some stamp
 opened-found nodes [] turn event id stamp legal at = absurd (cc)
 opened-found nodes (entry ∷ s) turn event id stamp legal at =
     elim (entry-cases entry s turn _ at) [
-      | inr there ↦ opening-later (share s entry.0 entry.1) (store_history s) id stamp
+      | inr there ↦ opening-later nodes (share s entry.0 entry.1) (store_history s) id stamp
           (opened-found nodes s turn event id stamp legal.1 there.1)
       | inl here ↦
           let allowed : MayReply nodes s event (Snapshot id stamp) = subst (λ y. MayReply nodes s y.0 y.1) here.1
           legal.0 in
-          subst (λ y. opening id (past_of (with_entry (share s y.0 y.1) (store_history s))) ≡ Some stamp) (sym here.1)
+          subst (λ y. opening id (past_of nodes (with_entry (share s y.0 y.1) (store_history s))) ≡ Some stamp)
+          (sym here.1)
           (opened-here nodes s event id stamp allowed)
     ]
 
@@ -117,19 +122,20 @@ seen-below (Some seen) last reading t h = (seen, refl, (sight-rises last seen re
 -- an observation lies above its snapshot's stamp
 pub observed-above : (nodes : ℕ) (s : List (Event × Reply)) (turn n r id t : ℕ)
     → IsLegal nodes s → entry_at s turn ≡ Some (Observe n r id, Observed t)
-    → (stamp : ℕ) × (opening id (core_past s) ≡ Some stamp) × (stamp < t)
+    → (stamp : ℕ) × (opening id (core_past nodes s) ≡ Some stamp) × (stamp < t)
 observed-above nodes [] turn n r id t legal at = absurd (cc)
 observed-above nodes (entry ∷ s) turn n r id t legal at =
     elim (entry-cases entry s turn _ at) [
       | inr there ↦
           let x = observed-above nodes s turn n r id t legal.1 there.1 in
-          (x.0, opening-later (share s entry.0 entry.1) (store_history s) id x.0 x.1, x.2)
+          (x.0, opening-later nodes (share s entry.0 entry.1) (store_history s) id x.0 x.1, x.2)
       | inl here ↦
           let allowed : MayReply nodes s (Observe n r id) (Observed t) =
           subst (λ y. MayReply nodes s y.0 y.1) here.1 legal.0 in
           let x = seen-below _ _ r t allowed.1 in (
             x.0,
-            opening-later (share s entry.0 entry.1) (store_history s) id x.0 (open-opening (core_past s) id x.0 x.1),
+            opening-later nodes (share s entry.0 entry.1) (store_history s) id x.0
+                (open-opening (core_past nodes s) id x.0 x.1),
             x.2,
           )
     ]

@@ -245,18 +245,18 @@ orderly-join many items lasts counts past node start h is =
 
 -- a node whose link is not refused exists
 pub on_link-none : (nodes : ℕ) (s : List (Event × Reply)) (p : ℕ) (rest : Option Refusal)
-    → on_link nodes s p rest ≡ None → (p < numbered nodes (core_past s)) × (rest ≡ None)
+    → on_link nodes s p rest ≡ None → (p < numbered (core_past nodes s)) × (rest ≡ None)
 on_link-none nodes s p rest h =
-    elim (cases_lt p (numbered nodes (core_past s))) [
-      | inl inside ↦ (inside, sym (cond-false _ _ _ (lt-leb (numbered nodes (core_past s)) p inside)) ∙ h)
+    elim (cases_lt p (numbered (core_past nodes s))) [
+      | inl inside ↦ (inside, sym (cond-false _ _ _ (lt-leb (numbered (core_past nodes s)) p inside)) ∙ h)
       | inr outside ↦ absurd
           (let e : Some NoNode ≡ None =
-          sym (cond-true _ _ _ (le-leb (numbered nodes (core_past s)) p outside)) ∙ h in cc)
+          sym (cond-true _ _ _ (le-leb (numbered (core_past nodes s)) p outside)) ∙ h in cc)
     ]
 
 -- a node at which nothing is refused exists and has not retired
 pub on_node-none : (nodes : ℕ) (s : List (Event × Reply)) (p : ℕ) (rest : Option Refusal)
-    → on_node nodes s p rest ≡ None → (p < numbered nodes (core_past s)) × (has_retired p s ≡ false) × (rest ≡ None)
+    → on_node nodes s p rest ≡ None → (p < numbered (core_past nodes s)) × (has_retired p s ≡ false) × (rest ≡ None)
 on_node-none nodes s p rest h =
     let there = on_link-none nodes s p _ h in
     elim (cases_Bool (has_retired p s)) [
@@ -333,54 +333,58 @@ no-core None h = refl
 no-core (Some fault) h = absurd (cc)
 
 -- an item whose delivery is not refused is the next one
-pub delivered : (nodes : ℕ) (past : List Step) (p k : ℕ) (item : Item) → item.node ≡ p → item.number ≡ k
-    → deliver_refusal nodes past (Some item) ≡ None → k ≡ count p past
-delivered nodes past p k item own number none =
-    let accepts : item_refusal nodes past item ≡ None = no-core (item_refusal nodes past item) none in
-    let link = sym (on_its_link nodes past item (inside nodes past item accepts)) ∙ accepts in
+pub delivered : (past : List Step) (p k : ℕ) (item : Item) → item.node ≡ p → item.number ≡ k
+    → deliver_refusal past (Some item) ≡ None → k ≡ count p past
+delivered past p k item own number none =
+    let accepts : item_refusal past item ≡ None = no-core (item_refusal past item) none in
+    let link = sym (on_its_link past item (inside past item accepts)) ∙ accepts in
     sym number
     ∙ (admissible (retired item.node past) (count item.node past) (head item.node past) item link).number
     ∙ ap (λ j. count j past) own
 
 -- the core's past after a delivery
-abbrev pub past_taken : ℕ → ℕ → Option Item → List (CoreEvent × CoreReply) → List Step
-past_taken p st o history = past_of (with_entry (paired (accepted p st o) (accepting o)) history)
+abbrev pub past_taken : ℕ → ℕ → ℕ → Option Item → List (CoreEvent × CoreReply) → List Step
+past_taken nodes p st o history = past_of nodes (with_entry (paired (accepted p st o) (accepting o)) history)
 
 -- the items of a schedule fit together, where the core's past after it is this one
-abbrev IsOrderlyAt : ℕ → List (Event × Reply) → List Step → Type 0
-IsOrderlyAt nodes s past =
-    Orderly (numbered nodes past) (λ n. issued n s) (λ n. last_stamp n s) (λ n. count n past) (λ n. head n past)
+abbrev IsOrderlyAt : List (Event × Reply) → List Step → Type 0
+IsOrderlyAt s past =
+    Orderly (numbered past) (λ n. issued n s) (λ n. last_stamp n s) (λ n. count n past) (λ n. head n past)
 
 -- and where it is the core's past of this schedule
 abbrev pub IsOrderly : ℕ → List (Event × Reply) → Type 0
-IsOrderly nodes s = IsOrderlyAt nodes s (core_past s)
+IsOrderly nodes s = IsOrderlyAt s (core_past nodes s)
 
 orderly-issued : (nodes : ℕ) (s : List (Event × Reply)) (p reading st num : ℕ) (body : Body) (rest : Option Refusal)
     → on_node nodes s p rest ≡ None → expected_issue (node_of p s) body reading ≡ Ok st → num ≡ length (issued p s)
-    → IsOrderly nodes s → Orderly (numbered nodes (core_past s))
+    → IsOrderly nodes s → Orderly (numbered (core_past nodes s))
     (λ n. with_item n (Some (an_item p num st body)) (issued n s)) (λ n. stamp_or n (Some (p, st)) (last_stamp n s))
-    (λ n. count n (core_past s)) (λ n. head n (core_past s))
+    (λ n. count n (core_past nodes s)) (λ n. head n (core_past nodes s))
 orderly-issued nodes s p reading st num body rest none expected is h =
     let f = issue-ok (node_of p s) body reading st expected in
-    orderly-issue (numbered nodes (core_past s)) (λ n. issued n s) (λ n. last_stamp n s) (λ n. count n (core_past s))
-    (λ n. head n (core_past s)) p st num body h (on_node-none nodes s p rest none).0 is f.1 f.0 f.2
+    orderly-issue (numbered (core_past nodes s)) (λ n. issued n s) (λ n. last_stamp n s)
+    (λ n. count n (core_past nodes s))
+    (λ n. head n (core_past nodes s)) p st num body h (on_node-none nodes s p rest none).0 is f.1 f.0 f.2
 
 orderly-stamped : (nodes : ℕ) (s : List (Event × Reply)) (p st : ℕ) (rest : Option Refusal)
     → on_node nodes s p rest ≡ None → last_stamp p s < st
-    → IsOrderly nodes s → Orderly (numbered nodes (core_past s)) (λ n. issued n s)
-    (λ n. stamp_or n (Some (p, st)) (last_stamp n s)) (λ n. count n (core_past s)) (λ n. head n (core_past s))
+    → IsOrderly nodes s → Orderly (numbered (core_past nodes s)) (λ n. issued n s)
+    (λ n. stamp_or n (Some (p, st)) (last_stamp n s)) (λ n. count n (core_past nodes s))
+    (λ n. head n (core_past nodes s))
 orderly-stamped nodes s p st rest none up h =
-    orderly-mark (numbered nodes (core_past s)) (λ n. issued n s) (λ n. last_stamp n s) (λ n. count n (core_past s))
-    (λ n. head n (core_past s)) p st h (on_node-none nodes s p rest none).0 up
+    orderly-mark (numbered (core_past nodes s)) (λ n. issued n s) (λ n. last_stamp n s)
+    (λ n. count n (core_past nodes s))
+    (λ n. head n (core_past nodes s)) p st h (on_node-none nodes s p rest none).0 up
 
 orderly-taken : (nodes : ℕ) (s : List (Event × Reply)) (p k st : ℕ) (o : Option Item)
-    → slice_get (issued p s) k ≡ o → deliver_refusal nodes (core_past s) o ≡ None → IsOrderly nodes s
-    → IsOrderlyAt nodes s (past_taken p st o (store_history s))
+    → slice_get (issued p s) k ≡ o → deliver_refusal (core_past nodes s) o ≡ None → IsOrderly nodes s
+    → IsOrderlyAt s (past_taken nodes p st o (store_history s))
 orderly-taken nodes s p k st None at none h = h
 orderly-taken nodes s p k st (Some item) at none h =
     let is = h.each p k item at in
-    orderly-took (numbered nodes (core_past s)) (λ n. issued n s) (λ n. last_stamp n s) (core_past s) p k item h at
-    (delivered nodes (core_past s) p k item is.node is.number none)
+    orderly-took (numbered (core_past nodes s)) (λ n. issued n s) (λ n. last_stamp n s) (core_past nodes s) p k item h
+    at
+    (delivered (core_past nodes s) p k item is.node is.number none)
 
 orderly-entry : (nodes : ℕ) (s : List (Event × Reply)) (event : Event) (reply : Reply) → MayReply nodes s event reply
     → IsOrderly nodes s → IsOrderly nodes ((event, reply) ∷ s)
@@ -393,8 +397,9 @@ orderly-entry nodes s (Report p reading) (Stamped st num) allowed h =
 orderly-entry nodes s (Retire p reading) (Stamped st num) allowed h =
     orderly-issued nodes s p reading st num a_retire _ allowed.0 allowed.1.0 allowed.1.1 h
 orderly-entry nodes s Join (Joined node start) allowed h =
-    orderly-join (numbered nodes (core_past s)) (λ n. issued n s) (λ n. last_stamp n s) (λ n. count n (core_past s))
-    (core_past s) node start h allowed.1.0
+    orderly-join (numbered (core_past nodes s)) (λ n. issued n s) (λ n. last_stamp n s)
+    (λ n. count n (core_past nodes s))
+    (core_past nodes s) node start h allowed.1.0
 orderly-entry nodes s (Send p reading) (Sent st num) allowed h =
     orderly-stamped nodes s p st _ allowed.0 (stamp-rises _ reading st allowed.1.0) h
 orderly-entry nodes s (Receive p reading number) (Received st) allowed h =

@@ -81,10 +81,10 @@ room-rise (Some snapshot_fault.TooManySnapshots) head e = absurd (cc)
 room-rise (Some snapshot_fault.NumbersSpent) head e = absurd (cc)
 room-rise (Some snapshot_fault.NoMemory) head e = absurd (cc)
 
-open-rise : (nodes : ℕ) (past : List Step) (stamp : ℕ) → IsRise (core_refusal (open_refusal nodes past stamp))
-open-rise nodes past stamp head e =
-    elim (cases_Bool (nat_lt (floor nodes past) stamp)) [
-      | inl above ↦ absurd (let g : Some (Store (AboveFloor (floor nodes past))) ≡ Some (StampNotRising head) =
+open-rise : (past : List Step) (stamp : ℕ) → IsRise (core_refusal (open_refusal past stamp))
+open-rise past stamp head e =
+    elim (cases_Bool (nat_lt (floor past) stamp)) [
+      | inl above ↦ absurd (let g : Some (Store (AboveFloor (floor past))) ≡ Some (StampNotRising head) =
           ap core_refusal (sym (cond-true _ _ _ above)) ∙ e in cc)
       | inr low ↦
           let e1 = ap core_refusal (sym (cond-false _ _ _ low)) ∙ e in
@@ -100,9 +100,9 @@ snapshot-rise : (o : Option ℕ) → IsRise (core_refusal (list_refusal o))
 snapshot-rise None head e = absurd (cc)
 snapshot-rise (Some stamp) head e = absurd (cc)
 
-join-rise : (nodes : ℕ) (past : List Step) → IsRise (core_refusal (join_refusal nodes past))
-join-rise nodes past head e =
-    elim (cases_Bool (nat_le MAX_NODES (numbered nodes past))) [
+join-rise : (past : List Step) → IsRise (core_refusal (join_refusal past))
+join-rise past head e =
+    elim (cases_Bool (nat_le MAX_NODES (numbered past))) [
       | inl full ↦ absurd (let g : Some (Store (joining TooManyNodes)) ≡ Some (StampNotRising head) =
           ap core_refusal (sym (cond-true _ _ _ full)) ∙ e in cc)
       | inr room ↦ absurd
@@ -112,7 +112,7 @@ join-rise nodes past head e =
 link-rise : (nodes : ℕ) (s : List (Event × Reply)) (p : ℕ) (rest : Option Refusal) → IsRise rest
     → IsRise (on_link nodes s p rest)
 link-rise nodes s p rest h head e =
-    elim (cases_Bool (nat_le (numbered nodes (core_past s)) p)) [
+    elim (cases_Bool (nat_le (numbered (core_past nodes s)) p)) [
       | inl outside ↦
           absurd (let g : Some NoNode ≡ Some (StampNotRising head) = sym (cond-true _ _ _ outside) ∙ e in cc)
       | inr inside ↦ h head (sym (cond-false _ _ _ inside) ∙ e)
@@ -138,22 +138,23 @@ expected-rise nodes s (Report p reading) numbers =
     inside-rise nodes s p _ (issue-rise (expected_issue (node_of p s) a_report reading))
 expected-rise nodes s (Retire p reading) numbers =
     inside-rise nodes s p _ (issue-rise (expected_issue (node_of p s) a_retire reading))
-expected-rise nodes s Join numbers = join-rise nodes (core_past s)
+expected-rise nodes s Join numbers = join-rise (core_past nodes s)
 expected-rise nodes s (Send p reading) numbers =
     inside-rise nodes s p _ (stamp-rise (expected_stamp (last_stamp p s ∷ []) reading))
 expected-rise nodes s (Receive p reading k) numbers =
     inside-rise nodes s p _ (receive-rise (message_at k s) (last_stamp p s) reading)
 expected-rise nodes s (Deliver p k) numbers =
     subst IsRise (sym (numbers p k))
-    (link-rise nodes s p _ (number-rise (item_at p k s) (retired p (core_past s)) k (count p (core_past s))))
+    (link-rise nodes s p _
+    (number-rise (item_at p k s) (retired p (core_past nodes s)) k (count p (core_past nodes s))))
 expected-rise nodes s (Observe p reading id) numbers =
-    inside-rise nodes s p _ (observe-rise (stamp_of id (core_past s)) (last_stamp p s) reading)
-expected-rise nodes s (OpenAt stamp) numbers = open-rise nodes (core_past s) stamp
+    inside-rise nodes s p _ (observe-rise (stamp_of id (core_past nodes s)) (last_stamp p s) reading)
+expected-rise nodes s (OpenAt stamp) numbers = open-rise (core_past nodes s) stamp
 expected-rise nodes s OpenFloor numbers = room-rise
-    (room_in (length (open_snapshots (core_past s))) (opened (core_past s)))
-expected-rise nodes s (Read id key) numbers = snapshot-rise (stamp_of id (core_past s))
-expected-rise nodes s (ListAll id) numbers = snapshot-rise (stamp_of id (core_past s))
-expected-rise nodes s (Close id) numbers = snapshot-rise (stamp_of id (core_past s))
+    (room_in (length (open_snapshots (core_past nodes s))) (opened (core_past nodes s)))
+expected-rise nodes s (Read id key) numbers = snapshot-rise (stamp_of id (core_past nodes s))
+expected-rise nodes s (ListAll id) numbers = snapshot-rise (stamp_of id (core_past nodes s))
+expected-rise nodes s (Close id) numbers = snapshot-rise (stamp_of id (core_past nodes s))
 expected-rise nodes s Floor numbers = λ head e. absurd (cc)
 expected-rise nodes s Vacuum numbers = λ head e. absurd (cc)
 expected-rise nodes s Rows numbers = λ head e. absurd (cc)

@@ -64,7 +64,7 @@ core_refusal (Some fault) = Some (of_core fault)
 
 -- the link of an unknown node is refused before all else
 abbrev pub on_link : ℕ → List (Event × Reply) → ℕ → Option Refusal → Option Refusal
-on_link nodes schedule node rest = if nat_le (numbered nodes (core_past schedule)) node then Some NoNode else rest
+on_link nodes schedule node rest = if nat_le (numbered (core_past nodes schedule)) node then Some NoNode else rest
 
 -- an event of an unknown node, and then one of a node that retired, is refused before all else
 abbrev pub on_node : ℕ → List (Event × Reply) → ℕ → Option Refusal → Option Refusal
@@ -72,14 +72,14 @@ on_node nodes schedule node rest =
     on_link nodes schedule node (if has_retired node schedule then Some (Node node_fault.Retired) else rest)
 
 -- why the store refuses what it is asked, if it does
-abbrev pub store_refusal : ℕ → List Step → Option CoreEvent → Option Refusal
-store_refusal nodes past None = None
-store_refusal nodes past (Some event) = core_refusal (expected_of_store nodes past event)
+abbrev pub store_refusal : List Step → Option CoreEvent → Option Refusal
+store_refusal past None = None
+store_refusal past (Some event) = core_refusal (expected_of_store past event)
 
 -- an item that was not issued can't be delivered, and the store may refuse one that was
-abbrev pub deliver_refusal : ℕ → List Step → Option Item → Option Refusal
-deliver_refusal nodes past None = Some NoItem
-deliver_refusal nodes past (Some item) = store_refusal nodes past (Some (Accept item))
+abbrev pub deliver_refusal : List Step → Option Item → Option Refusal
+deliver_refusal past None = Some NoItem
+deliver_refusal past (Some item) = store_refusal past (Some (Accept item))
 
 -- the first expected refusal, apart from out of memory; for an event that asks something of the store, the refusal that
 -- the store is expected to return
@@ -98,10 +98,11 @@ expected_refusal nodes schedule (Send node reading) =
 expected_refusal nodes schedule (Receive node reading message) =
     on_node nodes schedule node (receive_refusal (message_at message schedule) (last_stamp node schedule) reading)
 expected_refusal nodes schedule (Observe node reading id) =
-    on_node nodes schedule node (observe_refusal (stamp_of id (core_past schedule)) (last_stamp node schedule) reading)
+    on_node nodes schedule node
+    (observe_refusal (stamp_of id (core_past nodes schedule)) (last_stamp node schedule) reading)
 expected_refusal nodes schedule (Deliver node number) =
-    on_link nodes schedule node (deliver_refusal nodes (core_past schedule) (item_at node number schedule))
-expected_refusal nodes schedule event = store_refusal nodes (core_past schedule) (asked schedule event)
+    on_link nodes schedule node (deliver_refusal (core_past nodes schedule) (item_at node number schedule))
+expected_refusal nodes schedule event = store_refusal (core_past nodes schedule) (asked schedule event)
 
 -- the stamp of the receipt of a message
 abbrev pub IsReceived : Option Message → ℕ → ℕ → ℕ → Type 0
@@ -114,9 +115,9 @@ IsObserved None last reading stamp = ⊥
 IsObserved (Some seen) last reading stamp = expected_stamp (last ∷ seen ∷ []) reading ≡ Ok stamp
 
 -- the store is expected to return this reply to what it was asked
-abbrev pub IsExpectedOfStore : ℕ → List Step → Option (CoreEvent × CoreReply) → Type 0
-IsExpectedOfStore nodes past None = ⊥
-IsExpectedOfStore nodes past (Some entry) = IsExpectedStoreReply nodes past entry.0 entry.1
+abbrev pub IsExpectedOfStore : List Step → Option (CoreEvent × CoreReply) → Type 0
+IsExpectedOfStore past None = ⊥
+IsExpectedOfStore past (Some entry) = IsExpectedStoreReply past entry.0 entry.1
 
 -- the expected reply where no refusal is expected; for an event that asks something of the store, a reply that says
 -- what the store is expected to return
@@ -136,10 +137,10 @@ IsExpectedReply nodes schedule (Send node reading) (Sent stamp number) =
 IsExpectedReply nodes schedule (Receive node reading message) (Received stamp) =
     IsReceived (message_at message schedule) (last_stamp node schedule) reading stamp
 IsExpectedReply nodes schedule (Observe node reading id) (Observed stamp) =
-    IsObserved (stamp_of id (core_past schedule)) (last_stamp node schedule) reading stamp
-IsExpectedReply nodes schedule Floor (FloorIs stamp) = stamp ≡ floor nodes (core_past schedule)
-IsExpectedReply nodes schedule Rows (RowsAre count) = IsStoredCount (core_past schedule) count
-IsExpectedReply nodes schedule event reply = IsExpectedOfStore nodes (core_past schedule) (share schedule event reply)
+    IsObserved (stamp_of id (core_past nodes schedule)) (last_stamp node schedule) reading stamp
+IsExpectedReply nodes schedule Floor (FloorIs stamp) = stamp ≡ floor (core_past nodes schedule)
+IsExpectedReply nodes schedule Rows (RowsAre count) = IsStoredCount (core_past nodes schedule) count
+IsExpectedReply nodes schedule event reply = IsExpectedOfStore (core_past nodes schedule) (share schedule event reply)
 
 -- the store may run out of memory for what it is asked
 abbrev pub StoreMayRunOut : List Step → Option CoreEvent → Type 0
@@ -147,20 +148,20 @@ StoreMayRunOut past None = ⊥
 StoreMayRunOut past (Some event) = CoreMayRunOut past event
 
 -- the event may run out of memory: it makes an item or a message, or the store may need memory for what the event asks
-abbrev pub MayRunOutOfMemory : List (Event × Reply) → Event → Type 0
-MayRunOutOfMemory schedule (Write node reading key value) = ⊤
-MayRunOutOfMemory schedule (Delete node reading key) = ⊤
-MayRunOutOfMemory schedule (Report node reading) = ⊤
-MayRunOutOfMemory schedule (Retire node reading) = ⊤
-MayRunOutOfMemory schedule (Send node reading) = ⊤
-MayRunOutOfMemory schedule event = StoreMayRunOut (core_past schedule) (asked schedule event)
+abbrev pub MayRunOutOfMemory : ℕ → List (Event × Reply) → Event → Type 0
+MayRunOutOfMemory nodes schedule (Write node reading key value) = ⊤
+MayRunOutOfMemory nodes schedule (Delete node reading key) = ⊤
+MayRunOutOfMemory nodes schedule (Report node reading) = ⊤
+MayRunOutOfMemory nodes schedule (Retire node reading) = ⊤
+MayRunOutOfMemory nodes schedule (Send node reading) = ⊤
+MayRunOutOfMemory nodes schedule event = StoreMayRunOut (core_past nodes schedule) (asked schedule event)
 
 -- the reply is the expected refusal; or, where none is expected, an expected reply, or out of memory where the event
 -- may need memory
 abbrev pub MayReply : ℕ → List (Event × Reply) → Event → Reply → Type 0
 MayReply nodes schedule event (Refused refusal) =
     (expected_refusal nodes schedule event ≡ Some refusal)
-    ⊎ ((expected_refusal nodes schedule event ≡ None) × (refusal ≡ NoMemory) × MayRunOutOfMemory schedule event)
+    ⊎ ((expected_refusal nodes schedule event ≡ None) × (refusal ≡ NoMemory) × MayRunOutOfMemory nodes schedule event)
 MayReply nodes schedule event reply = (expected_refusal nodes schedule event ≡ None)
     × IsExpectedReply nodes schedule event reply
 
@@ -197,5 +198,5 @@ GoesByNumber nodes schedule =
     (node number : ℕ)
     → expected_refusal nodes schedule (Deliver node number)
     ≡ on_link nodes schedule node
-    (number_refusal (item_at node number schedule) (retired node (core_past schedule)) number
-    (count node (core_past schedule)))
+    (number_refusal (item_at node number schedule) (retired node (core_past nodes schedule)) number
+    (count node (core_past nodes schedule)))

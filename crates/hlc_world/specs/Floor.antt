@@ -11,20 +11,20 @@ use Rattle.hlc_world.specs.Before.{entry_at, HappenedBefore}
 abbrev pub IsIssued : Item → List (Event × Reply) → Type 0
 IsIssued item schedule = (n : ℕ) × Contains (issued n schedule) item
 
--- the store accepted the item
-abbrev pub IsAccepted : Item → List (Event × Reply) → Type 0
-IsAccepted item schedule = Contains (core_past schedule) (Took item)
+-- the store accepted the item, in a world with this many nodes at the start
+abbrev pub IsAccepted : ℕ → Item → List (Event × Reply) → Type 0
+IsAccepted nodes item schedule = Contains (core_past nodes schedule) (Took item)
 
 -- every issued item at or below the floor was accepted, so what is read there is final
 abbrev pub IsComplete : ℕ → List (Event × Reply) → Type 0
-IsComplete nodes schedule = (item : Item) → IsIssued item schedule → item.stamp ≤ floor nodes (core_past schedule)
-    → IsAccepted item schedule
+IsComplete nodes schedule = (item : Item) → IsIssued item schedule → item.stamp ≤ floor (core_past nodes schedule)
+    → IsAccepted nodes item schedule
 
 -- no clock of a node whose last item was not yet accepted is below the floor
 abbrev pub IsBelowClocks : ℕ → List (Event × Reply) → Type 0
 IsBelowClocks nodes schedule =
-    (n : ℕ) → n < numbered nodes (core_past schedule) → retired n (core_past schedule) ≡ false
-    → floor nodes (core_past schedule) ≤ last_stamp n schedule
+    (n : ℕ) → n < numbered (core_past nodes schedule) → retired n (core_past nodes schedule) ≡ false
+    → floor (core_past nodes schedule) ≤ last_stamp n schedule
 
 -- the event of this turn issued the item
 pub record IsIssuedAt (schedule : List (Event × Reply)) (turn : ℕ) (item : Item) : Type 0 where
@@ -34,10 +34,10 @@ pub record IsIssuedAt (schedule : List (Event × Reply)) (turn : ℕ) (item : It
 
 -- The past of an open snapshot is whole: where an item is accepted and at or below the snapshot's stamp, every issued
 -- item that happened before it is accepted and at or below that stamp as well.
-abbrev pub IsClosed : List (Event × Reply) → Type 0
-IsClosed schedule =
+abbrev pub IsClosed : ℕ → List (Event × Reply) → Type 0
+IsClosed nodes schedule =
     (id stamp first later : ℕ) (item earlier : Item)
-    → stamp_of id (core_past schedule) ≡ Some stamp
-    → IsIssuedAt schedule later item → IsAccepted item schedule → item.stamp ≤ stamp
+    → stamp_of id (core_past nodes schedule) ≡ Some stamp
+    → IsIssuedAt schedule later item → IsAccepted nodes item schedule → item.stamp ≤ stamp
     → HappenedBefore schedule first later → IsIssuedAt schedule first earlier
-    → IsAccepted earlier schedule × (earlier.stamp ≤ stamp)
+    → IsAccepted nodes earlier schedule × (earlier.stamp ≤ stamp)

@@ -20,8 +20,9 @@ MomentsAreReported schedule =
     → IsStoreMoment (store_history schedule) (store_history before)
 
 -- at each moment what can be read is closed under happened-before
-abbrev pub ReadsAreClosed : List (Event × Reply) → Type 0
-ReadsAreClosed schedule = (before : List (Event × Reply)) → IsMoment schedule before → IsClosed before
+abbrev pub ReadsAreClosed : ℕ → List (Event × Reply) → Type 0
+ReadsAreClosed nodes schedule =
+    (before : List (Event × Reply)) → IsMoment schedule before → IsClosed nodes before
 
 -- All of this is true of a schedule of this many nodes, after which these rows are stored. The store's reads returned
 -- the newest accepted values, no answer of a snapshot changed, and vacuums were the least and the cheapest, and left
@@ -29,4 +30,4 @@ ReadsAreClosed schedule = (before : List (Event × Reply)) → IsMoment schedule
 pub record IsFaithful (nodes : ℕ) (schedule : List (Event × Reply)) (rows : List Row) : Type 0 where
   pub store : IsStoreFaithful nodes (store_history schedule) rows
   pub moments : MomentsAreReported schedule
-  pub closed : ReadsAreClosed schedule
+  pub closed : ReadsAreClosed nodes schedule

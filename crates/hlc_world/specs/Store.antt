@@ -72,6 +72,6 @@ abbrev pub store_history : List (Event × Reply) → List (CoreEvent × CoreRepl
 store_history [] = []
 store_history (entry ∷ schedule) = with_entry (share schedule entry.0 entry.1) (store_history schedule)
 
--- what took place in the core, the last step first
-abbrev pub core_past : List (Event × Reply) → List Step
-core_past schedule = past_of (store_history schedule)
+-- what took place in the core of a world that started with this many nodes, the last step first
+abbrev pub core_past : ℕ → List (Event × Reply) → List Step
+core_past nodes schedule = past_of nodes (store_history schedule)

@@ -5,7 +5,7 @@ use Rattle.hlc_node.specs.declared.item.Item.{Item}
 use Rattle.hlc_node.specs.declared.item.Body.{Body}
 use Rattle.hlc_node.specs.declared.item.Message.{Message}
 use Rattle.hlc_node.specs.Node.{NodeView, stamped, expected_event, expected_issue, next_item, after_issue}
-use Rattle.hlc_core.specs.StoreView.{StoreView, nodes as core_nodes, Represents as CoreRepresents}
+use Rattle.hlc_core.specs.StoreView.{StoreView, Represents as CoreRepresents}
 use Rattle.hlc_core.specs.Past.{numbered}
 use Rattle.hlc_core.specs.Calls.{new_refusal}
 use Rattle.hlc_world.specs.declared.reply.Reply.{Reply}
@@ -30,16 +30,12 @@ pub record WorldView : Type 0 where
   pub nodes : List IssuerView
   pub sent_stamps : List ℕ
 
--- how many nodes there were at the start
-abbrev pub world_nodes : WorldView → ℕ
-world_nodes state = core_nodes state.core
-
--- the world represents the schedule
-pub record Represents (state : WorldView) (schedule : List (Event × Reply)) : Type 0 where
-  pub legal : IsLegal (world_nodes state) schedule
-  pub core : CoreRepresents state.core (core_past schedule)
-  pub many : length state.nodes ≡ numbered (world_nodes state) (core_past schedule)
-  pub nodes : (n : ℕ) → n < length state.nodes
+-- the world had this many nodes at the start and represents the schedule
+pub record Represents (nodes : ℕ) (state : WorldView) (schedule : List (Event × Reply)) : Type 0 where
+  pub legal : IsLegal nodes schedule
+  pub core : CoreRepresents state.core (core_past nodes schedule)
+  pub many : length state.nodes ≡ numbered (core_past nodes schedule)
+  pub each : (n : ℕ) → n < length state.nodes
       → slice_get state.nodes n ≡ Some (record { node = node_of n schedule; issued = issued n schedule })
   pub sent_stamps : state.sent_stamps ≡ stamps_of (sent schedule)
 
@@ -52,7 +48,7 @@ fresh_issuers (suc n) =
 -- a new world has these nodes and represents the empty schedule; or the number of nodes is refused, or it is out of
 -- memory
 abbrev pub Makes : ℕ → Result WorldView Refusal → Type 0
-Makes count (Ok world) = (new_refusal count ≡ None) × (world_nodes world ≡ count) × Represents world []
+Makes count (Ok world) = (new_refusal count ≡ None) × Represents count world []
 Makes count (Err refusal) = MatchOption (new_refusal count) (refusal ≡ NoMemory) (λ fault. refusal ≡ of_core fault)
 
 -- a node issued an item with this body and the node's next number; or the node is unchanged, and the refusal is the

@@ -6,7 +6,7 @@ ghost use Rattle.hlc_world.specs.Expected.{IsLegal, GoesByNumber};
 ghost use Rattle.hlc_world.specs.Before.{HappenedBefore, IsStamped};
 ghost use Rattle.hlc_world.specs.Floor.{IsComplete, IsBelowClocks, IsClosed};
 ghost use Rattle.hlc_world.specs.Headline.{IsFaithful};
-ghost use Rattle.hlc_world.specs.WorldView.{WorldView, Represents, world_nodes};
+ghost use Rattle.hlc_world.specs.WorldView.{WorldView, Represents};
 
 /// In a legal schedule, which is one where each reply was allowed and so each one that a world represents: if an event
 /// happened before another (Lamport 1978), its stamp is the lesser.
@@ -40,13 +40,13 @@ pub fn no_clock_is_below_the_floor()
 /// there too.
 pub fn open_snapshots_are_closed()
     ensures { (nodes : ℕ) (schedule : List (AnEvent × AReply)) → IsLegal nodes schedule
-        → IsClosed schedule }
+        → IsClosed nodes schedule }
 {}
 
 /// A world is faithful to each schedule that it represents. Its store is faithful to its history: reads returned the
 /// newest accepted values, no answer of a snapshot changed, vacuums were the least and the cheapest, and left the
 /// fewest rows. That history has each moment of the schedule, and what can be read is closed under happened-before.
 pub fn worlds_are_faithful()
-    ensures { (state : WorldView) (schedule : List (AnEvent × AReply)) → Represents state schedule
-        → IsFaithful (world_nodes state) schedule state.core.rows }
+    ensures { (nodes : ℕ) (state : WorldView) (schedule : List (AnEvent × AReply))
+        → Represents nodes state schedule → IsFaithful nodes schedule state.core.rows }
 {}

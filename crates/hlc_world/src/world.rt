@@ -3,14 +3,14 @@ ghost use Rattle.std.specs.Prelude.{◌≡◌, ◌≢◌, ◌<◌, ℕ, [], ◌�
 ghost use Rattle.std.specs.Prelude.{length, option_copied};
 ghost use Rattle.hlc_intake.specs.declared.intake.LinkFault.TheVariants.{StampNotRising};
 ghost use Rattle.hlc_core.specs.Past.{Step, Took, item_refusal};
-ghost use Rattle.hlc_core.specs.StoreView.{nodes, Represents as CoreRepresents};
+ghost use Rattle.hlc_core.specs.StoreView.{Represents as CoreRepresents};
 ghost use Rattle.hlc_core.specs.Calls.{IsRefusal, IsWrite};
 ghost use Rattle.hlc_world.specs.Schedule.{Event as AnEvent, issuing, after};
 ghost use Rattle.hlc_world.specs.Before.{HappenedBefore, IsStamped};
 ghost use Rattle.hlc_world.specs.Expected.{MayReply, IsQuestion, IsRefused, GoesByNumber};
 ghost use Rattle.hlc_world.specs.Floor.{IsComplete, IsBelowClocks, IsClosed};
 ghost use Rattle.hlc_world.specs.Headline.{IsFaithful};
-ghost use Rattle.hlc_world.specs.WorldView.{Represents, Makes, world_nodes, fresh_issuers};
+ghost use Rattle.hlc_world.specs.WorldView.{Represents, Makes, fresh_issuers};
 ghost use Rattle.hlc_world.specs.declared.reply.Reply.{Reply as AReply};
 
 use crate::content::Content;
@@ -69,30 +69,30 @@ impl World {
     /// and Rows change nothing, whatever the reply.
     #[inline(always)]
     pub fn step(&mut self, event: Event) -> Reply
-        ensures represents { (schedule : List (AnEvent × AReply)) → Represents self.old schedule
-            → Represents self.new ((event, result) ∷ schedule) }
-        ensures allowed { (schedule : List (AnEvent × AReply)) → Represents self.old schedule
-            → MayReply (world_nodes self.old) schedule event result }
-        ensures ordered { (schedule : List (AnEvent × AReply)) (first later : ℕ) (n a m b : ℕ)
-            → Represents self.old schedule → HappenedBefore ((event, result) ∷ schedule) first later
+        ensures represents { (nodes : ℕ) (schedule : List (AnEvent × AReply)) → Represents nodes self.old schedule
+            → Represents nodes self.new ((event, result) ∷ schedule) }
+        ensures allowed { (nodes : ℕ) (schedule : List (AnEvent × AReply)) → Represents nodes self.old schedule
+            → MayReply nodes schedule event result }
+        ensures ordered { (nodes : ℕ) (schedule : List (AnEvent × AReply)) (first later : ℕ)
+            (n a m b : ℕ) → Represents nodes self.old schedule
+            → HappenedBefore ((event, result) ∷ schedule) first later
             → IsStamped ((event, result) ∷ schedule) first n a
             → IsStamped ((event, result) ∷ schedule) later m b → a < b }
-        ensures complete { (schedule : List (AnEvent × AReply)) → Represents self.old schedule
-            → IsComplete (world_nodes self.old) ((event, result) ∷ schedule) }
-        ensures clocks { (schedule : List (AnEvent × AReply)) → Represents self.old schedule
-            → IsBelowClocks (world_nodes self.old) ((event, result) ∷ schedule) }
-        ensures closed { (schedule : List (AnEvent × AReply)) → Represents self.old schedule
-            → IsClosed ((event, result) ∷ schedule) }
-        ensures faithful { (schedule : List (AnEvent × AReply)) → Represents self.old schedule
-            → IsFaithful (world_nodes self.old) ((event, result) ∷ schedule) self.new.core.rows }
-        ensures rising { (schedule : List (AnEvent × AReply)) (head : ℕ)
-            → Represents self.old schedule
+        ensures complete { (nodes : ℕ) (schedule : List (AnEvent × AReply)) → Represents nodes self.old schedule
+            → IsComplete nodes ((event, result) ∷ schedule) }
+        ensures clocks { (nodes : ℕ) (schedule : List (AnEvent × AReply)) → Represents nodes self.old schedule
+            → IsBelowClocks nodes ((event, result) ∷ schedule) }
+        ensures closed { (nodes : ℕ) (schedule : List (AnEvent × AReply)) → Represents nodes self.old schedule
+            → IsClosed nodes ((event, result) ∷ schedule) }
+        ensures faithful { (nodes : ℕ) (schedule : List (AnEvent × AReply)) → Represents nodes self.old schedule
+            → IsFaithful nodes ((event, result) ∷ schedule) self.new.core.rows }
+        ensures rising { (nodes : ℕ) (schedule : List (AnEvent × AReply)) (head : ℕ)
+            → Represents nodes self.old schedule
             → result ≢ Reply.Refused (Refusal.Store (CoreFault.Link (StampNotRising head))) }
-        ensures numbered { (schedule : List (AnEvent × AReply)) → Represents self.old schedule
-            → GoesByNumber (world_nodes self.old) schedule }
+        ensures numbered { (nodes : ℕ) (schedule : List (AnEvent × AReply)) → Represents nodes self.old schedule
+            → GoesByNumber nodes schedule }
         ensures asked { IsQuestion event → self.new ≡ self.old }
         ensures unchanged { IsRefused result → self.new ≡ self.old }
-        ensures nodes { world_nodes self.new ≡ world_nodes self.old }
     {
         self.take_place(event)
     }
@@ -101,11 +101,11 @@ impl World {
     /// stored value and not as a copy, so that it takes no memory.
     #[inline]
     pub fn look(&self, id: u64, key: &[u8]) -> Result<Option<&[u8]>, Refusal>
-        ensures { (schedule : List (AnEvent × AReply)) → Represents self.now schedule
+        ensures { (nodes : ℕ) (schedule : List (AnEvent × AReply)) → Represents nodes self.now schedule
             → MatchResult result
-            (λ value. Represents self.now
+            (λ value. Represents nodes self.now
             ((Event.Read id key.now, Reply.Answer (option_copied value)) ∷ schedule))
-            (λ refusal. Represents self.now
+            (λ refusal. Represents nodes self.now
             ((Event.Read id key.now, Reply.Refused refusal) ∷ schedule)) }
     {
         let found = self.core.read(id, key);
@@ -120,16 +120,13 @@ impl World {
     pub fn run(&mut self, events: Vec<Event>) -> Result<Vec<Reply>, (NoMemory, Vec<Event>)>
         ensures ok { IfOk result
             (λ replies. (length replies.items ≡ length events.items)
-            × ((schedule : List (AnEvent × AReply))
-            → Represents self.old schedule
-            → Represents self.new (after events.items replies.items schedule))) }
+            × ((nodes : ℕ) (schedule : List (AnEvent × AReply)) → Represents nodes self.old schedule
+            → Represents nodes self.new (after events.items replies.items schedule))) }
         ensures faithful { IfOk result
-            (λ replies. (schedule : List (AnEvent × AReply)) → Represents self.old schedule
-            → IsFaithful (world_nodes self.old)
-            (after events.items replies.items schedule) self.new.core.rows) }
+            (λ replies. (nodes : ℕ) (schedule : List (AnEvent × AReply)) → Represents nodes self.old schedule
+            → IsFaithful nodes (after events.items replies.items schedule) self.new.core.rows) }
         ensures err { IfErr result
             (λ refused. (refused.1.items ≡ events.items) × (self.new ≡ self.old)) }
-        ensures nodes { world_nodes self.new ≡ world_nodes self.old }
     {
         let mut replies = match Vec::with_capacity(self.alloc, events.len()) {
             Ok(replies) => replies,
@@ -142,73 +139,71 @@ impl World {
         Ok(replies)
     }
 
-    /// Opens a snapshot at a stamp, and returns the reply.
-    fn open_at(&mut self, stamp: Stamp) -> Reply
-        ensures represents { (schedule : List (AnEvent × AReply)) → Represents self.old schedule
-            → Represents self.new ((Event.OpenAt stamp, result) ∷ schedule) }
+    #[inline(always)]
+    fn take_place(&mut self, event: Event) -> Reply
+        ensures represents { (nodes : ℕ) (schedule : List (AnEvent × AReply)) → Represents nodes self.old schedule
+            → Represents nodes self.new ((event, result) ∷ schedule) }
+        ensures asked { IsQuestion event → self.new ≡ self.old }
         ensures unchanged { IsRefused result → self.new ≡ self.old }
-        ensures nodes { world_nodes self.new ≡ world_nodes self.old }
     {
-        match self.core.open(stamp) {
-            Ok(id) => Reply::Snapshot { id, stamp },
-            Err(fault) => Reply::Refused(Refusal::from(fault)),
-        }
-    }
-
-    /// Opens a snapshot at the floor, and returns the reply.
-    fn open_floor(&mut self) -> Reply
-        ensures represents { (schedule : List (AnEvent × AReply)) → Represents self.old schedule
-            → Represents self.new ((Event.OpenFloor, result) ∷ schedule) }
-        ensures unchanged { IsRefused result → self.new ≡ self.old }
-        ensures nodes { world_nodes self.new ≡ world_nodes self.old }
-    {
-        match self.core.open_floor() {
-            Ok((id, stamp)) => Reply::Snapshot { id, stamp },
-            Err(fault) => Reply::Refused(Refusal::from(fault)),
-        }
-    }
-
-    /// Returns the reply to a List.
-    fn list(&self, id: u64) -> Reply
-        ensures { (schedule : List (AnEvent × AReply)) → Represents self.now schedule
-            → Represents self.now ((Event.List id, result) ∷ schedule) }
-    {
-        match self.core.list(id) {
-            Ok(pairs) => Reply::Listing { pairs },
-            Err(fault) => Reply::Refused(Refusal::from(fault)),
-        }
-    }
-
-    /// Closes a snapshot, and returns the reply.
-    fn close(&mut self, id: u64) -> Reply
-        ensures represents { (schedule : List (AnEvent × AReply)) → Represents self.old schedule
-            → Represents self.new ((Event.Close id, result) ∷ schedule) }
-        ensures unchanged { IsRefused result → self.new ≡ self.old }
-        ensures nodes { world_nodes self.new ≡ world_nodes self.old }
-    {
-        match self.core.close(id) {
-            Ok(stamp) => Reply::Closed { stamp },
-            Err(_) => Reply::Refused(Refusal::Store(CoreFault::NoSnapshot)),
-        }
-    }
-
-    /// Vacuums the store, and returns the reply.
-    fn vacuum(&mut self) -> Reply
-        ensures represents { (schedule : List (AnEvent × AReply)) → Represents self.old schedule
-            → Represents self.new ((Event.Vacuum, result) ∷ schedule) }
-        ensures unchanged { IsRefused result → self.new ≡ self.old }
-        ensures nodes { world_nodes self.new ≡ world_nodes self.old }
-    {
-        match self.core.vacuum() {
-            Ok(report) => Reply::Vacuumed { report },
-            Err(_) => Reply::Refused(Refusal::NoMemory),
+        match event {
+            Event::Write {
+                node,
+                reading,
+                key,
+                value,
+            } => {
+                let value = Some(value);
+                self.issue(node, reading, Content::Write { key, value })
+            }
+            Event::Delete { node, reading, key } => {
+                self.issue(node, reading, Content::Write { key, value: None })
+            }
+            Event::Report { node, reading } => self.issue(node, reading, Content::Report),
+            Event::Retire { node, reading } => self.issue(node, reading, Content::Retire),
+            Event::Join => self.join(),
+            Event::Send { node, reading } => self.send(node, reading),
+            Event::Receive {
+                node,
+                reading,
+                message,
+            } => self.receive(node, reading, message),
+            Event::Observe { node, reading, id } => self.observe(node, reading, id),
+            Event::Deliver { node, number } => self.deliver(node, number),
+            Event::OpenAt { stamp } => match self.core.open(stamp) {
+                Ok(id) => Reply::Snapshot { id, stamp },
+                Err(fault) => Reply::Refused(Refusal::from(fault)),
+            },
+            Event::OpenFloor => match self.core.open_floor() {
+                Ok((id, stamp)) => Reply::Snapshot { id, stamp },
+                Err(fault) => Reply::Refused(Refusal::from(fault)),
+            },
+            Event::Read { id, key } => self.read(id, key.as_slice()),
+            Event::List { id } => match self.core.list(id) {
+                Ok(pairs) => Reply::Listing { pairs },
+                Err(fault) => Reply::Refused(Refusal::from(fault)),
+            },
+            Event::Close { id } => match self.core.close(id) {
+                Ok(stamp) => Reply::Closed { stamp },
+                Err(_) => Reply::Refused(Refusal::Store(CoreFault::NoSnapshot)),
+            },
+            Event::Floor => Reply::Floor {
+                stamp: self.core.floor(),
+            },
+            Event::Vacuum => match self.core.vacuum() {
+                Ok(report) => Reply::Vacuumed { report },
+                Err(_) => Reply::Refused(Refusal::NoMemory),
+            },
+            Event::Rows => Reply::Rows {
+                count: self.core.rows(),
+            },
         }
     }
 
     /// Returns the reply to a Read, with a copy of the value.
     fn read(&self, id: u64, key: &[u8]) -> Reply
-        ensures { (schedule : List (AnEvent × AReply)) → Represents self.now schedule
-            → Represents self.now ((Event.Read id key.now, result) ∷ schedule) }
+        ensures { (nodes : ℕ) (schedule : List (AnEvent × AReply)) → Represents nodes self.now schedule
+            → Represents nodes self.now ((Event.Read id key.now, result) ∷ schedule) }
     {
         match self.core.read(id, key) {
             Err(_) => Reply::Refused(Refusal::Store(CoreFault::NoSnapshot)),
@@ -220,80 +215,12 @@ impl World {
         }
     }
 
-    #[inline(always)]
-    fn take_place(&mut self, event: Event) -> Reply
-        ensures represents { (schedule : List (AnEvent × AReply)) → Represents self.old schedule
-            → Represents self.new ((event, result) ∷ schedule) }
-        ensures asked { IsQuestion event → self.new ≡ self.old }
-        ensures unchanged { IsRefused result → self.new ≡ self.old }
-        ensures nodes { world_nodes self.new ≡ world_nodes self.old }
-    {
-        match event {
-            Event::Write {
-                node,
-                reading,
-                key,
-                value,
-            } => self.write(node, reading, key, value),
-            Event::Delete { node, reading, key } => {
-                self.issue(node, reading, Content::Write { key, value: None })
-            }
-            Event::Report { node, reading } => self.report(node, reading),
-            Event::Retire { node, reading } => self.issue(node, reading, Content::Retire),
-            Event::Join => self.join(),
-            Event::Send { node, reading } => self.send(node, reading),
-            Event::Receive {
-                node,
-                reading,
-                message,
-            } => self.receive(node, reading, message),
-            Event::Observe { node, reading, id } => self.observe(node, reading, id),
-            Event::Deliver { node, number } => self.deliver(node, number),
-            Event::OpenAt { stamp } => self.open_at(stamp),
-            Event::OpenFloor => self.open_floor(),
-            Event::Read { id, key } => self.read(id, key.as_slice()),
-            Event::List { id } => self.list(id),
-            Event::Close { id } => self.close(id),
-            Event::Floor => Reply::Floor {
-                stamp: self.core.floor(),
-            },
-            Event::Vacuum => self.vacuum(),
-            Event::Rows => Reply::Rows {
-                count: self.core.rows(),
-            },
-        }
-    }
-
-    /// Performs a Write, and returns the reply as `step` does.
-    #[inline(always)]
-    pub fn write(&mut self, node: u16, reading: u64, key: Bytes, value: Bytes) -> Reply
-        ensures represents { (schedule : List (AnEvent × AReply)) → Represents self.old schedule
-            → Represents self.new ((Event.Write node reading key value, result) ∷ schedule) }
-        ensures unchanged { IsRefused result → self.new ≡ self.old }
-        ensures nodes { world_nodes self.new ≡ world_nodes self.old }
-    {
-        let value = Some(value);
-        self.issue(node, reading, Content::Write { key, value })
-    }
-
-    /// Performs a Report, and returns the reply as `step` does.
-    #[inline(always)]
-    pub fn report(&mut self, node: u16, reading: u64) -> Reply
-        ensures represents { (schedule : List (AnEvent × AReply)) → Represents self.old schedule
-            → Represents self.new ((Event.Report node reading, result) ∷ schedule) }
-        ensures unchanged { IsRefused result → self.new ≡ self.old }
-        ensures nodes { world_nodes self.new ≡ world_nodes self.old }
-    {
-        self.issue(node, reading, Content::Report)
-    }
-
     /// Lets a node issue an item with this content, and returns the reply: its stamp and number, or that there is no
     /// such node, the refusal of the node, or out of memory.
     fn issue(&mut self, node: u16, reading: u64, content: Content) -> Reply
-        ensures represents { (schedule : List (AnEvent × AReply)) → Represents self.old schedule
-            → Represents self.new ((issuing node reading content, result) ∷ schedule) }
+        ensures represents { (nodes : ℕ) (schedule : List (AnEvent × AReply)) → Represents nodes self.old schedule
+            → Represents nodes self.new ((issuing node reading content, result) ∷ schedule) }
         ensures unchanged { IsRefused result → self.new ≡ self.old }
-        ensures nodes { world_nodes self.new ≡ world_nodes self.old }
     {
         let Some(issuer) = self.nodes.get_mut(node as usize) else {
             return Reply::Refused(Refusal::NoNode);
@@ -305,10 +232,9 @@ impl World {
     }
 
     fn join(&mut self) -> Reply
-        ensures represents { (schedule : List (AnEvent × AReply)) → Represents self.old schedule
-            → Represents self.new ((Event.Join, result) ∷ schedule) }
+        ensures represents { (nodes : ℕ) (schedule : List (AnEvent × AReply)) → Represents nodes self.old schedule
+            → Represents nodes self.new ((Event.Join, result) ∷ schedule) }
         ensures unchanged { IsRefused result → self.new ≡ self.old }
-        ensures nodes { world_nodes self.new ≡ world_nodes self.old }
     {
         if self.nodes.len() >= MAX_NODES as usize {
             return Reply::Refused(Refusal::Store(CoreFault::Join(JoinFault::TooManyNodes)));
@@ -329,13 +255,11 @@ impl World {
         }
     }
 
-    /// Performs a Send, and returns the reply as `step` does.
     #[inline(always)]
-    pub fn send(&mut self, node: u16, reading: u64) -> Reply
-        ensures represents { (schedule : List (AnEvent × AReply)) → Represents self.old schedule
-            → Represents self.new ((Event.Send node reading, result) ∷ schedule) }
+    fn send(&mut self, node: u16, reading: u64) -> Reply
+        ensures represents { (nodes : ℕ) (schedule : List (AnEvent × AReply)) → Represents nodes self.old schedule
+            → Represents nodes self.new ((Event.Send node reading, result) ∷ schedule) }
         ensures unchanged { IsRefused result → self.new ≡ self.old }
-        ensures nodes { world_nodes self.new ≡ world_nodes self.old }
     {
         let Some(issuer) = self.nodes.get_mut(node as usize) else {
             return Reply::Refused(Refusal::NoNode);
@@ -355,13 +279,11 @@ impl World {
         }
     }
 
-    /// Performs a Receive, and returns the reply as `step` does.
     #[inline(always)]
-    pub fn receive(&mut self, node: u16, reading: u64, message: u64) -> Reply
-        ensures represents { (schedule : List (AnEvent × AReply)) → Represents self.old schedule
-            → Represents self.new ((Event.Receive node reading message, result) ∷ schedule) }
+    fn receive(&mut self, node: u16, reading: u64, message: u64) -> Reply
+        ensures represents { (nodes : ℕ) (schedule : List (AnEvent × AReply)) → Represents nodes self.old schedule
+            → Represents nodes self.new ((Event.Receive node reading message, result) ∷ schedule) }
         ensures unchanged { IsRefused result → self.new ≡ self.old }
-        ensures nodes { world_nodes self.new ≡ world_nodes self.old }
     {
         let Some(issuer) = self.nodes.get_mut(node as usize) else {
             return Reply::Refused(Refusal::NoNode);
@@ -379,10 +301,9 @@ impl World {
     }
 
     fn observe(&mut self, node: u16, reading: u64, id: u64) -> Reply
-        ensures represents { (schedule : List (AnEvent × AReply)) → Represents self.old schedule
-            → Represents self.new ((Event.Observe node reading id, result) ∷ schedule) }
+        ensures represents { (nodes : ℕ) (schedule : List (AnEvent × AReply)) → Represents nodes self.old schedule
+            → Represents nodes self.new ((Event.Observe node reading id, result) ∷ schedule) }
         ensures unchanged { IsRefused result → self.new ≡ self.old }
-        ensures nodes { world_nodes self.new ≡ world_nodes self.old }
     {
         let Some(issuer) = self.nodes.get_mut(node as usize) else {
             return Reply::Refused(Refusal::NoNode);
@@ -399,13 +320,11 @@ impl World {
         }
     }
 
-    /// Performs a Deliver, and returns the reply as `step` does.
     #[inline(always)]
-    pub fn deliver(&mut self, node: u16, number: u64) -> Reply
-        ensures represents { (schedule : List (AnEvent × AReply)) → Represents self.old schedule
-            → Represents self.new ((Event.Deliver node number, result) ∷ schedule) }
+    fn deliver(&mut self, node: u16, number: u64) -> Reply
+        ensures represents { (nodes : ℕ) (schedule : List (AnEvent × AReply)) → Represents nodes self.old schedule
+            → Represents nodes self.new ((Event.Deliver node number, result) ∷ schedule) }
         ensures unchanged { IsRefused result → self.new ≡ self.old }
-        ensures nodes { world_nodes self.new ≡ world_nodes self.old }
     {
         let Some(issuer) = self.nodes.as_slice().get(node as usize) else {
             return Reply::Refused(Refusal::NoNode);
@@ -443,12 +362,11 @@ fn post(stamps: &mut Vec<Stamp>, stamp: Stamp) -> bool
 fn accept(core: &mut Core, item: &Item) -> Result<Stamp, CoreFault>
     ensures represents { (past : List Step) → CoreRepresents core.old past
         → MatchResult result
-        (λ stamp. (stamp ≡ item.now.stamp) × (item_refusal (nodes core.old) past item.now ≡ None)
+        (λ stamp. (stamp ≡ item.now.stamp) × (item_refusal past item.now ≡ None)
         × CoreRepresents core.new (Took item.now ∷ past)) (λ fault.
-        IsRefusal (item_refusal (nodes core.old) past item.now) (IsWrite item.now.body) fault
+        IsRefusal (item_refusal past item.now) (IsWrite item.now.body) fault
         × (core.new ≡ core.old)) }
-    ensures err { OnErr result (core.new ≡ core.old) }
-    ensures nodes { nodes core.new ≡ nodes core.old }
+    ensures unchanged { OnErr result (core.new ≡ core.old) }
 {
     match core.accept_copy(item) {
         Ok(accepted) => Ok(accepted.stamp()),

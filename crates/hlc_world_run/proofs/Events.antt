@@ -42,7 +42,7 @@ stepping-none nodes (Some step) turn mark is h =
 
 -- an event has the stamp of its turn
 made : (nodes : ℕ) (s : List (Event × Reply)) (event : Event) (reply : Reply) (turn : Turn) (mark : ℕ × ℕ)
-    → turn_of s (run_of s) event reply ≡ Some turn → stamping_of (layout_of nodes) turn ≡ Some mark
+    → turn_of nodes s (run_of nodes s) event reply ≡ Some turn → stamping_of (layout_of nodes) turn ≡ Some mark
     → stamped_by event reply ≡ Some mark
 made nodes s (Write n r key value) (Stamped st k) turn mark is h =
     ap (λ x. stamping_of (layout_of nodes) x) (some-injective _ turn is) ∙ h
@@ -57,19 +57,19 @@ made nodes s (Send n r) (Sent st k) turn mark is h =
 made nodes s (Receive n r k) (Received st) turn mark is h =
     ap (λ x. stamping_of (layout_of nodes) x) (some-injective _ turn is) ∙ h
 made nodes s (Observe n r id) (Observed st) turn mark is h =
-    observing-made nodes n st (stamp_of id (core_past s)) turn mark is h
+    observing-made nodes n st (stamp_of id (core_past nodes s)) turn mark is h
 made nodes s event reply turn mark is h =
     absurd (stepping-none nodes (step_by (share s event reply)) turn mark is h)
 
 pub events : (nodes : ℕ) (s : List (Event × Reply)) (number n stamp : ℕ)
-    → IsStampedIn (layout_of nodes) (run_of s) number n stamp
-    → (turn : ℕ) × (place s turn ≡ number) × IsStamped s turn n stamp
+    → IsStampedIn (layout_of nodes) (run_of nodes s) number n stamp
+    → (turn : ℕ) × (place nodes s turn ≡ number) × IsStamped s turn n stamp
 events nodes [] number n stamp h = absurd (let at : turn_at [] number ≡ Some h.turn = h.at in cc)
 events nodes (entry ∷ s) number n stamp h =
-    elim (with-cases (turn_of s (run_of s) entry.0 entry.1) (run_of s) number h.turn h.at) [
+    elim (with-cases (turn_of nodes s (run_of nodes s) entry.0 entry.1) (run_of nodes s) number h.turn h.at) [
       | inl here ↦ (
         length s,
-        place-last entry s (length s) refl ∙ sym here.0,
+        place-last nodes entry s (length s) refl ∙ sym here.0,
         record {
           entry = entry;
           at = cond-true _ _ _ (eq-eqb (length s) (length s) refl);
@@ -80,7 +80,7 @@ events nodes (entry ∷ s) number n stamp h =
           let r = events nodes s number n stamp (record { turn = h.turn; at = there; mark = h.mark }) in
           let in_r = entry-inside s r.0 r.2.entry r.2.at in (
             r.0,
-            place-earlier entry s r.0 (λ e. omega (arith, in_r, e)) ∙ r.1,
+            place-earlier nodes entry s r.0 (λ e. omega (arith, in_r, e)) ∙ r.1,
             record { entry = r.2.entry; at = entry-keeps entry s r.0 r.2.entry r.2.at; mark = r.2.mark },
           )
     ]

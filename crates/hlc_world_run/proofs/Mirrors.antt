@@ -46,7 +46,7 @@ use Rattle.hlc_world_run.specs.RunOf.{layout_of, messages, sent_at, observing, s
 pub record Mirrors (nodes : ℕ) (items : ℕ → List Item) (overs : ℕ → Bool) (lasts : ℕ → ℕ) (letters : List Message)
     (past : List Step) (run : List Turn) : Type 0 where
   pub legal : IsLegalRun (layout_of nodes) run
-  pub past_is : past_of 0 run ≡ past
+  pub past_is : past_of (layout_of nodes) 0 run ≡ past
   pub link : (n : ℕ) → issued 0 n run ≡ reverse (items n)
   pub over : (n : ℕ) → have_ended (issued 0 n run) ≡ overs n
   pub clock : (n : ℕ) → last_stamp (layout_of nodes) n run ≡ lasts n
@@ -102,7 +102,7 @@ over-item n item run before is =
 -- an item that a node issues
 issues : (nodes : ℕ) (items : ℕ → List Item) (overs : ℕ → Bool) (lasts : ℕ → ℕ) (letters : List Message)
     (past : List Step) (run : List Turn) (p st num : ℕ) (body : Body)
-    → Mirrors nodes items overs lasts letters past run → p < numbered nodes past → overs p ≡ false
+    → Mirrors nodes items overs lasts letters past run → p < numbered past → overs p ≡ false
     → num ≡ length (items p) → lasts p < st → IsRouted (layout_of nodes) 0 body
     → Mirrors nodes (λ n. with_item n (Some (an_item p num st body)) (items n))
     (λ n. ends n (Some (an_item p num st body)) (overs n)) (λ n. stamp_or n (Some (p, st)) (lasts n)) letters past
@@ -115,7 +115,7 @@ issues nodes items overs lasts letters past run p st num body h inside active is
       legal = (
         (
           one,
-          subst (λ x. p < numbered nodes x) (sym h.past_is) inside,
+          subst (λ x. p < numbered x) (sym h.past_is) inside,
           h.over p ∙ active,
           is ∙ sym (ap length (h.link p) ∙ length-reverse (items p)),
           clock,
@@ -191,14 +191,14 @@ receives nodes items overs lasts letters past run p st k letter h at up above =
 -- the store that a node observes
 observes : (nodes : ℕ) (items : ℕ → List Item) (overs : ℕ → Bool) (lasts : ℕ → ℕ) (letters : List Message)
     (past : List Step) (run : List Turn) (p st at : ℕ) → Mirrors nodes items overs lasts letters past run
-    → at ≤ floor nodes past → lasts p < st → at < st
+    → at ≤ floor past → lasts p < st → at < st
     → Mirrors nodes items overs (λ n. stamp_or n (Some (p, st)) (lasts n)) letters past (Observes p 0 at st ∷ run)
 observes nodes items overs lasts letters past run p st at h low up above =
     let clock : last_stamp (layout_of nodes) p run < st =
     (let e : last_stamp (layout_of nodes) p run ≡ lasts p = h.clock p in omega (arith, e, up)) in
     record {
       legal = (
-        (clock, one, subst (λ x. at ≤ floor nodes x) (sym h.past_is) low, above),
+        (clock, one, subst (λ x. at ≤ floor x) (sym h.past_is) low, above),
         h.legal,
       );
       past_is = h.past_is;
@@ -212,17 +212,17 @@ observes nodes items overs lasts letters past run p st at h low up above =
 -- a step of the store
 steps : (nodes : ℕ) (items : ℕ → List Item) (overs : ℕ → Bool) (lasts : ℕ → ℕ) (letters : List Message)
     (past : List Step) (run : List Turn) (step : Step) → Mirrors nodes items overs lasts letters past run
-    → IsLegalPast nodes (step ∷ past) → IsIssuedStep 0 step run
+    → IsLegalPast (step ∷ past) → IsIssuedStep 0 step run
     → ((p : ℕ × ℕ) → start_of (layout_of nodes) 0 step ≡ Some p → lasts p.0 ≤ p.1)
     → Mirrors nodes items overs (λ n. stamp_or n (start_of (layout_of nodes) 0 step) (lasts n)) letters (step ∷ past)
     (Stepped 0 step ∷ run)
 steps nodes items overs lasts letters past run step h legal is_issued starts =
     record {
       legal = (
-        (one, subst (λ x. IsLegalPast nodes (step ∷ x)) (sym h.past_is) legal, is_issued),
+        (one, subst (λ x. IsLegalPast (step ∷ x)) (sym h.past_is) legal, is_issued),
         h.legal,
       );
-      past_is = past-same 0 0 step run refl ∙ ap (λ x. step ∷ x) h.past_is;
+      past_is = past-same (layout_of nodes) 0 0 step run refl ∙ ap (λ x. step ∷ x) h.past_is;
       link = h.link;
       over = h.over;
       clock = λ n. clock-by n (last_stamp (layout_of nodes) n run) (lasts n) (start_of (layout_of nodes) 0 step)
@@ -238,48 +238,52 @@ MirrorsAt nodes s lasts past run =
 
 -- the run of a schedule says what the schedule says
 abbrev pub IsMirrored : ℕ → List (Event × Reply) → Type 0
-IsMirrored nodes s = MirrorsAt nodes s (λ n. clock_of n s) (core_past s) (run_of s)
+IsMirrored nodes s = MirrorsAt nodes s (λ n. clock_of n s) (core_past nodes s) (run_of nodes s)
 
 issued-mirrors : (nodes : ℕ) (s : List (Event × Reply)) (p reading st num : ℕ) (body : Body) (rest : Option Refusal)
     → on_node nodes s p rest ≡ None → expected_issue (node_of p s) body reading ≡ Ok st
     → num ≡ length (issued_by p s) → IsRouted (layout_of nodes) 0 body → IsMirrored nodes s
     → Mirrors nodes (λ n. with_item n (Some (an_item p num st body)) (issued_by n s))
     (λ n. ends n (Some (an_item p num st body)) (has_retired n s)) (λ n. stamp_or n (Some (p, st)) (clock_of n s))
-    (sent s) (core_past s) (Issued 0 (an_item p num st body) ∷ run_of s)
+    (sent s) (core_past nodes s) (Issued 0 (an_item p num st body) ∷ run_of nodes s)
 issued-mirrors nodes s p reading st num body rest none expected is routed h =
     let free = on_node-none nodes s p rest none in
-    issues nodes (λ n. issued_by n s) (λ n. has_retired n s) (λ n. clock_of n s) (sent s) (core_past s) (run_of s) p st
+    issues nodes (λ n. issued_by n s) (λ n. has_retired n s) (λ n. clock_of n s) (sent s) (core_past nodes s)
+    (run_of nodes s) p st
     num body h free.0 free.1 is (issue-ok (node_of p s) body reading st expected).2 routed
 
 received-mirrors : (nodes : ℕ) (s : List (Event × Reply)) (p reading st k : ℕ) (o : Option Message)
     → message_at k s ≡ o → IsReceived o (clock_of p s) reading st → IsMirrored nodes s
-    → MirrorsAt nodes s (λ n. stamp_or n (Some (p, st)) (clock_of n s)) (core_past s)
-    (Receives p (sent_at k (run_of s)) st ∷ run_of s)
+    → MirrorsAt nodes s (λ n. stamp_or n (Some (p, st)) (clock_of n s)) (core_past nodes s)
+    (Receives p (sent_at k (run_of nodes s)) st ∷ run_of nodes s)
 received-mirrors nodes s p reading st k None at is h = absurd is
 received-mirrors nodes s p reading st k (Some letter) at is h =
     let up = sight-rises (clock_of p s) letter.stamp reading st is in
-    receives nodes (λ n. issued_by n s) (λ n. has_retired n s) (λ n. clock_of n s) (sent s) (core_past s) (run_of s) p
+    receives nodes (λ n. issued_by n s) (λ n. has_retired n s) (λ n. clock_of n s) (sent s) (core_past nodes s)
+    (run_of nodes s) p
     st k letter h at up.0 up.1
 
 observed-mirrors : (nodes : ℕ) (s : List (Event × Reply)) (p reading st id : ℕ) (o : Option ℕ) → IsLegal nodes s
-    → stamp_of id (core_past s) ≡ o → IsObserved o (clock_of p s) reading st → IsMirrored nodes s
-    → MirrorsAt nodes s (λ n. stamp_or n (Some (p, st)) (clock_of n s)) (core_past s)
-    (with_turn (observing p o st) (run_of s))
+    → stamp_of id (core_past nodes s) ≡ o → IsObserved o (clock_of p s) reading st → IsMirrored nodes s
+    → MirrorsAt nodes s (λ n. stamp_or n (Some (p, st)) (clock_of n s)) (core_past nodes s)
+    (with_turn (observing p o st) (run_of nodes s))
 observed-mirrors nodes s p reading st id None legal at is h = absurd is
 observed-mirrors nodes s p reading st id (Some seen) legal at is h =
     let up = sight-rises (clock_of p s) seen reading st is in
-    let low : seen ≤ floor nodes (core_past s) = stamp_in-all (λ x. x ≤ floor nodes (core_past s)) id seen
-    (open_snapshots (core_past s)) (open-low nodes (core_past s) (legal-past nodes s legal)) at in
-    observes nodes (λ n. issued_by n s) (λ n. has_retired n s) (λ n. clock_of n s) (sent s) (core_past s) (run_of s) p
+    let low : seen ≤ floor (core_past nodes s) = stamp_in-all (λ x. x ≤ floor (core_past nodes s)) id seen
+    (open_snapshots (core_past nodes s)) (open-low (core_past nodes s) (legal-past nodes s legal)) at in
+    observes nodes (λ n. issued_by n s) (λ n. has_retired n s) (λ n. clock_of n s) (sent s) (core_past nodes s)
+    (run_of nodes s) p
     st seen h low up.0 up.1
 
 stepped-mirrors : (nodes : ℕ) (s : List (Event × Reply)) (step : Step) → IsMirrored nodes s
-    → IsLegalPast nodes (step ∷ core_past s) → IsIssuedStep 0 step (run_of s)
+    → IsLegalPast (step ∷ core_past nodes s) → IsIssuedStep 0 step (run_of nodes s)
     → ((p : ℕ × ℕ) → start_of (layout_of nodes) 0 step ≡ Some p → clock_of p.0 s ≤ p.1)
-    → MirrorsAt nodes s (λ n. stamp_or n (start_of (layout_of nodes) 0 step) (clock_of n s)) (step ∷ core_past s)
-    (Stepped 0 step ∷ run_of s)
+    → MirrorsAt nodes s (λ n. stamp_or n (start_of (layout_of nodes) 0 step) (clock_of n s)) (step ∷ core_past nodes s)
+    (Stepped 0 step ∷ run_of nodes s)
 stepped-mirrors nodes s step h =
-    steps nodes (λ n. issued_by n s) (λ n. has_retired n s) (λ n. clock_of n s) (sent s) (core_past s) (run_of s) step h
+    steps nodes (λ n. issued_by n s) (λ n. has_retired n s) (λ n. clock_of n s) (sent s) (core_past nodes s)
+    (run_of nodes s) step h
 
 reversed : (items : List Item) (k : ℕ) (item : Item) → slice_get items k ≡ Some item → Contains (reverse items) item
 reversed [] k item at = absurd (let w : k < 0 = slice_get_within [] k item at in omega arith)
@@ -292,17 +296,17 @@ reversed (x ∷ items) (suc k) item at =
     (Contains-append_left (reverse items) (x ∷ []) item (reversed items k item at))
 
 taken-mirrors : (nodes : ℕ) (s : List (Event × Reply)) (p k st : ℕ) (o : Option Item) → IsLegal nodes s
-    → slice_get (issued_by p s) k ≡ o → deliver_refusal nodes (core_past s) o ≡ None → IsMirrored nodes s
+    → slice_get (issued_by p s) k ≡ o → deliver_refusal (core_past nodes s) o ≡ None → IsMirrored nodes s
     → MirrorsAt nodes s (λ n. clock_of n s)
-    (past_by (with_entry (paired (accepted p st o) (accepting o)) (store_history s)))
-    (with_turn (stepping (step_by (paired (accepted p st o) (accepting o)))) (run_of s))
+    (past_by nodes (with_entry (paired (accepted p st o) (accepting o)) (store_history s)))
+    (with_turn (stepping (step_by (paired (accepted p st o) (accepting o)))) (run_of nodes s))
 taken-mirrors nodes s p k st None legal at none h = h
 taken-mirrors nodes s p k st (Some item) legal at none h =
     let own : item.node ≡ p = ((orderly nodes s legal).each p k item at).node in
-    let there : Contains (issued 0 p (run_of s)) item =
+    let there : Contains (issued 0 p (run_of nodes s)) item =
     subst (λ xs. Contains xs item) (sym (h.link p)) (reversed (issued_by p s) k item at) in
     stepped-mirrors nodes s (Took item) h (no-core _ none, legal-past nodes s legal)
-    (subst (λ n. Contains (issued 0 n (run_of s)) item) (sym own) there) (λ q e. absurd (cc))
+    (subst (λ n. Contains (issued 0 n (run_of nodes s)) item) (sym own) there) (λ q e. absurd (cc))
 
 mirrored-entry : (nodes : ℕ) (s : List (Event × Reply)) (event : Event) (reply : Reply) → MayReply nodes s event reply
     → IsLegal nodes s → IsMirrored nodes s → IsMirrored nodes ((event, reply) ∷ s)
@@ -315,12 +319,13 @@ mirrored-entry nodes s (Report p reading) (Stamped st num) allowed legal h =
 mirrored-entry nodes s (Retire p reading) (Stamped st num) allowed legal h =
     issued-mirrors nodes s p reading st num a_retire _ allowed.0 allowed.1.0 allowed.1.1 tt h
 mirrored-entry nodes s (Send p reading) (Sent st num) allowed legal h =
-    sends nodes (λ n. issued_by n s) (λ n. has_retired n s) (λ n. clock_of n s) (sent s) (core_past s) (run_of s) p st h
+    sends nodes (λ n. issued_by n s) (λ n. has_retired n s) (λ n. clock_of n s) (sent s) (core_past nodes s)
+    (run_of nodes s) p st h
     (stamp-rises (clock_of p s) reading st allowed.1.0)
 mirrored-entry nodes s (Receive p reading k) (Received st) allowed legal h =
     received-mirrors nodes s p reading st k (message_at k s) refl allowed.1 h
 mirrored-entry nodes s (Observe p reading id) (Observed st) allowed legal h =
-    observed-mirrors nodes s p reading st id (stamp_of id (core_past s)) legal refl allowed.1 h
+    observed-mirrors nodes s p reading st id (stamp_of id (core_past nodes s)) legal refl allowed.1 h
 mirrored-entry nodes s Join (Joined node start) allowed legal h =
     let fresh : clock_of node s ≡ 0 =
     (orderly nodes s legal).fresh node (let next = allowed.1.0 in omega (arith, next)) in

@@ -22,13 +22,14 @@ earlier : (entry : Event × Reply) (s : List (Event × Reply)) (id stamp : ℕ) 
 earlier entry s id stamp h =
     record { turn = h.turn; event = h.event; at = entry-keeps entry s h.turn (h.event, Snapshot id stamp) h.at }
 
-opens : (s : List (Event × Reply)) (event : Event) (given st id stamp : ℕ) → given ≡ opened (core_past s) + 1
-    → stamp_of id (OpenedAt st ∷ core_past s) ≡ Some stamp
-    → (stamp_of id (core_past s) ≡ Some stamp → IsOpenedAt s id stamp)
+opens : (nodes : ℕ) (s : List (Event × Reply)) (event : Event) (given st id stamp : ℕ)
+    → given ≡ opened (core_past nodes s) + 1
+    → stamp_of id (OpenedAt st ∷ core_past nodes s) ≡ Some stamp
+    → (stamp_of id (core_past nodes s) ≡ Some stamp → IsOpenedAt s id stamp)
     → IsOpenedAt ((event, Snapshot given st) ∷ s) id stamp
-opens s event given st id stamp next is before =
-    elim (stamp_in-push_cases id stamp (record { id = opened (core_past s) + 1; stamp = st })
-    (open_snapshots (core_past s)) is) [
+opens nodes s event given st id stamp next is before =
+    elim (stamp_in-push_cases id stamp (record { id = opened (core_past nodes s) + 1; stamp = st })
+    (open_snapshots (core_past nodes s)) is) [
       | inl old ↦ earlier (event, Snapshot given st) s id stamp (before old)
       | inr last ↦ record {
         turn = length s;
@@ -39,32 +40,34 @@ opens s event given st id stamp next is before =
       }
     ]
 
-closes : (s : List (Event × Reply)) (other id stamp : ℕ) → stamp_of id (ClosedOf other ∷ core_past s) ≡ Some stamp
-    → stamp_of id (core_past s) ≡ Some stamp
-closes s other id stamp is =
+closes : (nodes : ℕ) (s : List (Event × Reply)) (other id stamp : ℕ)
+    → stamp_of id (ClosedOf other ∷ core_past nodes s) ≡ Some stamp
+    → stamp_of id (core_past nodes s) ≡ Some stamp
+closes nodes s other id stamp is =
     elim (cases_eq id other) [
-      | inl same ↦ absurd (let e : None ≡ Some stamp = sym (stamp_in-without_itself id (open_snapshots (core_past s)))
-          ∙ subst (λ k. stamp_of id (ClosedOf k ∷ core_past s) ≡ Some stamp) (sym same) is in cc)
-      | inr differs ↦ sym (stamp_in-without_other other id (open_snapshots (core_past s)) differs) ∙ is
+      | inl same ↦ absurd
+          (let e : None ≡ Some stamp = sym (stamp_in-without_itself id (open_snapshots (core_past nodes s)))
+          ∙ subst (λ k. stamp_of id (ClosedOf k ∷ core_past nodes s) ≡ Some stamp) (sym same) is in cc)
+      | inr differs ↦ sym (stamp_in-without_other other id (open_snapshots (core_past nodes s)) differs) ∙ is
     ]
 
-takes : (s : List (Event × Reply)) (p st id stamp : ℕ) (o : Option Item)
-    → stamp_of id (past_by (with_entry (paired (accepted p st o) (accepting o)) (store_history s))) ≡ Some stamp
-    → stamp_of id (core_past s) ≡ Some stamp
-takes s p st id stamp None is = is
-takes s p st id stamp (Some item) is = is
+takes : (nodes : ℕ) (s : List (Event × Reply)) (p st id stamp : ℕ) (o : Option Item)
+    → stamp_of id (past_by nodes (with_entry (paired (accepted p st o) (accepting o)) (store_history s))) ≡ Some stamp
+    → stamp_of id (core_past nodes s) ≡ Some stamp
+takes nodes s p st id stamp None is = is
+takes nodes s p st id stamp (Some item) is = is
 
 opened-entry : (nodes : ℕ) (s : List (Event × Reply)) (event : Event) (reply : Reply) (id stamp : ℕ)
-    → MayReply nodes s event reply → stamp_of id (core_past ((event, reply) ∷ s)) ≡ Some stamp
-    → (stamp_of id (core_past s) ≡ Some stamp → IsOpenedAt s id stamp) → IsOpenedAt ((event, reply) ∷ s) id stamp
+    → MayReply nodes s event reply → stamp_of id (core_past nodes ((event, reply) ∷ s)) ≡ Some stamp
+    → (stamp_of id (core_past nodes s) ≡ Some stamp → IsOpenedAt s id stamp) → IsOpenedAt ((event, reply) ∷ s) id stamp
 opened-entry nodes s (OpenAt at) (Snapshot given st) id stamp allowed is before =
-    opens s (OpenAt at) given st id stamp allowed.1.0 is before
+    opens nodes s (OpenAt at) given st id stamp allowed.1.0 is before
 opened-entry nodes s OpenFloor (Snapshot given st) id stamp allowed is before =
-    opens s OpenFloor given st id stamp allowed.1.0 is before
+    opens nodes s OpenFloor given st id stamp allowed.1.0 is before
 opened-entry nodes s (Close other) (Closed st) id stamp allowed is before =
-    earlier _ s id stamp (before (closes s other id stamp is))
+    earlier _ s id stamp (before (closes nodes s other id stamp is))
 opened-entry nodes s (Deliver p k) (Accepted st) id stamp allowed is before =
-    earlier _ s id stamp (before (takes s p st id stamp (item_at p k s) is))
+    earlier _ s id stamp (before (takes nodes s p st id stamp (item_at p k s) is))
 opened-entry nodes s Join (Joined node start) id stamp allowed is before =
     earlier _ s id stamp (before is)
 opened-entry nodes s (Read other key) (Answer value) id stamp allowed is before =
@@ -76,7 +79,7 @@ opened-entry nodes s Vacuum (Vacuumed report) id stamp allowed is before =
 opened-entry nodes s _ _ id stamp allowed is before = earlier _ s id stamp (before is)
 
 pub opened-by : (nodes : ℕ) (s : List (Event × Reply)) (id stamp : ℕ) → IsLegal nodes s
-    → stamp_of id (core_past s) ≡ Some stamp → IsOpenedAt s id stamp
+    → stamp_of id (core_past nodes s) ≡ Some stamp → IsOpenedAt s id stamp
 opened-by nodes [] id stamp legal is = absurd (cc)
 opened-by nodes (entry ∷ s) id stamp legal is =
     opened-entry nodes s entry.0 entry.1 id stamp legal.0 is (λ old. opened-by nodes s id stamp legal.1 old)

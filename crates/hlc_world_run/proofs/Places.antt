@@ -47,56 +47,57 @@ entry-keeps entry s i x at =
     cond-false _ _ _ (ne_eqb i (length s) (λ e. (let l = entry-inside s i x at in omega (arith, l, e)))) ∙ at
 
 -- the place of an earlier event
-pub place-earlier : (entry : Event × Reply) (s : List (Event × Reply)) (i : ℕ) → (i ≡ length s → ⊥)
-    → place (entry ∷ s) i ≡ place s i
-place-earlier entry s i other = cond-false _ _ _ (ne_eqb i (length s) other)
+pub place-earlier : (nodes : ℕ) (entry : Event × Reply) (s : List (Event × Reply)) (i : ℕ) → (i ≡ length s → ⊥)
+    → place nodes (entry ∷ s) i ≡ place nodes s i
+place-earlier nodes entry s i other = cond-false _ _ _ (ne_eqb i (length s) other)
 
 -- the place of the last event
-pub place-last : (entry : Event × Reply) (s : List (Event × Reply)) (i : ℕ) → i ≡ length s
-    → place (entry ∷ s) i ≡ length (run_of s)
-place-last entry s i last = cond-true _ _ _ (eq-eqb i (length s) last)
+pub place-last : (nodes : ℕ) (entry : Event × Reply) (s : List (Event × Reply)) (i : ℕ) → i ≡ length s
+    → place nodes (entry ∷ s) i ≡ length (run_of nodes s)
+place-last nodes entry s i last = cond-true _ _ _ (eq-eqb i (length s) last)
 
 -- the schedule before the event of this turn, and what is left of it in the whole one
 pub record IsPlaced (nodes : ℕ) (s : List (Event × Reply)) (i : ℕ) (entry : Event × Reply) : Type 0 where
   pub before : List (Event × Reply)
   pub legal : IsLegal nodes (entry ∷ before)
-  pub at : place s i ≡ length (run_of before)
-  pub turn : (turn : Turn) → turn_of before (run_of before) entry.0 entry.1 ≡ Some turn
-      → turn_at (run_of s) (place s i) ≡ Some turn
-  pub grows : messages (run_of (entry ∷ before)) ≤ messages (run_of s)
-  pub keeps : (k : ℕ) → k < messages (run_of (entry ∷ before)) → sent_at k (run_of s)
-      ≡ sent_at k (run_of (entry ∷ before))
+  pub at : place nodes s i ≡ length (run_of nodes before)
+  pub turn : (turn : Turn) → turn_of nodes before (run_of nodes before) entry.0 entry.1 ≡ Some turn
+      → turn_at (run_of nodes s) (place nodes s i) ≡ Some turn
+  pub grows : messages (run_of nodes (entry ∷ before)) ≤ messages (run_of nodes s)
+  pub keeps : (k : ℕ) → k < messages (run_of nodes (entry ∷ before)) → sent_at k (run_of nodes s)
+      ≡ sent_at k (run_of nodes (entry ∷ before))
   pub earlier : (j : ℕ) (x : Event × Reply) → entry_at before j ≡ Some x → entry_at s j ≡ Some x
 
 pub placed : (nodes : ℕ) (s : List (Event × Reply)) (i : ℕ) (x : Event × Reply) → IsLegal nodes s
     → entry_at s i ≡ Some x → IsPlaced nodes s i x
 placed nodes [] i x legal at = absurd (cc)
 placed nodes (entry ∷ s) i x legal at =
-    let o : Option Turn = turn_of s (run_of s) entry.0 entry.1 in
+    let o : Option Turn = turn_of nodes s (run_of nodes s) entry.0 entry.1 in
     elim (entry-cases entry s i x at) [
       | inl here ↦
-          let p : place (entry ∷ s) i ≡ length (run_of s) = place-last entry s i here.0 in
+          let p : place nodes (entry ∷ s) i ≡ length (run_of nodes s) = place-last nodes entry s i here.0 in
           subst (λ y. IsPlaced nodes (entry ∷ s) i y) here.1 (record {
             before = s;
             legal = legal;
             at = p;
-            turn = λ t e. subst (λ j. turn_at (run_of (entry ∷ s)) j ≡ Some t) (sym p) (turn-here o (run_of s) t e);
+            turn = λ t e. subst (λ j. turn_at (run_of nodes (entry ∷ s)) j ≡ Some t)
+                (sym p) (turn-here o (run_of nodes s) t e);
             grows = omega arith;
             keeps = λ k lt. refl;
             earlier = λ j y e. entry-keeps entry s j y e;
           })
       | inr there ↦
           let r = placed nodes s i x legal.1 there.1 in
-          let p : place (entry ∷ s) i ≡ place s i = place-earlier entry s i there.0 in
-          let g : messages (run_of (x ∷ r.before)) ≤ messages (run_of s) = r.grows in
+          let p : place nodes (entry ∷ s) i ≡ place nodes s i = place-earlier nodes entry s i there.0 in
+          let g : messages (run_of nodes (x ∷ r.before)) ≤ messages (run_of nodes s) = r.grows in
           record {
             before = r.before;
             legal = r.legal;
             at = p ∙ r.at;
-            turn = λ t e. subst (λ j. turn_at (run_of (entry ∷ s)) j ≡ Some t) (sym p)
-                (turn-stays o (run_of s) (place s i) t (r.turn t e));
-            grows = (let more = messages-grow o (run_of s) in omega (arith, g, more));
-            keeps = λ k lt. sent-keeps o (run_of s) k (omega (arith, lt, g)) ∙ r.keeps k lt;
+            turn = λ t e. subst (λ j. turn_at (run_of nodes (entry ∷ s)) j ≡ Some t) (sym p)
+                (turn-stays o (run_of nodes s) (place nodes s i) t (r.turn t e));
+            grows = (let more = messages-grow o (run_of nodes s) in omega (arith, g, more));
+            keeps = λ k lt. sent-keeps o (run_of nodes s) k (omega (arith, lt, g)) ∙ r.keeps k lt;
             earlier = λ j y e. entry-keeps entry s j y (r.earlier j y e);
           }
     ]

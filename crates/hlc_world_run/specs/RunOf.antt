@@ -47,32 +47,37 @@ abbrev pub stepping : Option Step → Option Turn
 stepping None = None
 stepping (Some step) = Some (Stepped 0 step)
 
--- the turn of an event that got this reply after a schedule, whose run is this one
-abbrev pub turn_of : List (Event × Reply) → List Turn → Event → Reply → Option Turn
-turn_of schedule run (Write node reading key value) (Stamped stamp number) =
+-- the turn of an event that got this reply after a schedule, whose run is this one, in a world with this many nodes at
+-- the start
+abbrev pub turn_of : ℕ → List (Event × Reply) → List Turn → Event → Reply → Option Turn
+turn_of nodes schedule run (Write node reading key value) (Stamped stamp number) =
     Some (Issued 0 (an_item node number stamp (a_write key (Some value))))
-turn_of schedule run (Delete node reading key) (Stamped stamp number) =
+turn_of nodes schedule run (Delete node reading key) (Stamped stamp number) =
     Some (Issued 0 (an_item node number stamp (a_write key None)))
-turn_of schedule run (Report node reading) (Stamped stamp number) = Some (Issued 0 (an_item node number stamp a_report))
-turn_of schedule run (Retire node reading) (Stamped stamp number) = Some (Issued 0 (an_item node number stamp a_retire))
-turn_of schedule run (Send node reading) (Sent stamp number) = Some (Sends node stamp)
-turn_of schedule run (Receive node reading message) (Received stamp) =
+turn_of nodes schedule run (Report node reading) (Stamped stamp number) =
+    Some (Issued 0 (an_item node number stamp a_report))
+turn_of nodes schedule run (Retire node reading) (Stamped stamp number) =
+    Some (Issued 0 (an_item node number stamp a_retire))
+turn_of nodes schedule run (Send node reading) (Sent stamp number) = Some (Sends node stamp)
+turn_of nodes schedule run (Receive node reading message) (Received stamp) =
     Some (Receives node (sent_at message run) stamp)
-turn_of schedule run (Observe node reading id) (Observed stamp) =
-    observing node (stamp_of id (core_past schedule)) stamp
-turn_of schedule run event reply = stepping (step_by (share schedule event reply))
+turn_of nodes schedule run (Observe node reading id) (Observed stamp) =
+    observing node (stamp_of id (core_past nodes schedule)) stamp
+turn_of nodes schedule run event reply = stepping (step_by (share schedule event reply))
 
 -- the run, followed by this turn
 abbrev pub with_turn : Option Turn → List Turn → List Turn
 with_turn None run = run
 with_turn (Some turn) run = turn ∷ run
 
--- the run of a schedule
-abbrev pub run_of : List (Event × Reply) → List Turn
-run_of [] = []
-run_of (entry ∷ schedule) = with_turn (turn_of schedule (run_of schedule) entry.0 entry.1) (run_of schedule)
+-- the run of a schedule of a world with this many nodes at the start
+abbrev pub run_of : ℕ → List (Event × Reply) → List Turn
+run_of nodes [] = []
+run_of nodes (entry ∷ schedule) =
+    with_turn (turn_of nodes schedule (run_of nodes schedule) entry.0 entry.1) (run_of nodes schedule)
 
 -- the number in the run of the event of this turn of the schedule: how many earlier events are turns of the run
-abbrev pub place : List (Event × Reply) → ℕ → ℕ
-place [] turn = 0
-place (entry ∷ schedule) turn = if turn == length schedule then length (run_of schedule) else place schedule turn
+abbrev pub place : ℕ → List (Event × Reply) → ℕ → ℕ
+place nodes [] turn = 0
+place nodes (entry ∷ schedule) turn =
+    if turn == length schedule then length (run_of nodes schedule) else place nodes schedule turn

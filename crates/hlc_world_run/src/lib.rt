@@ -16,20 +16,21 @@ ghost use Rattle.hlc_world_run.specs.RunOf.{layout_of, run_of, place};
 /// the same; an event of a node has the same stamp there; and what happened before another event happened before it.
 pub fn worlds_are_runs()
     ensures legal { (nodes : ℕ) (schedule : List (AnEvent × AReply)) → IsLegal nodes schedule
-        → IsLegalRun (layout_of nodes) (run_of schedule) }
+        → IsLegalRun (layout_of nodes) (run_of nodes schedule) }
     ensures past { (nodes : ℕ) (schedule : List (AnEvent × AReply)) → IsLegal nodes schedule
-        → past_of 0 (run_of schedule) ≡ core_past schedule }
+        → past_of (layout_of nodes) 0 (run_of nodes schedule) ≡ core_past nodes schedule }
     ensures items { (nodes : ℕ) (schedule : List (AnEvent × AReply)) (n : ℕ) → IsLegal nodes schedule
-        → issued_in 0 n (run_of schedule) ≡ reverse (issued n schedule) }
+        → issued_in 0 n (run_of nodes schedule) ≡ reverse (issued n schedule) }
     ensures clocks { (nodes : ℕ) (schedule : List (AnEvent × AReply)) (n : ℕ) → IsLegal nodes schedule
-        → clock_in (layout_of nodes) n (run_of schedule) ≡ last_stamp n schedule }
+        → clock_in (layout_of nodes) n (run_of nodes schedule) ≡ last_stamp n schedule }
     ensures stamps { (nodes : ℕ) (schedule : List (AnEvent × AReply)) (turn n stamp : ℕ) → IsLegal nodes schedule
         → IsStamped schedule turn n stamp
-        → IsStampedIn (layout_of nodes) (run_of schedule) (place schedule turn) n stamp }
+        → IsStampedIn (layout_of nodes) (run_of nodes schedule) (place nodes schedule turn) n stamp }
     ensures events { (nodes : ℕ) (schedule : List (AnEvent × AReply)) (number n stamp : ℕ)
-        → IsStampedIn (layout_of nodes) (run_of schedule) number n stamp
-        → (turn : ℕ) × (place schedule turn ≡ number) × IsStamped schedule turn n stamp }
+        → IsStampedIn (layout_of nodes) (run_of nodes schedule) number n stamp
+        → (turn : ℕ) × (place nodes schedule turn ≡ number) × IsStamped schedule turn n stamp }
     ensures before { (nodes : ℕ) (schedule : List (AnEvent × AReply)) (first later : ℕ) → IsLegal nodes schedule
         → HappenedBefore schedule first later
-        → HappenedBeforeIn (layout_of nodes) (run_of schedule) (place schedule first) (place schedule later) }
+        → HappenedBeforeIn (layout_of nodes) (run_of nodes schedule) (place nodes schedule first)
+        (place nodes schedule later) }
 {}

@@ -87,8 +87,8 @@ pub(crate) fn open_twice(registry: &mut Registry, stamp: Stamp) -> Result<(u64, 
 
 /// Delivers an item twice, and returns both replies.
 pub(crate) fn deliver_twice(world: &mut World, node: u16, number: u64) -> (Reply, Reply)
-    ensures { (schedule : List (AnEvent × AReply)) → Represents world.old schedule
-        → Represents world.new
+    ensures { (nodes : ℕ) (schedule : List (AnEvent × AReply)) → Represents nodes world.old schedule
+        → Represents nodes world.new
         ((Event.Deliver node number, result.1) ∷ (Event.Deliver node number, result.0) ∷ schedule) }
 {
     let first = world.step(Event::Deliver { node, number });

@@ -4,7 +4,7 @@ ghost use Rattle.std.specs.Prelude.{◌≡◌, ◌⊎◌, ◌++◌, ◌<◌, Lis
 ghost use Rattle.hlc_frame.specs.Frame.{frame_bytes};
 ghost use Rattle.hlc_frame.specs.Reading.{word_of};
 ghost use Rattle.hlc_core.specs.Past.{Step};
-ghost use Rattle.hlc_core.specs.StoreView.{nodes, Represents};
+ghost use Rattle.hlc_core.specs.StoreView.{Represents};
 ghost use Rattle.hlc_witness.specs.Cost.{IsInLimits};
 ghost use Rattle.hlc_body.specs.Spelling.{row_bytes};
 ghost use Rattle.hlc_saved.specs.Saved.{BytesRepresent, Resumes};
@@ -75,7 +75,7 @@ pub(crate) fn resume_two(alloc: Global, first: &[u8], second: &[u8]) -> Result<R
 pub(crate) fn restart(alloc: Global, checkpoint: &[u8], log: &[u8]) -> Option<Core>
     ensures { (word : ℕ) (past : List Step) → BytesRepresent checkpoint.now word past
         → IfSome result (λ core. (records : List ARecord) × (log.now ≡ log_bytes records)
-        × Represents core (with_records (nodes core) records past)) }
+        × Represents core (with_records records past)) }
 {
     let Ok(made) = recover(alloc, checkpoint, log) else {
         return None;

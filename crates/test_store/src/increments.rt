@@ -1,7 +1,7 @@
 //! The small caller in the README of `hlc_increment`, and a checkpoint that becomes a newer one by bytes.
-ghost use Rattle.std.specs.Prelude.{◌≡◌, ◌++◌, List, IfSome};
+ghost use Rattle.std.specs.Prelude.{◌++◌, List, IfSome};
 ghost use Rattle.hlc_core.specs.Past.{Step};
-ghost use Rattle.hlc_core.specs.StoreView.{nodes, Represents};
+ghost use Rattle.hlc_core.specs.StoreView.{Represents};
 ghost use Rattle.hlc_increment.specs.Increment.{without_drops};
 
 use crate::changes::{says, second};
@@ -12,7 +12,6 @@ use std::test::*;
 /// Returns the checkpoint that an older one becomes by an increment of a store, whose floor it had.
 pub(crate) fn next(core: &Core, older: Checkpoint) -> Option<Checkpoint>
     ensures { (past more : List Step) → Represents older past → Represents core.now (more ++ past)
-        → nodes older ≡ nodes core.now
         → IfSome result (λ made. Represents made (without_drops more ++ past)) }
 {
     let Ok(increment) = Increment::of(core, older.floor()) else {

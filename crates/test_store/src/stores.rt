@@ -3,7 +3,7 @@ ghost use Rattle.std.specs.Prelude.{◌≡◌, true, List, length, IfOk, IsOkAnd
 ghost use Rattle.hlc_checkpoint.specs.Checkpoint.{IsCheckpoint};
 ghost use Rattle.hlc_draft.specs.Vacuumed.{rows_to};
 ghost use Rattle.hlc_core.specs.Past.{Step, floor};
-ghost use Rattle.hlc_core.specs.StoreView.{nodes, Represents};
+ghost use Rattle.hlc_core.specs.StoreView.{Represents};
 
 use hlc_checkpoint::Checkpoint;
 use hlc_core::{Core, NoMemory};
@@ -20,8 +20,7 @@ pub(crate) fn is_checkpoint(checkpoint: &Checkpoint) -> bool
 /// They always are.
 pub(crate) fn vacuum_and_check(core: &mut Core) -> Result<Result<Shown, NotShown>, NoMemory>
     ensures { (past : List Step) → Represents core.old past → IfOk result
-        (λ shown. IsOkAnd shown
-        (λ least. least.rows ≡ length (rows_to (floor (nodes core.old) past) core.new.rows))) }
+        (λ shown. IsOkAnd shown (λ least. least.rows ≡ length (rows_to (floor past) core.new.rows))) }
 {
     let report = core.vacuum()?;
     let rows = core.rows_to(report.floor)?;

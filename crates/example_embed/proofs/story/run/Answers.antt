@@ -1,6 +1,5 @@
--- A new store represents no steps.
-use Rattle.std.proofs.Common.{[]}
+-- A new store represents its start.
 use Rattle.example_embed.proofs.story.run.Goals as goal
 
 pub returns : goal.returns
-returns g c = c.run_on.ensures ([], c.in_ok-core.ensures.2)
+returns g c = c.run_on.ensures (_, c.in_ok-core.ensures.1)

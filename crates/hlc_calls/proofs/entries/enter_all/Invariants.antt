@@ -1,7 +1,7 @@
 -- The entries so far were accepted, and the store represents their items.
-use Rattle.std.proofs.Common.{◌≡◌, ◌≤◌, ◌-◌, List, length}
+use Rattle.std.proofs.Common.{◌≤◌, ◌-◌, List, length}
 use Rattle.hlc_core.specs.Past.{Step}
-use Rattle.hlc_core.specs.StoreView.{nodes, Represents}
+use Rattle.hlc_core.specs.StoreView.{Represents}
 use Rattle.hlc_calls.specs.Entries.{entered}
 use Rattle.hlc_calls.proofs.entries.enter_all.Given as goal
 
@@ -10,7 +10,6 @@ invariant-loop-index l = record {
   within : l.index ≤ length l.entries;
   represents : (past : List Step) → Represents l.fn.core past
       → Represents l.core (entered l.entries l.bytes l.index past);
-  nodes : nodes l.core ≡ nodes l.fn.core;
 }
 
 abbrev pub decreases-loop-index : goal.decreases-loop-index

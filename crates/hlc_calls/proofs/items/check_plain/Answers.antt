@@ -9,6 +9,6 @@ use Rattle.hlc_calls.proofs.items.check_plain.Goals as goal
 pub returns-clause-retire : goal.returns-clause-retire
 returns-clause-retire c = λ past h.
     subst
-    (λ (item : Item). ReturnsChecked c.args.core.now (an_item item.node item.number item.stamp a_retire) past
+    (λ (item : Item). ReturnsChecked (an_item item.node item.number item.stamp a_retire) past
     c.check.result c.check.new.word) c.report.ensures
     (c.check.ensures.alike a_retire (ap (λ (item : Item). body_refusal item.body) (sym c.report.ensures)) past h)

@@ -1,7 +1,7 @@
 -- The items so far were taken.
-use Rattle.std.proofs.Common.{◌≡◌, ◌+◌, ◌≤◌, List, length}
+use Rattle.std.proofs.Common.{◌+◌, ◌≤◌, List, length}
 use Rattle.hlc_core.specs.Past.{Step}
-use Rattle.hlc_core.specs.StoreView.{nodes, Represents}
+use Rattle.hlc_core.specs.StoreView.{Represents}
 use Rattle.hlc_calls.proofs.Logs.{TakenSoFar}
 use Rattle.hlc_calls.proofs.log.take_all.Given as goal
 
@@ -9,8 +9,7 @@ abbrev pub invariant-loop-rest : goal.invariant-loop-rest
 invariant-loop-rest l = record {
   within : l.count + length l.rest ≤ length l.fn.bytes;
   taken : (past : List Step) → Represents l.fn.core past
-      → TakenSoFar (nodes l.fn.core) l.core l.fn.bytes l.rest past l.count;
-  nodes : nodes l.core ≡ nodes l.fn.core;
+      → TakenSoFar l.core l.fn.bytes l.rest past l.count;
 }
 
 abbrev pub decreases-loop-rest : goal.decreases-loop-rest

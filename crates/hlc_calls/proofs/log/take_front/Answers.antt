@@ -1,6 +1,5 @@
 -- The item at the front was read, and came before or was accepted.
 use Rattle.std.proofs.Common.{◌∙◌, ℕ, sym, subst, arith}
-use Rattle.hlc_core.specs.StoreView.{nodes}
 use Rattle.hlc_calls.specs.Log.{IsStopped}
 use Rattle.hlc_calls.specs.Outcome.{answer_code}
 use Rattle.hlc_calls.proofs.Logs.{front_is, front_shortens, passed_over, taken, refused_here}
@@ -11,7 +10,7 @@ returns-then-came-clause-answer c = λ past h. (
   c.in-Ok.found.0,
   front_is c.args.bytes.now c.in-Ok.found.0 c.in-Ok.found.1.now
       (λ i. omega (arith, c.type_inv.bytes i)) c.in-Ok.ensures.read,
-  passed_over c.args.core.now _ past c.in-Ok.found.0 (sym (c.came.ensures past h) ∙ c.if-came.true) h,
+  passed_over c.args.core.now past c.in-Ok.found.0 (sym (c.came.ensures past h) ∙ c.if-came.true) h,
 )
 
 pub returns-then-came-clause-shorter : goal.returns-then-came-clause-shorter
@@ -24,7 +23,7 @@ returns-in-Ok-accept_ref-clause-answer c = λ past h. (
   c.in-Ok.found.0,
   front_is c.args.bytes.now c.in-Ok.found.0 c.in-Ok.found.1.now
       (λ i. omega (arith, c.type_inv.bytes i)) c.in-Ok.ensures.read,
-  taken c.accept_ref.new.self _ past c.in-Ok.found.0 (sym (c.came.ensures past h) ∙ c.if-came.false)
+  taken c.accept_ref.new.self past c.in-Ok.found.0 (sym (c.came.ensures past h) ∙ c.if-came.false)
       (c.in-Ok-accept_ref.ensures.represents past h).1,
 )
 
@@ -35,10 +34,10 @@ returns-in-Ok-accept_ref-clause-shorter c =
 
 pub returns-in-Err-clause-answer : goal.returns-in-Err-clause-answer
 returns-in-Err-clause-answer c = λ past h.
-    let here = refused_here (nodes c.args.core.now) c.args.bytes.now c.in-Ok.found.1.now past c.in-Ok.found.0
+    let here = refused_here c.args.bytes.now c.in-Ok.found.1.now past c.in-Ok.found.0
     c.in-Err.fault c.in-Ok.ensures.read
     (sym (c.came.ensures past h) ∙ c.if-came.false) (c.in-Err.ensures.represents past h) in
-    subst (λ (code : ℕ). IsStopped (nodes c.args.core.now) c.args.bytes.now past code c.refuse.new.word)
+    subst (λ (code : ℕ). IsStopped c.args.bytes.now past code c.refuse.new.word)
     (sym c.refuse.ensures.0)
-    (subst (λ (word : ℕ). IsStopped (nodes c.args.core.now) c.args.bytes.now past (answer_code c.in-Err.fault) word)
+    (subst (λ (word : ℕ). IsStopped c.args.bytes.now past (answer_code c.in-Err.fault) word)
     (sym c.refuse.ensures.1) here)

@@ -30,8 +30,8 @@ returns-clause-ok c key there =
     (entry_written c.args.columns.now key c.args.at c.args.slot there c.value_mut-column.ensures.ascend
     c.push.new.self) more) c.push.ensures.ok
 
-pub returns-clause-err : goal.returns-clause-err
-returns-clause-err c =
+pub returns-clause-unchanged : goal.returns-clause-unchanged
+returns-clause-unchanged c =
     on_err_weaker c.push.result
     (λ stays. kept_as (record { key = own c; stamp = c.args.stamp; node = c.args.node; value = c.args.value })
     (entries_in c.args.columns.now)
@@ -40,7 +40,7 @@ returns-clause-err c =
     (sym (entry_found c.args.columns.now (own c) c.args.at c.args.slot (place c) c.value_mut-column.ensures.ascend
     c.value_mut-column.result.now c.value_mut-column.ensures.value))
     (entry_written c.args.columns.now (own c) c.args.at c.args.slot (place c) c.value_mut-column.ensures.ascend
-    c.push.new.self) stays) c.push.ensures.err
+    c.push.new.self) stays) c.push.ensures.unchanged
 
 pub returns-clause-filled : goal.returns-clause-filled
 returns-clause-filled c =
@@ -75,4 +75,4 @@ returns-clause-same c =
     ∙ ap (set_value (test (own c)) (entries_in c.args.columns.now)) stays
     ∙ same_set (own c) c.value_mut-column.result.now (entries_in c.args.columns.now)
     (entry_found c.args.columns.now (own c) c.args.at c.args.slot (place c) c.value_mut-column.ensures.ascend
-    c.value_mut-column.result.now c.value_mut-column.ensures.value)) c.push.ensures.err
+    c.value_mut-column.result.now c.value_mut-column.ensures.value)) c.push.ensures.unchanged

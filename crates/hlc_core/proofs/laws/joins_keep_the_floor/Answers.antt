@@ -3,4 +3,4 @@ use Rattle.hlc_core.proofs.PastLemmas.{floor-stays}
 use Rattle.hlc_core.proofs.laws.joins_keep_the_floor.Goals as goal
 
 pub returns : goal.returns
-returns c = λ nodes past node start n legal within here. floor-stays nodes past node start n legal.1 legal.2 within here
+returns c = λ past node start n legal within here. floor-stays past node start n legal.1 legal.2 within here

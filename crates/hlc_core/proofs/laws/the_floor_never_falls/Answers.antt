@@ -7,7 +7,7 @@ pub returns-clause-took : goal.returns-clause-took
 returns-clause-took c = floor-grows
 
 pub returns-clause-joined : goal.returns-clause-joined
-returns-clause-joined c = λ nodes past node start legal. floor-joins nodes past node start legal.1 legal.2
+returns-clause-joined c = λ past node start legal. floor-joins past node start legal.1 legal.2
 
 pub returns-clause-later : goal.returns-clause-later
 returns-clause-later c = floor-never_falls

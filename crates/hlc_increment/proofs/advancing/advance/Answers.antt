@@ -7,13 +7,13 @@ use Rattle.hlc_increment.proofs.AdvanceLemmas.{advanced-represents, fits-unless_
 use Rattle.hlc_increment.proofs.advancing.advance.Goals as goal
 
 pub returns-clause-represents : goal.returns-clause-represents
-returns-clause-represents c = λ past more newer h g one of.
+returns-clause-represents c = λ past more newer h g of.
     let fit : AreFitting c.args.older c.args.increment = c.in_default.ensures.none refl in
     let is : IsAdvanced c.args.older c.args.increment c.of.result = search (rules, common_steps) in
-    advanced-represents c.args.older newer c.of.result c.args.increment past more h g one of
+    advanced-represents c.args.older newer c.of.result c.args.increment past more h g of
     (subst (λ f. c.args.increment.since ≤ f) (floor-in c.args.older past h) fit.low) is
 
 pub returns-in-Some-clause-only : goal.returns-in-Some-clause-only
-returns-in-Some-clause-only c = λ past more newer h is g one of is'.
-    fits-unless_above c.args.older newer c.args.increment past more h is g one of is' c.in-Some.fault
+returns-in-Some-clause-only c = λ past more newer h is g of is'.
+    fits-unless_above c.args.older newer c.args.increment past more h is g of is' c.in-Some.fault
     c.in-Some.ensures.some

@@ -2,7 +2,7 @@
 use Rattle.std.proofs.Common.{◌≡◌, ℕ, ap, sym, ◌∙◌, subst, refl, inr, rules}
 use Rattle.std.proofs.lemmas.Grind.{common_steps}
 use Rattle.hlc_wire.proofs.FieldLemmas.{ok_is}
-use Rattle.hlc_core.specs.StoreView.{StoreView, Represents, nodes}
+use Rattle.hlc_core.specs.StoreView.{StoreView, Represents}
 use Rattle.hlc_body.specs.Reading.{saved}
 use Rattle.hlc_saved.specs.Saved.{AreOf}
 use Rattle.hlc_saved.proofs.SaveLemmas.{saved_again}
@@ -14,7 +14,7 @@ use Rattle.hlc_increment_calls.proofs.apply.apply.Goals as goal
 pub returns-in-Err : goal.returns-in-Err
 returns-in-Err c = record {
   advanced = tt;
-  represents = λ before after kept newer read past more of h spelled fits is g one. tt;
+  represents = λ before after kept newer read past more of h spelled fits is g. tt;
   err = inr (inr (
     c.in_ok-kept.kept,
     c.in_ok-read.field-0.word,
@@ -33,7 +33,7 @@ returns-in-Err c = record {
 }
 
 pub returns-in-Ok-new-clause-represents : goal.returns-in-Ok-new-clause-represents
-returns-in-Ok-new-clause-represents c = λ before after kept newer read past more of h spelled fits is g one.
+returns-in-Ok-new-clause-represents c = λ before after kept newer read past more of h spelled fits is g.
     let before' : ℕ = c.in_ok-kept.ensures.0 in
     let kept' : StoreView = c.in_ok-kept.kept in
     let older : (before', kept') ≡ (before, kept) =
@@ -53,6 +53,5 @@ returns-in-Ok-new-clause-represents c = λ before after kept newer read past mor
       subst (λ w. AreOf c.in-Ok-new.boxed.value.items w c.in_ok-made.made) word bytes,
       c.in_ok-made.ensures.represents past more newer
           (subst (λ (k : StoreView). Represents k past) (sym same) h) g
-          (ap nodes same ∙ one)
           (subst (λ (i : IncrementView). IsIncrementOf newer i) (sym found) is),
     )

@@ -1,7 +1,7 @@
 -- The records so far were applied.
-use Rattle.std.proofs.Common.{◌≡◌, ◌+◌, ◌≤◌, List, length}
+use Rattle.std.proofs.Common.{◌+◌, ◌≤◌, List, length}
 use Rattle.hlc_core.specs.Past.{Step}
-use Rattle.hlc_core.specs.StoreView.{nodes, Represents}
+use Rattle.hlc_core.specs.StoreView.{Represents}
 use Rattle.hlc_log.proofs.LogLemmas.{AppliedSoFar}
 use Rattle.hlc_log.proofs.apply.apply_records.Given as goal
 
@@ -9,8 +9,7 @@ abbrev pub invariant-loop-rest : goal.invariant-loop-rest
 invariant-loop-rest l = record {
   within : l.records + length l.rest ≤ length l.fn.bytes;
   applied : (past : List Step) → Represents l.fn.core past
-      → AppliedSoFar (nodes l.fn.core) l.core l.fn.bytes l.rest past l.fn.threshold l.records l.greatest;
-  nodes : nodes l.core ≡ nodes l.fn.core;
+      → AppliedSoFar l.core l.fn.bytes l.rest past l.fn.threshold l.records l.greatest;
 }
 
 abbrev pub decreases-loop-rest : goal.decreases-loop-rest

@@ -7,12 +7,12 @@ use Rattle.hlc_core.proofs.PastLemmas.{horizon-low, vacuum-none, open-low}
 use Rattle.hlc_passes.proofs.laws.a_vacuum_is_one_to_the_floor.Goals as goal
 
 pub returns-clause-refusal : goal.returns-clause-refusal
-returns-clause-refusal c = λ nodes past legal.
-    vacuum-none nodes past (floor nodes past) (omega arith) (horizon-low nodes past legal)
+returns-clause-refusal c = λ past legal.
+    vacuum-none past (floor past) (omega arith) (horizon-low past legal)
 
 pub returns-clause-points : goal.returns-clause-points
-returns-clause-points c = λ nodes past points legal.
-    let all' = stamps_to-all (floor nodes past) (open_snapshots past) (open-low nodes past legal) in (
-      λ are. subst (λ stamps. ArePoints stamps (floor nodes past) points) all' are,
-      λ are. subst (λ stamps. ArePoints stamps (floor nodes past) points) (sym all') are,
+returns-clause-points c = λ past points legal.
+    let all' = stamps_to-all (floor past) (open_snapshots past) (open-low past legal) in (
+      λ are. subst (λ stamps. ArePoints stamps (floor past) points) all' are,
+      λ are. subst (λ stamps. ArePoints stamps (floor past) points) (sym all') are,
     )

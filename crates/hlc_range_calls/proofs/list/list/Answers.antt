@@ -39,16 +39,16 @@ put_listing-end-requires c =
 pub returns-in-None-clause-listed : goal.returns-in-None-clause-listed
 returns-in-None-clause-listed c = λ past h.
     let views = c.in-Some.ensures past h in
-    listed_at c.in-Some.view.rows _ _ c.in-Some.view.stamp c.iter-2.result _ c.args.out.now c.args.out.now views.0 views.1
-    c.iter-2.ensures
+    listed_at c.in-Some.view.rows _ _ c.in-Some.view.stamp c.iter-2.result _ c.args.out.now c.args.out.now views.0
+    views.1 c.iter-2.ensures
     (put_none c.iter-2.result 18446744073709551615 c.args.out.now (omega (arith, c.in-None.ensures))
     (let big = c.in-None.ensures in omega (arith, big)))
 
 pub returns-then-total-room-clause-listed : goal.returns-then-total-room-clause-listed
 returns-then-total-room-clause-listed c = λ past h.
     let views = c.in-Some.ensures past h in
-    listed_at c.in-Some.view.rows _ _ c.in-Some.view.stamp c.iter-2.result _ c.args.out.now c.put_listing-end.new.out views.0
-    views.1 c.iter-2.ensures
+    listed_at c.in-Some.view.rows _ _ c.in-Some.view.stamp c.iter-2.result _ c.args.out.now c.put_listing-end.new.out
+    views.0 views.1 c.iter-2.ensures
     (put_whole c.iter-2.result c.iter-then-total-room.result c.in-Some-listing_len.total c.args.out.now
     c.put_listing-end.new.out
     (one_list c.in-Some.view.rows c.in-Some.view.stamp c.iter-2.result c.iter-then-total-room.result c.iter-2.ensures
@@ -59,6 +59,6 @@ pub returns-else-total-room-clause-listed : goal.returns-else-total-room-clause-
 returns-else-total-room-clause-listed c = λ past h.
     let views = c.in-Some.ensures past h in
     let total : c.in-Some-listing_len.total ≡ length (listing_bytes c.iter-2.result) = c.in-Some-listing_len.ensures in
-    listed_at c.in-Some.view.rows _ _ c.in-Some.view.stamp c.iter-2.result _ c.args.out.now c.args.out.now views.0 views.1
-    c.iter-2.ensures (put_none c.iter-2.result c.in-Some-listing_len.total c.args.out.now (omega (arith, total))
+    listed_at c.in-Some.view.rows _ _ c.in-Some.view.stamp c.iter-2.result _ c.args.out.now c.args.out.now views.0
+    views.1 c.iter-2.ensures (put_none c.iter-2.result c.in-Some-listing_len.total c.args.out.now (omega (arith, total))
     (let short = c.if-total-room.false in omega (arith, total, short)))

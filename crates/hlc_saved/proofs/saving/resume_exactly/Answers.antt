@@ -10,7 +10,8 @@ returns-in-Err c = saved_fault c.args.bytes.now c.in-Err.fault c.in-Err.ensures.
 
 pub returns : goal.returns
 returns c =
-    resumes c.with_word.result (whole (checkpoint_at (c.in-Ok.frame.body.now ++ []))) c.in-Ok.frame.word c.args.bytes.now
+    resumes c.with_word.result (whole (checkpoint_at (c.in-Ok.frame.body.now ++ []))) c.in-Ok.frame.word
+    c.args.bytes.now
     (λ i. omega (arith, c.type_inv.bytes i))
     (saved_body c.args.bytes.now c.in-Ok.frame.word c.in-Ok.frame.body.now c.in-Ok.ensures.exact)
     ((c.in-Ok.frame.word, c.in-Ok.frame.body.now), c.in-Ok.ensures.exact)

@@ -23,7 +23,8 @@ loop-done-preserved c = record {
 
 pub returns-in-Err-add-clause-same : goal.returns-in-Err-add-clause-same
 returns-in-Err-add-clause-same c = λ read has.
-    subst (λ g. RowsLeave g (c.args.left - c.loop-done.done) c.loop-done.rest.now read) (sym c.in-Err-add.ensures.err)
+    subst (λ g. RowsLeave g (c.args.left - c.loop-done.done) c.loop-done.rest.now read)
+    (sym c.in-Err-add.ensures.unchanged)
     (c.loop-done.invariant.same read has)
 
 pub returns-clause-same : goal.returns-clause-same

@@ -23,9 +23,8 @@ returns g c =
       kept = is;
       all = settled;
       returned = each_is_claimed trail (claims_of c.args.lists.items) settled;
-      legal = audited.legal;
       represents = audited.represents;
-      faithful = histories_are_faithful c.guarded.inside.core (history_of trail) audited.represents;
+      faithful = histories_are_faithful _ c.guarded.inside.core (history_of trail) audited.represents;
       core = ap (λ v. v.core) c.guarded.view_is;
       entries = c.len-entries.ensures ∙ c.in-Some.trail.entries.ok.0;
     }

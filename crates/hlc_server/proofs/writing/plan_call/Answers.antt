@@ -6,8 +6,8 @@ pub returns-in-None : goal.returns-in-None
 returns-in-None g c = record {
   made = record {
     form = c.finish.ensures.form c.args.event.now c.in_ok-planned-in-Vacuum.ensures.ok;
-    step = λ history represents.
-        c.finish.ensures.step c.args.event.now history c.in_ok-planned-in-Vacuum.ensures.ok represents;
+    step = λ nodes history represents.
+        c.finish.ensures.step nodes c.args.event.now history c.in_ok-planned-in-Vacuum.ensures.ok represents;
   };
   trail = search rules;
 }

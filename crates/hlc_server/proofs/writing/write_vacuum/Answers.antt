@@ -10,7 +10,7 @@ pub returns : goal.returns
 returns c = record {
   made = record {
     form = c.finish.ensures.form c.args.event.now c.requires;
-    step = λ history represents. c.finish.ensures.step c.args.event.now history c.requires represents;
+    step = λ nodes history represents. c.finish.ensures.step nodes c.args.event.now history c.requires represents;
   };
   trail =
       let before = c.args.trail.now.entries.items in

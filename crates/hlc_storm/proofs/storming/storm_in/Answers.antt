@@ -1,10 +1,10 @@
 -- The receipts settle, so the store represents the history in its trail; the report is found in that past.
-use Rattle.std.proofs.Common.{◌≡◌, List, Result, Ok, Err, IfOk, IfErr}
+use Rattle.std.proofs.Common.{◌≡◌, ℕ, List, Result, Ok, Err, IfOk, IfErr}
 use Rattle.hlc_events.specs.declared.event.CoreEvent.{CoreEvent}
 use Rattle.hlc_core.specs.declared.reply.CoreReply.{CoreReply}
 use Rattle.hlc_core.specs.Past.{Step}
-use Rattle.hlc_core.specs.StoreView.{StoreView, nodes, Represents}
-use Rattle.hlc_core.specs.History.{IsLegalHistory, past_of}
+use Rattle.hlc_core.specs.StoreView.{StoreView, Represents}
+use Rattle.hlc_core.specs.History.{RepresentsHistory, past_of}
 use Rattle.hlc_server.specs.declared.settle.SettleFault.TheVariants.{NoTrail}
 use Rattle.hlc_server.specs.declared.end.WorkEnd.TheVariants.{Done}
 use Rattle.hlc_words.specs.declared.plan.StormPlan.{StormPlan}
@@ -14,19 +14,17 @@ use Rattle.hlc_storm_report.specs.declared.report.StormFault.TheVariants.{Work, 
 use Rattle.hlc_storm_report.specs.Found.{IsFoundIn, MayReport}
 use Rattle.hlc_storm.proofs.storming.storm_in.Goals as goal
 
-found : (plan : StormPlan) (core : StoreView) (history : List (CoreEvent × CoreReply))
-    → IsLegalHistory (nodes core) history
-    → Represents core (past_of history) → (result : Result StormReport StormFault)
-    → IfOk result (λ report. (past : List Step) → Represents core past → IsFoundIn plan (nodes core) past report)
+found : (plan : StormPlan) (core : StoreView) (nodes : ℕ) (history : List (CoreEvent × CoreReply))
+    → RepresentsHistory nodes core history → (result : Result StormReport StormFault)
+    → IfOk result (λ report. (past : List Step) → Represents core past → IsFoundIn plan past report)
     → IfErr result (λ fault. fault ≡ NoMemory) → MayReport plan result
-found plan core history legal represents (Ok report) is out_of_memory =
-    (nodes core, history, legal, is (past_of history) represents)
-found plan core history legal represents (Err fault) is out_of_memory =
+found plan core nodes history h (Ok report) is out_of_memory =
+    (nodes, history, h.legal, is (past_of nodes history) h.core)
+found plan core nodes history h (Err fault) is out_of_memory =
     let shortage : fault ≡ NoMemory = out_of_memory in
     (λ (done : fault ≡ Work Done). cc, λ (none : fault ≡ Settle NoTrail). cc)
 
 pub returns : goal.returns
 returns g c =
-    let settles = c.in_ok-settled.ensures in
-    found c.args.plan _ _ settles.legal settles.represents.core c.report_of.result c.report_of.ensures.found
+    found c.args.plan _ _ _ c.in_ok-settled.ensures.represents c.report_of.result c.report_of.ensures.found
     c.report_of.ensures.memory

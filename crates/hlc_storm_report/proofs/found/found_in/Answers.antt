@@ -1,7 +1,7 @@
 -- The contract of each call says what it did to the past that the core represented before: the listing at the floor,
 -- and then the vacuum.
-use Rattle.std.proofs.Common.{◌+◌, ◌∷◌, ◌∙◌, ap, sym, subst}
-use Rattle.hlc_core.specs.Past.{Opened, Closed, floor, opened}
+use Rattle.std.proofs.Common.{◌+◌, ◌∷◌, sym, subst}
+use Rattle.hlc_core.specs.Past.{Opened, Closed, opened}
 use Rattle.hlc_core.specs.Stored.{IsReport}
 use Rattle.hlc_storm_report.proofs.found.found_in.Goals as goal
 
@@ -15,6 +15,6 @@ returns-clause-found c past represents =
       pairs = listed.1;
       vacuum = made.0;
       expected = subst (λ at. IsReport at (Closed (opened past + 1) ∷ Opened c.in_ok-listed.listed.0 ∷ past) made.0)
-          (ap (λ n. floor n past) c.in_ok-listed.ensures.nodes ∙ sym listed.0) made.1;
+          (sym listed.0) made.1;
       kept = made.2;
     }

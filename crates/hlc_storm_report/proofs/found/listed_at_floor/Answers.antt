@@ -4,18 +4,17 @@ use Rattle.std.proofs.Common.{◌+◌, ◌∷◌, ◌∙◌, ap, subst, sym}
 use Rattle.hlc_core.specs.Past.{Opened, Closed, floor, opened, stamp_of, writes}
 use Rattle.hlc_core.specs.Calls.{IsListed}
 use Rattle.hlc_core.specs.Listing.{IsListing}
-use Rattle.hlc_core.specs.StoreView.{nodes, Represents}
+use Rattle.hlc_core.specs.StoreView.{Represents}
 use Rattle.hlc_storm_report.proofs.Opening.{just_opened}
 use Rattle.hlc_storm_report.proofs.found.listed_at_floor.Goals as goal
 
 pub returns-clause-found : goal.returns-clause-found
 returns-clause-found c past represents =
-    let n = nodes c.args.core.now in
     let opening = c.in-Ok.ensures.represents past represents in
-    let then = Opened (floor n past) ∷ past in
+    let then = Opened (floor past) ∷ past in
     let id = ap (λ p. p.0) opening.1 in
     let at = ap (λ p. p.1) opening.1 in
-    let open_now = ap (λ i. stamp_of i then) id ∙ just_opened past (floor n past) in
+    let open_now = ap (λ i. stamp_of i then) id ∙ just_opened past (floor past) in
     let listed =
     subst (λ s. IsListed s (writes past) c.in-Ok-list.pairs) open_now (c.in-Ok-list.ensures then opening.2) in
     let closed = (c.in-Ok-close.ensures.represents then opening.2).1 in

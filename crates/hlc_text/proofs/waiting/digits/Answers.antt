@@ -14,24 +14,30 @@ returns-then-number-lt10 c =
 
 pub returns-then-number-lt100 : goal.returns-then-number-lt100
 returns-then-number-lt100 c =
-    decimal_long 2 c.args.number (omega arith) c.ranges.number.fits (omega (arith, c.if-number-lt10.false)) (omega (arith, c.if-number-lt100.true))
+    decimal_long 2 c.args.number (omega arith) c.ranges.number.fits (omega (arith, c.if-number-lt10.false))
+    (omega (arith, c.if-number-lt100.true))
 
 pub returns-then-number-lt1000 : goal.returns-then-number-lt1000
 returns-then-number-lt1000 c =
-    decimal_long 3 c.args.number (omega arith) c.ranges.number.fits (omega (arith, c.if-number-lt100.false)) (omega (arith, c.if-number-lt1000.true))
+    decimal_long 3 c.args.number (omega arith) c.ranges.number.fits (omega (arith, c.if-number-lt100.false))
+    (omega (arith, c.if-number-lt1000.true))
 
 pub returns-then-number-lt10000 : goal.returns-then-number-lt10000
 returns-then-number-lt10000 c =
-    decimal_long 4 c.args.number (omega arith) c.ranges.number.fits (omega (arith, c.if-number-lt1000.false)) (omega (arith, c.if-number-lt10000.true))
+    decimal_long 4 c.args.number (omega arith) c.ranges.number.fits (omega (arith, c.if-number-lt1000.false))
+    (omega (arith, c.if-number-lt10000.true))
 
 pub returns-then-number-lt100000 : goal.returns-then-number-lt100000
 returns-then-number-lt100000 c =
-    decimal_long 5 c.args.number (omega arith) c.ranges.number.fits (omega (arith, c.if-number-lt10000.false)) (omega (arith, c.if-number-lt100000.true))
+    decimal_long 5 c.args.number (omega arith) c.ranges.number.fits (omega (arith, c.if-number-lt10000.false))
+    (omega (arith, c.if-number-lt100000.true))
 
 pub returns-then-number-lt1000000 : goal.returns-then-number-lt1000000
 returns-then-number-lt1000000 c =
-    decimal_long 6 c.args.number (omega arith) c.ranges.number.fits (omega (arith, c.if-number-lt100000.false)) (omega (arith, c.if-number-lt1000000.true))
+    decimal_long 6 c.args.number (omega arith) c.ranges.number.fits (omega (arith, c.if-number-lt100000.false))
+    (omega (arith, c.if-number-lt1000000.true))
 
 pub returns-then-number-lt10000000 : goal.returns-then-number-lt10000000
 returns-then-number-lt10000000 c =
-    decimal_long 7 c.args.number (omega arith) c.ranges.number.fits (omega (arith, c.if-number-lt1000000.false)) (omega (arith, c.if-number-lt10000000.true))
+    decimal_long 7 c.args.number (omega arith) c.ranges.number.fits (omega (arith, c.if-number-lt1000000.false))
+    (omega (arith, c.if-number-lt10000000.true))

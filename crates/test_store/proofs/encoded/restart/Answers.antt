@@ -4,4 +4,4 @@ use Rattle.test_store.proofs.encoded.restart.Goals as goal
 
 pub returns-in-None : goal.returns-in-None
 returns-in-None c = λ word past of.
-    whole-log _ _ c.args.log.now past 0 _ (c.in-Ok.ensures.represents word past of).1 c.in-None.is
+    whole-log _ c.args.log.now past 0 _ (c.in-Ok.ensures.represents word past of).1 c.in-None.is

@@ -17,10 +17,11 @@ added : (c : After-put_row)
     → OnOk c.put_row.result (InsertedLast c.args.self.now (row_in c) (indexed_rows c.put_row.new.columns))
 added c =
     on_ok_weaker c.put_row.result
-    (subst (λ old. InsertedLast old (row_in c) (indexed_rows c.put_row.new.columns)) c.self.view_is) c.put_row.ensures.ok
+    (subst (λ old. InsertedLast old (row_in c) (indexed_rows c.put_row.new.columns)) c.self.view_is)
+    c.put_row.ensures.ok
 
 stayed : (c : After-put_row) → OnErr c.put_row.result (indexed_rows c.put_row.new.columns ≡ c.args.self.now)
-stayed c = on_err_weaker c.put_row.result (λ same. same ∙ c.self.view_is) c.put_row.ensures.err
+stayed c = on_err_weaker c.put_row.result (λ same. same ∙ c.self.view_is) c.put_row.ensures.unchanged
 
 pub invariant_of-self : goal.invariant_of-self
 invariant_of-self c =

@@ -25,7 +25,7 @@ added c =
     (indexed_rows c.put_row.new.columns)) c.self.view_is more)) c.put_row.ensures.ok
 
 stayed : (c : After-put_row) → OnErr c.put_row.result (indexed_rows c.put_row.new.columns ≡ c.args.self.now)
-stayed c = on_err_weaker c.put_row.result (λ same. same ∙ c.self.view_is) c.put_row.ensures.err
+stayed c = on_err_weaker c.put_row.result (λ same. same ∙ c.self.view_is) c.put_row.ensures.unchanged
 
 pub invariant_of-self : goal.invariant_of-self
 invariant_of-self c =

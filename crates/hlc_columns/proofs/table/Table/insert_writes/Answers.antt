@@ -24,10 +24,10 @@ returns-clause-ok c =
     ended c.args.self.now c.args.node c.args.stamp c.args.writes c.loop-first.self c.loop-first.rest
     c.loop-first.invariant c.in_default.ensures
 
-pub returns-in-Err-clause-err : goal.returns-in-Err-clause-err
-returns-in-Err-clause-err c =
+pub returns-in-Err-clause-unchanged : goal.returns-in-Err-clause-unchanged
+returns-in-Err-clause-unchanged c =
     c.remove_first.ensures c.args.self.now c.args.node c.args.stamp
-    (rw c.in-Err.ensures.err
+    (rw c.in-Err.ensures.unchanged
     (so-far c.args.self.now c.args.node c.args.stamp c.args.writes c.loop-first.self c.loop-first.rest
     (write_seen c.in-Some.first) c.in-Some.others (c.len.result - 1 - c.len-in-Err.result) c.loop-first.invariant
     c.in-Some.ensures (rw (c.len.ensures, c.len-in-Err.ensures) refl)))

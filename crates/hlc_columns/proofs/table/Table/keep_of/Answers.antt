@@ -50,7 +50,8 @@ invariant_of-self c =
     let at = (goal.at.invariant_of-self c).After-len in
     let e = same_many at in
     let le = c.requires in
-    let long = ap length c.split_at-first.ensures.first ∙ length-take-le c.len.result c.args.flags (omega (arith, e, le))
+    let long = ap length c.split_at-first.ensures.first
+    ∙ length-take-le c.len.result c.args.flags (omega (arith, e, le))
     ∙ read_many at in (
       filled_left c.self.inside.columns c.args.key.now c.in-Some.at c.in-Some.slot c.in-Some.ensures.place
           c.in-Some.ensures.ascend c.split_at-first.result.0 (entries_in c.keep_column.new.columns)
@@ -68,7 +69,8 @@ returns-clause-kept c =
     let at = (goal.at.returns-clause-kept c).After-len in
     let e = same_many at in
     let le = c.requires in
-    let long = ap length c.split_at-first.ensures.first ∙ length-take-le c.len.result c.args.flags (omega (arith, e, le))
+    let long = ap length c.split_at-first.ensures.first
+    ∙ length-take-le c.len.result c.args.flags (omega (arith, e, le))
     ∙ read_many at in
     rows_left c.self.inside.columns c.args.key.now c.in-Some.at c.in-Some.slot
     c.in-Some.ensures.place c.in-Some.ensures.ascend c.split_at-first.result.0

@@ -28,8 +28,8 @@ invariant_of-self c =
       sound-vacuum _ _ _ _ _ _ _ c.self.invariant.1 low made.within,
     )
 
-pub returns-clause-vacuums : goal.returns-clause-vacuums
-returns-clause-vacuums c = λ past after most h tally.
+pub returns : goal.returns
+returns c = λ past after most h tally.
     let of = subst (λ kept. IsPartTallyAt kept c.args.at after most c.args.part) (sym c.self.view_is) tally in
     let made = part-vacuums_keys _ c.args.at past after most (with_plan c.args.part of.plan)
     c.apply_part_tally-made.new.table (rw (← c.self.view_is) at h)

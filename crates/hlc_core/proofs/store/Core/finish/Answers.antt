@@ -9,12 +9,14 @@ use Rattle.hlc_core.proofs.StepLemmas.{part_is_step}
 use Rattle.hlc_core.proofs.store.Core.finish.Goals as goal
 
 pub returns-in-Part-clause-step : goal.returns-in-Part-clause-step
-returns-in-Part-clause-step c = λ event history planned represents.
+returns-in-Part-clause-step c = λ nodes event history planned represents.
     let made = c.carry_out_part-report in
     let of = (subst (λ (p : Planned). IsPlannedFor c.args.self.now event p) c.in-Part.is planned).1 in
-    subst (λ (report : Report). IsStep c.args.self.now made.new.self event history (VacuumedPart report made.result.1))
+    subst (λ (report : Report). IsStep nodes
+    c.args.self.now made.new.self event history (VacuumedPart report made.result.1))
     (sym c.with-in-Part.ensures)
-    (subst (λ e. IsStep c.args.self.now made.new.self e history (VacuumedPart made.result.0 made.result.1)) (sym of.is)
-    (part_is_step c.args.self.now made.new.self c.in-Part.at of.after of.most history made.result.0 made.result.1
-    made.ensures.nodes represents
-    (made.ensures.vacuums (past_of history) of.after of.most represents.core of.planned)))
+    (subst (λ e. IsStep nodes c.args.self.now made.new.self e history (VacuumedPart made.result.0 made.result.1))
+    (sym of.is)
+    (part_is_step nodes c.args.self.now made.new.self c.in-Part.at of.after of.most history made.result.0 made.result.1
+    represents
+    (made.ensures.vacuums (past_of nodes history) of.after of.most represents.core of.planned)))

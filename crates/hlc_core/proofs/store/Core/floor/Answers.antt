@@ -7,7 +7,7 @@ use Rattle.hlc_core.proofs.store.Core.floor.Goals as goal
 pub returns-clause-represents : goal.returns-clause-represents
 returns-clause-represents c = λ past h.
     let h' = rw (← c.self.view_is) at h in
-    rw (← c.self.view_is) (floor-is _ _ c.floor.ensures ∙ floor-in _ past h')
+    floor-is _ _ c.floor.ensures ∙ floor-in _ past h'
 
 pub returns-clause-least : goal.returns-clause-least
 returns-clause-least c = rw (← c.self.view_is) c.floor.ensures

@@ -24,8 +24,8 @@ returns-clause-represents c = λ past h.
     let made = c.in_ok-join.ensures in
     let is = made.1 ∙ h'.many in
     let at = floor-is _ _ made.2 ∙ floor-in _ past h' in
-    let none = joins-none _ past _ made.0 h'.many in
-    rw (← c.self.view_is, made.3) (
+    let none = joins-none past _ made.0 h'.many in
+    rw made.3 (
       none,
       both c.in_ok-join.field-0 _ _ is at,
       joins _ past c.in_ok-join.field-0.0 c.in_ok-join.field-0.1 h' none is (omega (arith, at)),

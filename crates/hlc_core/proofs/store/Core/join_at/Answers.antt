@@ -20,8 +20,8 @@ pub returns-in_err-join_at-clause-represents : goal.returns-in_err-join_at-claus
 returns-in_err-join_at-clause-represents c = λ past h.
     let h' = rw (← c.self.view_is) at h in
     let p = err_from_is_err_and c.from_residual.result c.from_residual.ensures.1 in
-    rw (← c.self.view_is, p.1, p.2)
-    (refused _ past _ c.join_at.new.self c.args.start c.in_err-join_at.field-0.0 h'.many (floor-in _ past h')
+    rw (p.1, p.2)
+    (refused past _ c.join_at.new.self c.args.start c.in_err-join_at.field-0.0 h'.many (floor-in _ past h')
     c.in_err-join_at.ensures)
 
 pub returns-clause-represents : goal.returns-clause-represents
@@ -29,9 +29,9 @@ returns-clause-represents c = λ past h.
     let h' = rw (← c.self.view_is) at h in
     let made = c.in_ok-join_at.ensures in
     let is = made.2 ∙ h'.many in
-    let none = joins-none _ past _ made.0 h'.many in
+    let none = joins-none past _ made.0 h'.many in
     let at = floor-in _ past h' in
     let low = made.1 in
-    let up : floor c.self.inside.start past ≤ c.args.start = omega (arith, low, at) in
-    rw (← c.self.view_is, made.3)
-    (joins-at_none _ past c.args.start none up, is, joins _ past c.in_ok-join_at.field-0 c.args.start h' none is up)
+    let up : floor past ≤ c.args.start = omega (arith, low, at) in
+    rw made.3
+    (joins-at_none past c.args.start none up, is, joins _ past c.in_ok-join_at.field-0 c.args.start h' none is up)

@@ -2,5 +2,5 @@
 use Rattle.hlc_core.proofs.store.Core.vacuum_step.Goals as goal
 
 pub returns-clause-represents : goal.returns-clause-represents
-returns-clause-represents c = λ history h.
-    c.finish.ensures.step c.args.event.now history c.in_ok-planned.ensures.ok h
+returns-clause-represents c = λ nodes history h.
+    c.finish.ensures.step nodes c.args.event.now history c.in_ok-planned.ensures.ok h

@@ -1,4 +1,5 @@
--- The changes at the points so far and their flags were added, the changes were listed, the answer at the point before is known, and no row is
+-- The changes at the points so far and their flags were added, the changes were listed, the answer at the point before
+-- is known, and no row is
 -- in the gap after it.
 use Rattle.std.proofs.Common.{◌≡◌, ◌+◌, List, length, option_copied}
 use Rattle.hlc_witness.specs.Changes.{answer_at}

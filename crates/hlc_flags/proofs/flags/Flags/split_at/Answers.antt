@@ -77,7 +77,8 @@ run_is c = ap flags_in (sym c.in-Run.is) ∙ c.self.view_is
 
 in_run : (c : In-Run) → c.args.count ≤ c.in-Run.set + c.in-Run.unset
 in_run c =
-    let many = ap length (sym (run_is c)) ∙ length-append (replicate c.in-Run.set true) (replicate c.in-Run.unset false) in
+    let many = ap length (sym (run_is c))
+    ∙ length-append (replicate c.in-Run.set true) (replicate c.in-Run.unset false) in
     let sets = length-replicate c.in-Run.set true in
     let others = length-replicate c.in-Run.unset false in
     let le = c.requires in

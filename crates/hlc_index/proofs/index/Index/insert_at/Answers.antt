@@ -16,7 +16,7 @@ invariant_of-self g c =
     c.self.invariant (slot_empty c.self.inside.leaves c.args.key (sym c.len.ensures ∙ c.if-len-eq0.true))
     (on_ok_weaker c.push.result (pushed c.self.inside.leaves c.push.new.self (c.args.key, c.args.value))
     c.push.ensures.ok)
-    (on_err_weaker c.push.result (ap entries_in) c.push.ensures.err)
+    (on_err_weaker c.push.result (ap entries_in) c.push.ensures.unchanged)
 
 -- the place among all entries
 module _ (g : Over) (c : After-is_full_end g) where
@@ -58,7 +58,7 @@ invariant_of-self-2 g c =
     c.self.invariant (gap g at).2
     (on_ok_weaker c.put.result (λ e. e ∙ with_is c.self.inside.leaves c.args.at c.args.slot (c.args.key, c.args.value)
     (inside g at) (gap g at).1) c.put.ensures.ok)
-    c.put.ensures.err
+    c.put.ensures.unchanged
 
 pub returns-clause-ok : goal.returns-clause-ok
 returns-clause-ok g c =
@@ -81,7 +81,7 @@ invariant_of-self-then-is_full_end g c =
     (on_ok_weaker c.push-then-is_full_end.result
     (pushed c.self.inside.leaves c.push-then-is_full_end.new.self (c.args.key, c.args.value))
     c.push-then-is_full_end.ensures.ok)
-    (on_err_weaker c.push-then-is_full_end.result (ap entries_in) c.push-then-is_full_end.ensures.err)
+    (on_err_weaker c.push-then-is_full_end.result (ap entries_in) c.push-then-is_full_end.ensures.unchanged)
 
 pub returns-then-is_full_end-clause-ok : goal.returns-then-is_full_end-clause-ok
 returns-then-is_full_end-clause-ok g c =

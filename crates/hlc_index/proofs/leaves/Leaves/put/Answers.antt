@@ -46,10 +46,10 @@ returns-then-slot-le-HALF-clause-ok g c =
     c.args.at 64 c.requires.leaf c.in-Ok.ensures.ok
     c.args.slot c.args.entry c.if-slot-le-HALF.true c.requires.inside) c.insert-then-slot-le-HALF.ensures.ok
 
-pub returns-then-slot-le-HALF-clause-err : goal.returns-then-slot-le-HALF-clause-err
-returns-then-slot-le-HALF-clause-err g c =
+pub returns-then-slot-le-HALF-clause-unchanged : goal.returns-then-slot-le-HALF-clause-unchanged
+returns-then-slot-le-HALF-clause-unchanged g c =
     on_err_weaker c.insert-then-slot-le-HALF.result (λ e. ap entries_in e ∙ cut_same c.args.self.now c.split.new.self
-    c.args.at 64 c.requires.leaf c.in-Ok.ensures.ok) c.insert-then-slot-le-HALF.ensures.err
+    c.args.at 64 c.requires.leaf c.in-Ok.ensures.ok) c.insert-then-slot-le-HALF.ensures.unchanged
 
 pub returns-else-slot-le-HALF-clause-ok : goal.returns-else-slot-le-HALF-clause-ok
 returns-else-slot-le-HALF-clause-ok g c =
@@ -59,7 +59,7 @@ returns-else-slot-le-HALF-clause-ok g c =
     c.args.at 64 c.requires.leaf c.in-Ok.ensures.ok
     c.args.slot c.args.entry (omega (arith, past)) (omega (arith, past, inside))) c.insert-else-slot-le-HALF.ensures.ok
 
-pub returns-else-slot-le-HALF-clause-err : goal.returns-else-slot-le-HALF-clause-err
-returns-else-slot-le-HALF-clause-err g c =
+pub returns-else-slot-le-HALF-clause-unchanged : goal.returns-else-slot-le-HALF-clause-unchanged
+returns-else-slot-le-HALF-clause-unchanged g c =
     on_err_weaker c.insert-else-slot-le-HALF.result (λ e. ap entries_in e ∙ cut_same c.args.self.now c.split.new.self
-    c.args.at 64 c.requires.leaf c.in-Ok.ensures.ok) c.insert-else-slot-le-HALF.ensures.err
+    c.args.at 64 c.requires.leaf c.in-Ok.ensures.ok) c.insert-else-slot-le-HALF.ensures.unchanged

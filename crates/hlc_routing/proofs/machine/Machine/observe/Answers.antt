@@ -7,5 +7,6 @@ pub returns-clause-extends : goal.returns-clause-extends
 returns-clause-extends c = λ layout run m s legal h inside low.
     let h' = rw (← c.self.view_is) at h in
     let view : MachineView = record { last = c.self.inside.clock; nodes = c.self.inside.nodes.items } in
-    observed-by_clock layout run m s view c.receive.new.self c.args.seen c.args.reading c.receive.result legal h' inside low
+    observed-by_clock layout run m s view c.receive.new.self c.args.seen c.args.reading
+    c.receive.result legal h' inside low
     c.receive.ensures.rule c.receive.ensures.ok

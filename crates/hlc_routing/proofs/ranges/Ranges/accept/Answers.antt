@@ -18,8 +18,9 @@ returns-clause-represents c = λ layout run h issued'.
     let at = slice_get_read c.self.inside.stores.items _ c.args.store c.in-Some.core.now refl lent.3.0 lent.1 in
     let view : RangesView = record { division = c.self.inside.division; stores = c.self.inside.stores.items } in
     let all' = accepted layout view run c.args.store c.in-Some.core.now c.accept.new.self c.args.item c.accept.result
-    h' at c.accept.ensures.nodes
-    (c.accept.ensures.represents (past_of c.args.store run) (h'.pasts c.args.store c.in-Some.core.now at)) issued' in
+    h' at
+    (c.accept.ensures.represents (past_of layout c.args.store run) (h'.pasts c.args.store
+    c.in-Some.core.now at)) issued' in
     elim c.match-accept.branch [
       | in-Ok w ↦ rw w.result-is (subst (λ r. OnOk r (Represents layout
           (with_store view c.args.store c.accept.new.self) (Stepped c.args.store (Took c.args.item) ∷ run)))

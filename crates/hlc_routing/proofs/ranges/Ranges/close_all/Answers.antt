@@ -10,7 +10,7 @@ returns-then-open-clause-ok c = λ layout run h.
     let many : length c.args.self.now.stores ≡ layout.stores = h.many in
     let count : length c.args.snapshot.now.ids ≡ layout.stores = omega (arith, c.if-ids-many.false, a, b, many) in (
       count,
-      same-ids run c.ids.result.now c.args.snapshot.now.ids c.ids.ensures
+      same-ids layout run c.ids.result.now c.args.snapshot.now.ids c.ids.ensures
           ((c.close_each-open.ensures.open layout run h).0 c.if-open.true),
     )
 
@@ -22,7 +22,7 @@ returns-then-open-clause-all c = λ layout run h open'.
 pub returns-else-open-clause-err : goal.returns-else-open-clause-err
 returns-else-open-clause-err c = λ layout run h are.
     let t : c.close_each-open.result ≡ true = (c.close_each-open.ensures.open layout run h).1
-    (same-ids run c.args.snapshot.now.ids c.ids.result.now (sym c.ids.ensures) are.1) in
+    (same-ids layout run c.args.snapshot.now.ids c.ids.result.now (sym c.ids.ensures) are.1) in
     let e : false ≡ true = sym c.if-open.false ∙ t in cc
 
 pub returns-else-open-clause-all : goal.returns-else-open-clause-all

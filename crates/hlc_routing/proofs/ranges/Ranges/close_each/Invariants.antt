@@ -10,7 +10,7 @@ abbrev pub invariant-loop-store : goal.invariant-loop-store
 invariant-loop-store l = record {
   division : l.self.division ≡ l.initial.self.division;
   closed : (layout : Layout) (run : List Turn) → Represents layout l.initial.self run
-      → Represents layout l.self (each_closed l.ids l.store run);
+      → Represents layout l.self (each_closed layout l.ids l.store run);
   open' : (layout : Layout) (run : List Turn) → Represents layout l.initial.self run
-      → IsTrue l.open ↔ AreOpenUpto run l.ids l.store;
+      → IsTrue l.open ↔ AreOpenUpto layout run l.ids l.store;
 }

@@ -9,5 +9,6 @@ returns-clause-represents c = λ layout run h.
 
 pub returns-clause-open : goal.returns-clause-open
 returns-clause-open c = λ layout run h.
-    rw c.is_ok.ensures.value (open-is layout c.args.self.now c.close.new.self run c.args.store c.args.id c.close.result h
+    rw c.is_ok.ensures.value (open-is layout c.args.self.now c.close.new.self run c.args.store c.args.id
+    c.close.result h
     (c.close.ensures.represents layout run h))

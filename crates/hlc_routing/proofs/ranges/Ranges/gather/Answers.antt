@@ -30,9 +30,10 @@ returns-in_default-at-clause-err c = λ layout run h open'.
     let read' : get_or c.ids.result.now store 0 ≡ c.in-Some.id.now = grind (arith, common_steps, gets) in
     let id-is : get_or c.args.snapshot.now.ids store 0 ≡ c.in-Some.id.now =
     ap (λ (xs : List ℕ). get_or xs store 0) (sym c.ids.ensures) ∙ read' in
-    absurd (seen-shut c.in-Some.id.now (past_of store run) c.args.snapshot.now.stamp c.at.result
-    (c.at.ensures (past_of store run) (h.pasts store c.index-stores-store.result at))
-    (subst (λ id. stamp_of id (past_of store run) ≡ Some c.args.snapshot.now.stamp) id-is (open'.each store inside))
+    absurd (seen-shut c.in-Some.id.now (past_of layout store run) c.args.snapshot.now.stamp c.at.result
+    (c.at.ensures (past_of layout store run) (h.pasts store c.index-stores-store.result at))
+    (subst (λ id. stamp_of id (past_of layout store run) ≡ Some
+    c.args.snapshot.now.stamp) id-is (open'.each store inside))
     c.in_default-at.is)
 
 pub loop-store-preserved : goal.loop-store-preserved
@@ -54,7 +55,8 @@ loop-store-preserved c = λ layout run h open'.
     c.in-Some-at.view c.loop-store.pairs.items c.in_ok-more.more.items c.append.new.self.items
     (λ s k stamp other. c.keys_stay_in_their_store.ensures layout run s k stamp h.legal other)
     (c.loop-store.invariant layout run h open')
-    (subst (λ o. Views c.in-Some.id.now (past_of store run) o) c.in-Some-at.is
-    (c.at.ensures (past_of store run) (h.pasts store c.index-stores-store.result at)))
-    (subst (λ id. stamp_of id (past_of store run) ≡ Some c.args.snapshot.now.stamp) id-is (open'.each store inside))
+    (subst (λ o. Views c.in-Some.id.now (past_of layout store run) o) c.in-Some-at.is
+    (c.at.ensures (past_of layout store run) (h.pasts store c.index-stores-store.result at)))
+    (subst (λ id. stamp_of id (past_of layout store run) ≡ Some
+    c.args.snapshot.now.stamp) id-is (open'.each store inside))
     c.in_ok-more.ensures c.in_ok-append.ensures.items

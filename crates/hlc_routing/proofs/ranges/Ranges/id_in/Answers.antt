@@ -25,8 +25,8 @@ returns-in_default-stamp_of c = λ layout run h open'.
     ∙ ap Some (sym c.in-Some-get.ensures.lookup.1)) in
     let e : None ≡ Some c.args.snapshot.now.stamp =
     sym c.in_default-stamp_of.is
-    ∙ c.stamp_of.ensures (past_of c.args.store run) (h.pasts c.args.store c.in-Some-get.core.now at)
-    ∙ one-id c.args.snapshot.now run c.args.store c.in-Some.id.now is open' in absurd (cc)
+    ∙ c.stamp_of.ensures (past_of layout c.args.store run) (h.pasts c.args.store c.in-Some-get.core.now at)
+    ∙ one-id layout c.args.snapshot.now run c.args.store c.in-Some.id.now is open' in absurd (cc)
 
 pub returns-then-ne : goal.returns-then-ne
 returns-then-ne c = λ layout run h open'.
@@ -40,8 +40,8 @@ returns-then-ne c = λ layout run h open'.
     ∙ ap Some (sym c.in-Some-get.ensures.lookup.1)) in
     let e : Some c.in-Some-stamp_of.stamp ≡ Some c.args.snapshot.now.stamp =
     sym c.in-Some-stamp_of.is
-    ∙ c.stamp_of.ensures (past_of c.args.store run) (h.pasts c.args.store c.in-Some-get.core.now at)
-    ∙ one-id c.args.snapshot.now run c.args.store c.in-Some.id.now is open' in
+    ∙ c.stamp_of.ensures (past_of layout c.args.store run) (h.pasts c.args.store c.in-Some-get.core.now at)
+    ∙ one-id layout c.args.snapshot.now run c.args.store c.in-Some.id.now is open' in
     let same : c.in-Some-stamp_of.stamp ≡ c.args.snapshot.now.stamp = cc in search rules
 
 pub returns : goal.returns
@@ -54,6 +54,6 @@ returns c = λ layout run h.
       subst (λ (xs : List ℕ). slice_get xs c.args.store ≡ Some c.in-Some.id.now) c.ids.ensures
           (slice_get-get_or c.ids.result.now c.args.store c.in-Some.id.now c.in-Some.ensures.lookup.3.0
           ∙ ap Some (sym c.in-Some.ensures.lookup.1)),
-      sym (c.stamp_of.ensures (past_of c.args.store run) (h.pasts c.args.store c.in-Some-get.core.now at))
+      sym (c.stamp_of.ensures (past_of layout c.args.store run) (h.pasts c.args.store c.in-Some-get.core.now at))
           ∙ c.in-Some-stamp_of.is ∙ ap Some same,
     )

@@ -13,7 +13,7 @@ returns-then-is_none c = λ layout run h. (
       let many : length c.args.self.now.stores ≡ layout.stores = h.many in
       let inside : c.loop-store.store < layout.stores = omega (arith, c.loop-store-test.true, a, many) in
       let none : is_some c.id_in.result ≡ false = search rules in
-      absurd (id-shut c.args.snapshot.now run c.loop-store.store c.id_in.result (c.id_in.ensures layout run h)
+      absurd (id-shut layout c.args.snapshot.now run c.loop-store.store c.id_in.result (c.id_in.ensures layout run h)
       none
       (open-here layout c.args.snapshot.now run c.loop-store.store all' inside)),
 )
@@ -21,8 +21,8 @@ returns-then-is_none c = λ layout run h. (
 pub loop-store-preserved : goal.loop-store-preserved
 loop-store-preserved c = λ layout run h.
     let some : is_some c.id_in.result ≡ true = search rules in
-    open-next c.args.snapshot.now run c.loop-store.store (c.loop-store.invariant layout run h)
-    (id-open c.args.snapshot.now run c.loop-store.store c.id_in.result (c.id_in.ensures layout run h)
+    open-next layout c.args.snapshot.now run c.loop-store.store (c.loop-store.invariant layout run h)
+    (id-open layout c.args.snapshot.now run c.loop-store.store c.id_in.result (c.id_in.ensures layout run h)
     some)
 
 pub returns : goal.returns
@@ -35,6 +35,6 @@ returns c = λ layout run h. (
       let as_many : length c.ids.result.now ≡ length c.stores-stores.result.now = omega arith in
       let last : c.loop-store.store ≡ layout.stores = omega arith in
       open-all layout c.args.snapshot.now run (omega (arith, a, b, many, as_many))
-      (subst (IsOpenUpto c.args.snapshot.now run) last (c.loop-store.invariant layout run h)),
+      (subst (IsOpenUpto layout c.args.snapshot.now run) last (c.loop-store.invariant layout run h)),
   λ all'. refl,
 )

@@ -7,4 +7,4 @@ use Rattle.hlc_routing.proofs.ranges.Ranges.is_open_all.Given as goal
 
 abbrev pub invariant-loop-store : goal.invariant-loop-store
 invariant-loop-store l =
-    (layout : Layout) (run : List Turn) → Represents layout l.self run → IsOpenUpto l.snapshot run l.store
+    (layout : Layout) (run : List Turn) → Represents layout l.self run → IsOpenUpto layout l.snapshot run l.store

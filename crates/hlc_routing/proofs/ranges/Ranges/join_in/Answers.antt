@@ -14,12 +14,13 @@ returns-clause-represents c = λ layout run h.
     let lent = c.in-Some.ensures.item in
     let at = slice_get_read c.self.inside.stores.items _ c.args.store c.in-Some.core.now refl lent.3.0 lent.1 in
     let view : RangesView = record { division = c.self.inside.division; stores = c.self.inside.stores.items } in
-    let joins = c.join.ensures.represents (past_of c.args.store run) (h'.pasts c.args.store c.in-Some.core.now at) in
+    let joins = c.join.ensures.represents (past_of layout c.args.store run) (h'.pasts c.args.store
+    c.in-Some.core.now at) in
     elim c.match-join.branch [
       | in-Ok w ↦ rw w.result-is (joined layout view run c.args.store c.in-Some.core.now c.join.new.self _
-          h' at c.join.ensures.nodes
-          (subst (λ r. Joins c.in-Some.core.now c.join.new.self (past_of c.args.store run) r) w.in-Ok.is joins))
+          h' at
+          (subst (λ r. Joins c.join.new.self (past_of layout c.args.store run) r) w.in-Ok.is joins))
       | in-Err w ↦ rw (w.result-is, ← c.self.view_is) (not-joined layout view view run c.args.store c.in-Some.core.now
           c.join.new.self _ h' at
-          (subst (λ r. Joins c.in-Some.core.now c.join.new.self (past_of c.args.store run) r) w.in-Err.is joins))
+          (subst (λ r. Joins c.join.new.self (past_of layout c.args.store run) r) w.in-Err.is joins))
     ]

@@ -14,14 +14,15 @@ returns-clause-represents c = λ layout run h.
     let lent = c.in-Some.ensures.item in
     let at = slice_get_read c.self.inside.stores.items _ c.args.store c.in-Some.core.now refl lent.3.0 lent.1 in
     let view : RangesView = record { division = c.self.inside.division; stores = c.self.inside.stores.items } in
-    let opens = c.open.ensures.represents (past_of c.args.store run) (h'.pasts c.args.store c.in-Some.core.now at) in
+    let opens = c.open.ensures.represents (past_of layout c.args.store run) (h'.pasts c.args.store
+    c.in-Some.core.now at) in
     elim c.match-open.branch [
       | in-Ok w ↦ rw w.result-is (opened layout view run c.args.store c.in-Some.core.now c.open.new.self c.args.stamp _
-          h' at c.open.ensures.nodes
-          (subst (λ r. Opens c.in-Some.core.now c.open.new.self c.args.stamp (past_of c.args.store run) r)
+          h' at
+          (subst (λ r. Opens c.open.new.self c.args.stamp (past_of layout c.args.store run) r)
           w.in-Ok.is opens))
       | in-Err w ↦ rw (w.result-is, ← c.self.view_is) (not-opened layout view view run c.args.store c.in-Some.core.now
           c.open.new.self c.args.stamp _ h' at
-          (subst (λ r. Opens c.in-Some.core.now c.open.new.self c.args.stamp (past_of c.args.store run) r)
+          (subst (λ r. Opens c.open.new.self c.args.stamp (past_of layout c.args.store run) r)
           w.in-Err.is opens))
     ]

@@ -17,10 +17,11 @@ returns-clause-represents c = λ layout run h.
     c.self.view_is
     (slice_get_read c.self.inside.stores.items _ c.store_of-store.result c.index.result.now refl inside
     c.index.ensures) in
-    subst (λ s. MatchOption (stamp_of c.args.id (past_of s run)) (IsErr c.read.result) (λ stamp. IsOkAnd c.read.result
-    (λ value. option_copied value ≡ answer (writes (past_of s run)) c.args.key.now stamp)))
+    subst (λ s. MatchOption (stamp_of c.args.id (past_of layout s run)) (IsErr c.read.result) (λ stamp. IsOkAnd
+    c.read.result
+    (λ value. option_copied value ≡ answer (writes (past_of layout s run)) c.args.key.now stamp)))
     c.store_of-store.ensures.value
-    (c.read.ensures.represents (past_of c.store_of-store.result run)
+    (c.read.ensures.represents (past_of layout c.store_of-store.result run)
     (h.pasts c.store_of-store.result c.index.result.now at))
 
 pub returns-clause-newest : goal.returns-clause-newest
@@ -31,9 +32,11 @@ returns-clause-newest c = λ layout run stamp h cut is.
     c.self.view_is
     (slice_get_read c.self.inside.stores.items _ c.store_of-store.result c.index.result.now refl inside
     c.index.ensures) in
-    let is' = subst (λ s. stamp_of c.args.id (past_of s run) ≡ Some stamp) (sym c.store_of-store.ensures.value) is in
-    newest layout run c.store_of-store.result c.args.id stamp c.args.key.now c.read.result (λ value. option_copied value)
+    let is' = subst (λ s. stamp_of c.args.id (past_of layout s run) ≡ Some stamp)
+    (sym c.store_of-store.ensures.value) is in
+    newest layout run c.store_of-store.result c.args.id stamp c.args.key.now
+    c.read.result (λ value. option_copied value)
     (h.routed c.args.key.now ∙ sym c.store_of-store.ensures.value) is'
-    (c.read.ensures.represents (past_of c.store_of-store.result run)
+    (c.read.ensures.represents (past_of layout c.store_of-store.result run)
     (h.pasts c.store_of-store.result c.index.result.now at))
     (c.cuts_are_consistent.ensures layout run stamp h.legal cut).issued

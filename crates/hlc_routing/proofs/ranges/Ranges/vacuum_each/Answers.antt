@@ -52,7 +52,8 @@ returns-clause-ok c = λ layout run h.
     ap length c.stores-stores.ensures.value in
     let many : length c.args.self.now.stores ≡ layout.stores = h.many in
     let all' : c.loop-store.store ≡ layout.stores = omega arith in (
-      subst (λ n. HaveStepped layout c.loop-store.self run (vacuum_refusals layout run c.args.at) (vacuuming c.args.at) n)
+      subst (λ n. HaveStepped layout c.loop-store.self run (vacuum_refusals layout run c.args.at) (vacuuming
+          c.args.at) n)
           all' inv.stepped,
-      subst (λ n. AreReports c.loop-store.self c.args.at run c.loop-store.reports.items n) all' inv.made,
+      subst (λ n. AreReports layout c.loop-store.self c.args.at run c.loop-store.reports.items n) all' inv.made,
     )

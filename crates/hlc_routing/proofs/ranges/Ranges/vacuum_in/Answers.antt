@@ -14,15 +14,15 @@ returns-clause-represents c = λ layout run h.
     let lent = c.in-Some.ensures.item in
     let at = slice_get_read c.self.inside.stores.items _ c.args.store c.in-Some.core.now refl lent.3.0 lent.1 in
     let view : RangesView = record { division = c.self.inside.division; stores = c.self.inside.stores.items } in
-    let vacuums = c.vacuum_to.ensures.represents (past_of c.args.store run)
+    let vacuums = c.vacuum_to.ensures.represents (past_of layout c.args.store run)
     (h'.pasts c.args.store c.in-Some.core.now at) in
     elim c.match-vacuum_to.branch [
       | in-Ok w ↦ rw w.result-is (vacuumed layout view run c.args.store c.args.at c.in-Some.core.now
-          c.vacuum_to.new.self _ h' at c.vacuum_to.ensures.nodes
-          (subst (λ r. VacuumsTo c.in-Some.core.now c.vacuum_to.new.self c.args.at (past_of c.args.store run) r)
+          c.vacuum_to.new.self _ h' at
+          (subst (λ r. VacuumsTo c.in-Some.core.now c.vacuum_to.new.self c.args.at (past_of layout c.args.store run) r)
           w.in-Ok.is vacuums))
       | in-Err w ↦ rw (w.result-is, ← c.self.view_is) (not-vacuumed layout view view run c.args.store c.args.at
           c.in-Some.core.now c.vacuum_to.new.self _ h' at
-          (subst (λ r. VacuumsTo c.in-Some.core.now c.vacuum_to.new.self c.args.at (past_of c.args.store run) r)
+          (subst (λ r. VacuumsTo c.in-Some.core.now c.vacuum_to.new.self c.args.at (past_of layout c.args.store run) r)
           w.in-Err.is vacuums))
     ]

@@ -9,17 +9,16 @@ use Rattle.hlc_world.proofs.world.World.deliver.Goals as goal
 use Rattle.hlc_world.proofs.world.World.deliver.Goals.{in-Ok, in-Err}
 
 pub returns-clause-represents : goal.returns-clause-represents
-returns-clause-represents c = λ s h.
+returns-clause-represents c = λ nodes s h.
     let h' = rw (← c.self.view_is) at h in
     let l = c.in-Some.ensures.lookup in
     let node = ap (λ xs. slice_get xs c.args.node) (sym c.as_slice.ensures.value)
     ∙ slice_get_read c.as_slice.result.now _ c.args.node c.in-Some.issuer.now refl l.3.0 l.1 in
     let inside = slice_get_within c.self.inside.nodes.items c.args.node c.in-Some.issuer.now node in
-    let at = found _ s c.args.node c.args.number c.in-Some.issuer.now c.in-Some-item.item.now h' inside node
+    let at = found nodes _ s c.args.node c.args.number c.in-Some.issuer.now c.in-Some-item.item.now h' inside node
     c.in-Some-item.ensures in
-    let all' = answered _ s c.args.node c.args.number c.in-Some-item.item.now c.accept.new.core c.accept.result
-    c.accept.ensures.nodes h' at
-    (c.accept.ensures.represents (core_past s) h'.core) in
+    let all' = answered nodes _ s c.args.node c.args.number c.in-Some-item.item.now c.accept.new.core c.accept.result
+    h' at (c.accept.ensures.represents (core_past nodes s) h'.core) in
     elim c.match-accept.branch [
       | in-Ok w ↦ rw (w.result-is ∙ sym (ap reply_of w.in-Ok.is)) all'
       | in-Err w ↦ rw (w.result-is ∙ ap Refused w.from.ensures ∙ sym (ap reply_of w.in-Err.is)) all'

@@ -6,13 +6,13 @@ use Rattle.hlc_world.proofs.world.World.issue.Goals as goal
 use Rattle.hlc_world.proofs.world.World.issue.Goals.{in-Ok, in-Err}
 
 pub returns-clause-represents : goal.returns-clause-represents
-returns-clause-represents c = λ s h.
+returns-clause-represents c = λ nodes s h.
     let h' = rw (← c.self.view_is) at h in
     let lent = c.in-Some.ensures.item in
     let at = slice_get_read c.self.inside.nodes.items _ c.args.node c.in-Some.issuer.now refl lent.3.0 lent.1 in
     elim c.match-issue.branch [
-      | in-Ok w ↦ rw w.result-is (issues _ s c.args.node c.args.reading c.args.content c.in-Some.issuer.now
+      | in-Ok w ↦ rw w.result-is (issues nodes _ s c.args.node c.args.reading c.args.content c.in-Some.issuer.now
           c.issue.new.self _ h' lent.3.0 at w.in-Ok.ensures)
-      | in-Err w ↦ rw w.result-is (issues_not _ s c.args.node c.args.reading c.args.content c.in-Some.issuer.now
+      | in-Err w ↦ rw w.result-is (issues_not nodes _ s c.args.node c.args.reading c.args.content c.in-Some.issuer.now
           c.issue.new.self _ h' lent.3.0 at w.in-Err.ensures)
     ]

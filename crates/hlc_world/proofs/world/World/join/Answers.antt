@@ -5,9 +5,9 @@ use Rattle.hlc_world.proofs.Joins.{joins}
 use Rattle.hlc_world.proofs.world.World.join.Goals as goal
 
 pub returns-in-Ok-clause-represents : goal.returns-in-Ok-clause-represents
-returns-in-Ok-clause-represents c = λ s h.
+returns-in-Ok-clause-represents c = λ nodes s h.
     let h' = rw (← c.self.view_is) at h in
-    let j = c.in-Ok.ensures.represents (core_past s) h'.core in
+    let j = c.in-Ok.ensures.represents (core_past nodes s) h'.core in
     rw (c.push_reserved.ensures.items, c.try_reserve.ensures.items, c.new.ensures)
-    (joins _ s c.in-Ok.made.0 c.in-Ok.made.1 c.join.new.self h' c.in-Ok.ensures.nodes j.0
+    (joins nodes _ s c.in-Ok.made.0 c.in-Ok.made.1 c.join.new.self h' j.0
     (ap (λ (m : ℕ × ℕ). m.0) j.1) (ap (λ (m : ℕ × ℕ). m.1) j.1) j.2)

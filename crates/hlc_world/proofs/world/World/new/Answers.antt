@@ -5,7 +5,5 @@ use Rattle.hlc_world.proofs.world.World.new.Goals as goal
 pub returns : goal.returns
 returns c = (
   c.in_ok-core.ensures.0,
-  c.in_ok-core.ensures.1,
-  rw (c.in_ok-nodes.ensures, c.new-2.ensures.items)
-      (starts c.args.nodes _ c.in_ok-core.ensures.1 c.in_ok-core.ensures.2),
+  rw (c.in_ok-nodes.ensures, c.new-2.ensures.items) (starts c.args.nodes _ c.in_ok-core.ensures.1),
 )

@@ -9,16 +9,17 @@ use Rattle.hlc_world.proofs.world.World.observe.Goals as goal
 use Rattle.hlc_world.proofs.world.World.observe.Goals.{in-Ok, in-Err}
 
 pub returns-clause-represents : goal.returns-clause-represents
-returns-clause-represents c = λ s h.
+returns-clause-represents c = λ nodes s h.
     let h' = rw (← c.self.view_is) at h in
     let lent = c.in-Some.ensures.item in
     let at = slice_get_read c.self.inside.nodes.items _ c.args.node c.in-Some.issuer.now refl lent.3.0 lent.1 in
-    let there : stamp_of c.args.id (core_past s) ≡ Some c.in-Some-stamp_of.seen =
-    sym (c.in-Some-stamp_of.ensures (core_past s) h'.core) in
-    let is = observe-is _ s c.args.node c.args.reading c.args.id c.in-Some-stamp_of.seen there in
+    let there : stamp_of c.args.id (core_past nodes s) ≡ Some c.in-Some-stamp_of.seen =
+    sym (c.in-Some-stamp_of.ensures (core_past nodes s) h'.core) in
+    let is = observe-is nodes s c.args.node c.args.reading c.args.id c.in-Some-stamp_of.seen there in
     elim c.match-see.branch [
-      | in-Ok w ↦ rw w.result-is (sees _ s _ Observed c.args.node c.in-Some-stamp_of.seen c.args.reading w.in-Ok.stamp
+      | in-Ok w ↦ rw w.result-is (sees nodes _ s _ Observed c.args.node c.in-Some-stamp_of.seen
+          c.args.reading w.in-Ok.stamp
           c.in-Some.issuer.now c.see.new.self is h' lent.3.0 at w.in-Ok.ensures)
-      | in-Err w ↦ rw w.result-is (sees_not _ s _ Observed c.args.node c.in-Some-stamp_of.seen c.args.reading
+      | in-Err w ↦ rw w.result-is (sees_not nodes _ s _ Observed c.args.node c.in-Some-stamp_of.seen c.args.reading
           c.in-Some.issuer.now c.see.new.self _ is h' lent.3.0 at w.in-Err.ensures)
     ]

@@ -8,7 +8,7 @@ use Rattle.hlc_world.proofs.world.World.receive.Goals as goal
 use Rattle.hlc_world.proofs.world.World.receive.Goals.{in-Ok, in-Err}
 
 pub returns-clause-represents : goal.returns-clause-represents
-returns-clause-represents c = λ s h.
+returns-clause-represents c = λ nodes s h.
     let h' = rw (← c.self.view_is) at h in
     let lent = c.in-Some.ensures.item in
     let at = slice_get_read c.self.inside.nodes.items _ c.args.node c.in-Some.issuer.now refl lent.3.0 lent.1 in
@@ -16,11 +16,11 @@ returns-clause-represents c = λ s h.
     let kept : slice_get c.self.inside.sent_stamps.items c.args.message ≡ Some c.in-Some-get.sent.now =
     ap (λ xs. slice_get xs c.args.message) (sym c.as_slice.ensures.value)
     ∙ slice_get_read c.as_slice.result.now _ c.args.message c.in-Some-get.sent.now refl l.3.0 l.1 in
-    let is = receive-is _ s c.args.node c.args.reading c.args.message c.in-Some-get.sent.now
-    (message-there _ s c.args.message _ h' kept) in
+    let is = receive-is nodes s c.args.node c.args.reading c.args.message c.in-Some-get.sent.now
+    (message-there nodes _ s c.args.message _ h' kept) in
     elim c.match-see.branch [
-      | in-Ok w ↦ rw w.result-is (sees _ s _ Received c.args.node c.in-Some-get.sent.now c.args.reading
+      | in-Ok w ↦ rw w.result-is (sees nodes _ s _ Received c.args.node c.in-Some-get.sent.now c.args.reading
           w.in-Ok.stamp c.in-Some.issuer.now c.see.new.self is h' lent.3.0 at w.in-Ok.ensures)
-      | in-Err w ↦ rw w.result-is (sees_not _ s _ Received c.args.node c.in-Some-get.sent.now c.args.reading
+      | in-Err w ↦ rw w.result-is (sees_not nodes _ s _ Received c.args.node c.in-Some-get.sent.now c.args.reading
           c.in-Some.issuer.now c.see.new.self _ is h' lent.3.0 at w.in-Err.ensures)
     ]

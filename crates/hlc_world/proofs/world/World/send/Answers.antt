@@ -6,17 +6,17 @@ use Rattle.hlc_world.proofs.Nodes.{put-back, sends, sends_not}
 use Rattle.hlc_world.proofs.world.World.send.Goals as goal
 
 pub returns-in-Err-clause-represents : goal.returns-in-Err-clause-represents
-returns-in-Err-clause-represents c = λ s h.
+returns-in-Err-clause-represents c = λ nodes s h.
     let h' = rw (← c.self.view_is) at h in
     let lent = c.in-Some.ensures.item in
     let at = slice_get_read c.self.inside.nodes.items _ c.args.node c.in-Some.issuer.now refl lent.3.0 lent.1 in
-    rw c.from.ensures (put-back _ _ c.args.node c.in-Some.issuer.now at
-    (sends_not _ s c.args.node c.args.reading c.in-Some.issuer.now c.in-Err.fault h' lent.3.0 at
+    rw c.from.ensures (put-back nodes _ _ c.args.node c.in-Some.issuer.now at
+    (sends_not nodes _ s c.args.node c.args.reading c.in-Some.issuer.now c.in-Err.fault h' lent.3.0 at
     (ap (λ node. expected_event node (node.last ∷ []) c.args.reading) (sym c.node-sender.ensures)
     ∙ c.in-Err.ensures.expected.0)))
 
 pub returns-else-not-post-clause-represents : goal.returns-else-not-post-clause-represents
-returns-else-not-post-clause-represents c = λ s h.
+returns-else-not-post-clause-represents c = λ nodes s h.
     let h' = rw (← c.self.view_is) at h in
     let lent = c.in-Some.ensures.item in
     let at = slice_get_read c.self.inside.nodes.items _ c.args.node c.in-Some.issuer.now refl lent.3.0 lent.1 in
@@ -25,7 +25,7 @@ returns-else-not-post-clause-represents c = λ s h.
     let many : c.len-message.result ≡ length c.self.inside.sent_stamps.items =
     omega (arith, c.len-message.ensures, c.self.inside.sent_stamps.ok.0) in
     rw (c.go_on.ensures, many)
-    (sends _ s c.args.node c.args.reading c.in-Some.issuer.now c.send.new.self c.in-Ok.sent.stamp
+    (sends nodes _ s c.args.node c.args.reading c.in-Some.issuer.now c.send.new.self c.in-Ok.sent.stamp
     c.post.new.stamps.items h' lent.3.0 at
     (ap (λ node. expected_event node (node.last ∷ []) c.args.reading) (sym sender) ∙ expected.0)
     (expected.2 ∙ ap (λ node. stamped node c.in-Ok.sent.stamp) sender)

@@ -1,8 +1,6 @@
-//! The names and the texts of the C library's answers.
-#![tactic(auto)]
-
+//! The names and the texts of answers.
 ghost use Rattle.std.specs.Prelude.{◌≡◌};
-ghost use Rattle.hlc_answers.specs.Texts.{answer_name, answer_text};
+ghost use Rattle.hlc_calls.specs.Texts.{answer_name, answer_text};
 
 /// Returns the name of an answer in the header, and the answer in words; or no text for a number that is no answer.
 fn words(answer: u32) -> (&'static str, &'static str)

@@ -8,7 +8,7 @@ use Rattle.hlc_events.specs.declared.fault.CoreFault.TheVariants.{Link, Body}
 use Rattle.hlc_core.specs.Past.{of_body}
 use Rattle.hlc_core.proofs.Admits.{refused_first, next_admitted}
 use Rattle.hlc_core.proofs.Links.{LooksUp}
-use Rattle.hlc_core.proofs.link.admitted.Goals as goal
+use Rattle.hlc_core.proofs.link.check.Goals as goal
 
 pub returns-in_err-admit : goal.returns-in_err-admit
 returns-in_err-admit c =
@@ -40,8 +40,6 @@ returns-in-None c =
     (slice_get-get_or c.args.intakes.now c.node.result c.in-Some.intake.now c.in-Some.ensures.lookup.3.0
     ∙ ap Some (sym c.in-Some.ensures.lookup.1)) in
     let good : body_refusal c.args.item.now.body ≡ None = search rules in
-    subst (λ o. LooksUp o c.args.item.now (Ok c.admit.new.self)) (sym found) (
-      next_admitted c.in-Some.intake.now c.args.item.now
-          (rw (c.number.ensures, c.stamp.ensures) at c.in_ok-admit.ensures.0) ∙ ap of_body good,
-      rw (c.number.ensures, c.stamp.ensures, c.retires.ensures) at c.in_ok-admit.ensures.1,
-    )
+    subst (λ o. LooksUp o c.args.item.now (Ok _)) (sym found)
+    (next_admitted c.in-Some.intake.now c.args.item.now
+    (rw (c.number.ensures, c.stamp.ensures) at c.in_ok-admit.ensures.0) ∙ ap of_body good)
