@@ -10,7 +10,7 @@ pub use Rattle.hlc_core.specs.Certified.{Certifies, IsCertified, AreNotFewest}
 pub use Rattle.hlc_core.specs.Differences.{AreDifferences, Compares, patched}
 pub use Rattle.hlc_core.specs.Parts.{rows_of_keys, IsPartReport, VacuumsKeys, EndsAt, VacuumsPart}
 pub use Rattle.hlc_core.specs.Stored.{AreVacuumPoints, IsReport}
-pub use Rattle.hlc_passes.specs.Pass.{Part, ArePass, left_by, together, report_of}
+pub use Rattle.hlc_vacuum_parts.specs.Pass.{Part, ArePass, left_by, together, report_of}
 pub use Rattle.hlc_events.specs.Faults.{core_code, core_word, certificate_fault_code, certificate_fault_word}
 pub use Rattle.hlc_events.specs.declared.fault.CoreFault.{CoreFault}
 pub use Rattle.hlc_events.specs.declared.certificate_fault.CertificateFault.{CertificateFault}

@@ -5,8 +5,8 @@ use Rattle.std.proofs.lemmas.List.Sorted.{length_permutation, sum_by-IsPermutati
 use Rattle.hlc_rows.specs.declared.row.Row.{Row}
 use Rattle.hlc_witness.specs.Certificate.{IsCertificate}
 use Rattle.hlc_witness.specs.Cost.{rows_cost, row_cost}
-use Rattle.hlc_draft.specs.Vacuumed.{rows_to}
-use Rattle.hlc_draft.specs.declared.report.Report.{Report}
+use Rattle.hlc_vacuum_draft.specs.Vacuumed.{rows_to}
+use Rattle.hlc_vacuum_draft.specs.declared.report.Report.{Report}
 use Rattle.hlc_text.specs.Lines.{lines_of}
 use Rattle.hlc_certificate.specs.CertificateText.{certificate_text}
 use Rattle.hlc_certificate.specs.CheckLine.{AreLinesOf}

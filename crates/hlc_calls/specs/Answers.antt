@@ -7,9 +7,9 @@ use Rattle.hlc_rows.specs.declared.row.Row.{Row}
 use Rattle.hlc_rows.specs.Rows.{answer}
 use Rattle.hlc_columns.specs.Answers.{in_part}
 use Rattle.hlc_columns.specs.Sizes.{Sizes}
-use Rattle.hlc_draft.specs.declared.report.Numbers.{Numbers}
-use Rattle.hlc_draft.specs.declared.report.Report.{Report}
-use Rattle.hlc_draft.specs.Report.{numbers_of}
+use Rattle.hlc_vacuum_draft.specs.declared.report.Numbers.{Numbers}
+use Rattle.hlc_vacuum_draft.specs.declared.report.Report.{Report}
+use Rattle.hlc_vacuum_draft.specs.Report.{numbers_of}
 use Rattle.hlc_core.specs.Past.{Step, Took, Opened, Closed, Joined, numbered, floor, opened, stamp_of}
 use Rattle.hlc_core.specs.Past.{item_refusal, join_refusal, join_at_refusal, open_refusal, room_refusal, vacuum_refusal}
 use Rattle.hlc_core.specs.StoreView.{StoreView, Represents}

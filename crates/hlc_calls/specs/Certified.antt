@@ -1,7 +1,7 @@
 -- How the certificate of the rows at or below a stamp is returned.
 use Rattle.std.specs.Prelude.{◌≡◌, ◌⊎◌, ℕ, List, Ok, Err}
 use Rattle.hlc_rows.specs.declared.row.Row.{Row}
-use Rattle.hlc_draft.specs.declared.report.Report.{Report}
+use Rattle.hlc_vacuum_draft.specs.declared.report.Report.{Report}
 use Rattle.hlc_events.specs.declared.certificate_fault.CertificateFault.{CertificateFault}
 use Rattle.hlc_events.specs.Faults.{certificate_fault_code, certificate_fault_word}
 use Rattle.hlc_core.specs.Past.{Step}

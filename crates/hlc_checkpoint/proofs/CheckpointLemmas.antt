@@ -12,7 +12,7 @@ use Rattle.hlc_rows.specs.Rows.{IsRowSet, IsSameVersion}
 use Rattle.hlc_intake.specs.IntakeView.{IntakeView}
 use Rattle.hlc_heads.specs.Heads.{no_link, link_at}
 use Rattle.hlc_snapshot.specs.RegistryView.{IsRegister}
-use Rattle.hlc_column.proofs.FlagLemmas.{filter-IsRowSet}
+use Rattle.hlc_table_column.proofs.FlagLemmas.{filter-IsRowSet}
 use Rattle.hlc_witness.specs.Cost.{IsInLimits}
 use Rattle.hlc_witness.proofs.CertificateLemmas.{ascending_rows_are_a_row_set}
 use Rattle.hlc_checkpoint.specs.StoreView.{StoreView, marks_of, with_rows_left, IsConsistent}

@@ -7,8 +7,8 @@ use Rattle.std.proofs.lemmas.List.Elements.{filter-append}
 use Rattle.std.proofs.lemmas.Option.{slice_get_within, get_or_from_slice_get, slice_get_cases, same_Some}
 use Rattle.std.proofs.lemmas.Grind.{flat_map-append}
 use Rattle.hlc_rows.specs.declared.row.Row.{Row}
-use Rattle.hlc_column.specs.Cells.{Cell}
-use Rattle.hlc_column.specs.Rows.{KeyCells, row_of, rows_of, rows_in_one, rows_in}
+use Rattle.hlc_table_column.specs.Cells.{Cell}
+use Rattle.hlc_table_column.specs.Rows.{KeyCells, row_of, rows_of, rows_in_one, rows_in}
 use Rattle.hlc_columns.specs.Table.{columns_in}
 use Rattle.hlc_checkpoint.specs.declared.sorted.Side.{Side}
 use Rattle.hlc_checkpoint.specs.declared.sorted.Side.TheVariants.{All, UpTo, Above}

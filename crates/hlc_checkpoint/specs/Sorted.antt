@@ -2,7 +2,7 @@
 use Rattle.std.specs.Prelude.{ℕ, List, Bool, true, filter, nat_le, nat_lt}
 use Rattle.std.specs.List.Sorted.{IsPermutation}
 use Rattle.hlc_rows.specs.declared.row.Row.{Row}
-use Rattle.hlc_column.specs.Rows.{rows_to}
+use Rattle.hlc_table_column.specs.Rows.{rows_to}
 use Rattle.hlc_witness.specs.Certificate.{RowsAscend}
 use Rattle.hlc_checkpoint.specs.declared.sorted.Side.{Side}
 use Rattle.hlc_checkpoint.specs.declared.sorted.Side.TheVariants.{All, UpTo, Above}

@@ -19,10 +19,6 @@ pub record StoreView : Type 0 where
   pub horizon : ℕ
   pub rows : List Row
 
--- the number of nodes at the start
-abbrev pub nodes : StoreView → ℕ
-nodes kept = kept.start
-
 -- these links, and this greatest stamp
 abbrev pub marks_of : List IntakeView → ℕ → HeadsView
 marks_of links top = record { links = links; top = top }

@@ -2,7 +2,7 @@
 ghost use Rattle.std.specs.Prelude.{◌≡◌, ◌++◌, ◌<◌, IsTrue, OnOk, Some, length, slice_get, option_copied};
 ghost use Rattle.std.specs.List.Sorted.{IsPermutation};
 ghost use Rattle.hlc_rows.specs.Rows.{IsRowSet};
-ghost use Rattle.hlc_column.specs.Rows.{rows_of, rows_in_one};
+ghost use Rattle.hlc_table_column.specs.Rows.{rows_of, rows_in_one};
 ghost use Rattle.hlc_witness.specs.Certificate.{RowsAscend, row_cmp};
 ghost use Rattle.hlc_checkpoint.specs.Lent.{IsListOf};
 

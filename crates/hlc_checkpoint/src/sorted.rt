@@ -3,7 +3,7 @@ ghost use Rattle.std.specs.Prelude.{◌≡◌, ◌++◌, IfOk, OnOk};
 ghost use Rattle.std.specs.List.Sorted.{IsPermutation};
 ghost use Rattle.hlc_rows.specs.Rows.{IsRowSet};
 ghost use Rattle.hlc_witness.specs.Certificate.{RowsAscend};
-ghost use Rattle.hlc_column.specs.Rows.{rows_of, rows_in};
+ghost use Rattle.hlc_table_column.specs.Rows.{rows_of, rows_in};
 ghost use Rattle.hlc_columns.specs.Table.{columns_in};
 ghost use Rattle.hlc_checkpoint.specs.Sorted.{AreRowsTo, AreRowsAbove, is_on, rows_on};
 

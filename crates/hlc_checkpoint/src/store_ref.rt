@@ -1,7 +1,7 @@
 //! The state of a store, lent: nothing of it is copied.
 ghost use Rattle.std.specs.Prelude.{◌≡◌, ◌<◌, IfOk, All, Some, length, slice_get};
 ghost use Rattle.hlc_snapshot.specs.RegistryView.{IsRegister};
-ghost use Rattle.hlc_column.specs.Rows.{rows_in, KeysAscend};
+ghost use Rattle.hlc_table_column.specs.Rows.{rows_in, KeysAscend};
 ghost use Rattle.hlc_columns.specs.Answers.{AreNext};
 ghost use Rattle.hlc_columns.specs.Table.{columns_in};
 ghost use Rattle.hlc_witness.specs.Cost.{AreInLimits};
@@ -161,7 +161,7 @@ pub struct Leaves<'a> {
 
 impl<'a> Model for Leaves<'a> {
     ghost use Rattle.std.specs.Prelude.{List, All};
-    ghost use Rattle.hlc_column.specs.Rows.{KeyCells};
+    ghost use Rattle.hlc_table_column.specs.Rows.{KeyCells};
     ghost use Rattle.hlc_columns.specs.Table.{columns_in};
     ghost use Rattle.hlc_checkpoint.specs.Lent.{IsWritable};
 

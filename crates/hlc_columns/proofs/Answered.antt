@@ -12,8 +12,8 @@ use Rattle.hlc_values.proofs.MemberLemmas.{Contains-map}
 use Rattle.hlc_rows.specs.declared.row.Row.{Row}
 use Rattle.hlc_rows.specs.Rows.{newest, answer}
 use Rattle.hlc_rows.proofs.NewestLemmas.{newest_is_greatest}
-use Rattle.hlc_index.specs.Entries.{key_cmp}
-use Rattle.hlc_column.specs.Rows.{rows_of}
+use Rattle.hlc_table_index.specs.Entries.{key_cmp}
+use Rattle.hlc_table_column.specs.Rows.{rows_of}
 use Rattle.hlc_columns.specs.Table.{table_rows}
 use Rattle.hlc_columns.specs.Answers.{answers_in, pair_of, IsBetween, AreAnswers}
 use Rattle.hlc_columns.proofs.FoundLemmas.{newest_alone}

@@ -8,7 +8,7 @@ use Rattle.std.proofs.lemmas.List.Elements.{Contains-append_cases, Contains-appe
 use Rattle.hlc_values.proofs.MemberLemmas.{Contains-none, Contains-first, Contains-rest, Contains-cons_cases}
 use Rattle.hlc_rows.specs.declared.row.Row.{Row}
 use Rattle.hlc_rows.specs.Rows.{answer}
-use Rattle.hlc_index.specs.Entries.{key_cmp}
+use Rattle.hlc_table_index.specs.Entries.{key_cmp}
 use Rattle.hlc_columns.specs.Table.{table_rows}
 use Rattle.hlc_columns.specs.Answers.{IsBetween}
 use Rattle.hlc_columns.specs.Differences.{Difference, AreDifferences, is_same, difference_of, differences_in}

@@ -7,8 +7,8 @@ use Rattle.std.proofs.lemmas.Bool.{cases_Bool, lt-ltb, ltb-true}
 use Rattle.std.proofs.lemmas.List.{set-get_or}
 use Rattle.std.proofs.lemmas.List.Sums.{sum_by-cons}
 use Rattle.std.proofs.lemmas.List.Elements.{filter-append, recursion_from_All}
-use Rattle.hlc_column.specs.Cells.{Cell, cell_bytes}
-use Rattle.hlc_index.specs.Entries.{entries_before, entries_from, with_value_in}
+use Rattle.hlc_table_column.specs.Cells.{Cell, cell_bytes}
+use Rattle.hlc_table_index.specs.Entries.{entries_before, entries_from, with_value_in}
 use Rattle.hlc_columns.specs.Table.{if_filled, key_at, cells_at}
 use Rattle.hlc_columns.specs.Sizes.{sizes_of, filled_sizes, plus, minus, Fit, IsPart, Sizes}
 use Rattle.hlc_columns.proofs.Kept.{is_filled}

@@ -18,10 +18,10 @@ use Rattle.std.proofs.lemmas.Slice.Eq.{bytes_eq-Decides}
 use Rattle.hlc_rows.specs.declared.row.Row.{Row}
 use Rattle.hlc_rows.specs.Rows.{newest, answer}
 use Rattle.hlc_rows.proofs.NewestLemmas.{newest_after_others, newest_before_others}
-use Rattle.hlc_column.proofs.FirstLemmas.{newest_nil}
-use Rattle.hlc_column.proofs.RowLemmas.{row_key}
-use Rattle.hlc_column.specs.Cells.{Cell}
-use Rattle.hlc_column.specs.Rows.{row_of, rows_of, rows_with, KeyCells, rows_in_one}
+use Rattle.hlc_table_column.proofs.FirstLemmas.{newest_nil}
+use Rattle.hlc_table_column.proofs.RowLemmas.{row_key}
+use Rattle.hlc_table_column.specs.Cells.{Cell}
+use Rattle.hlc_table_column.specs.Rows.{row_of, rows_of, rows_with, KeyCells, rows_in_one}
 use Rattle.hlc_columns.specs.Table.{table_rows, keyed}
 pub use Rattle.hlc_columns.specs.Table.{cells_in}
 use Rattle.std.specs.Str.{bytes_eq}

@@ -12,12 +12,12 @@ use Rattle.std.proofs.lemmas.List.{take-append-drop}
 use Rattle.std.proofs.lemmas.List.Concat.{flat_map-append}
 use Rattle.std.proofs.lemmas.List.Elements.{All-from_recursion}
 use Rattle.hlc_rows.specs.declared.row.Row.{Row}
-use Rattle.hlc_column.specs.Cells.{Cell}
-use Rattle.hlc_column.specs.Rows.{row_of, rows_of}
-use Rattle.hlc_index.specs.Entries.{entries_in, keys_in, with_value_in}
+use Rattle.hlc_table_column.specs.Cells.{Cell}
+use Rattle.hlc_table_column.specs.Rows.{row_of, rows_of}
+use Rattle.hlc_table_index.specs.Entries.{entries_in, keys_in, with_value_in}
 use Rattle.hlc_columns.specs.Table.{table_rows, indexed_rows, kept_in, cells_at}
 use Rattle.hlc_columns.proofs.WalkLemmas.{rows_both}
-use Rattle.hlc_column.proofs.FlagLemmas.{flagged-none, flagged-append, flagged-map}
+use Rattle.hlc_table_column.proofs.FlagLemmas.{flagged-none, flagged-append, flagged-map}
 
 abbrev pub Entry : Type 0
 Entry = List ℕ × List Cell

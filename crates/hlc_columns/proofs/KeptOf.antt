@@ -19,14 +19,14 @@ use Rattle.std.proofs.lemmas.List.{get_or_append_left, get_or-append-add}
 use Rattle.hlc_values.proofs.MemberLemmas.{Contains-first, Contains-rest, Contains-cons_cases}
 use Rattle.hlc_rows.specs.declared.row.Row.{Row}
 use Rattle.hlc_rows.specs.Rows.{IsRowSet}
-use Rattle.hlc_column.specs.Cells.{Cell, cell_bytes}
-use Rattle.hlc_column.specs.Rows.{row_of, rows_of, rows_with}
-use Rattle.hlc_index.specs.Entries.{entries_in, entries_before, entries_from, with_value_in, keys_in, key_cmp}
-use Rattle.hlc_index.specs.Entries.{IsEntryAt}
-use Rattle.hlc_index.proofs.SlotLemmas.{itself}
+use Rattle.hlc_table_column.specs.Cells.{Cell, cell_bytes}
+use Rattle.hlc_table_column.specs.Rows.{row_of, rows_of, rows_with}
+use Rattle.hlc_table_index.specs.Entries.{entries_in, entries_before, entries_from, with_value_in, keys_in, key_cmp}
+use Rattle.hlc_table_index.specs.Entries.{IsEntryAt}
+use Rattle.hlc_table_index.proofs.SlotLemmas.{itself}
 use Rattle.hlc_columns.proofs.WalkLemmas.{rows_both}
-use Rattle.hlc_column.proofs.FlagLemmas.{flagged-map}
-use Rattle.hlc_index.proofs.RemovalLemmas.{parted_at}
+use Rattle.hlc_table_column.proofs.FlagLemmas.{flagged-map}
+use Rattle.hlc_table_index.proofs.RemovalLemmas.{parted_at}
 use Rattle.hlc_columns.specs.Table.{table_rows, rows_kept, if_filled, key_at, cells_at}
 use Rattle.hlc_columns.specs.Sizes.{sizes_of, plus, minus, Fit, IsPart}
 use Rattle.hlc_columns.specs.Sizes.{Sizes}

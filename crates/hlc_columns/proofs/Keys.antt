@@ -7,13 +7,13 @@ use Rattle.std.specs.List.Sorted.{IsStrictlySortedBy}
 use Rattle.std.specs.Map.{keys_of}
 use Rattle.hlc_values.proofs.MemberLemmas.{Contains-rest, Contains-cons_cases}
 use Rattle.hlc_rows.specs.declared.row.Row.{Row}
-use Rattle.hlc_column.specs.Cells.{Cell}
-use Rattle.hlc_column.specs.Rows.{KeyCells, row_of, rows_of, rows_in, keys_in, KeysAscend}
+use Rattle.hlc_table_column.specs.Cells.{Cell}
+use Rattle.hlc_table_column.specs.Rows.{KeyCells, row_of, rows_of, rows_in, keys_in, KeysAscend}
 use Rattle.std.proofs.lemmas.List.Elements.{Contains-append_cases, Contains-append_left, Contains-append_right}
 use Rattle.std.proofs.lemmas.List.{map-append}
-use Rattle.hlc_index.specs.Entries.{entries_in}
+use Rattle.hlc_table_index.specs.Entries.{entries_in}
 use Rattle.hlc_columns.specs.Table.{table_rows, keyed, columns_in}
-use Rattle.hlc_column.proofs.RowLemmas.{row_key}
+use Rattle.hlc_table_column.proofs.RowLemmas.{row_key}
 
 pub rows_keyed : (es : List (List ℕ × List Cell)) → rows_in (keyed es) ≡ table_rows es
 rows_keyed [] = refl

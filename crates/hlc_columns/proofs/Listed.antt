@@ -14,11 +14,11 @@ use Rattle.std.proofs.lemmas.Bool.{cases_Bool}
 use Rattle.std.proofs.lemmas.Slice.Eq.{bytes_eq-Decides}
 use Rattle.std.proofs.lemmas.List.{append_assoc, map_push, length-drop, take_all}
 use Rattle.std.proofs.lemmas.List.Elements.{All-from_recursion, All-nil, All-cons, All-append, All-weaker}
-use Rattle.hlc_index.specs.Entries.{keys_in, key_cmp}
-use Rattle.hlc_index.proofs.SlotLemmas.{itself, other}
+use Rattle.hlc_table_index.specs.Entries.{keys_in, key_cmp}
+use Rattle.hlc_table_index.proofs.SlotLemmas.{itself, other}
 use Rattle.hlc_columns.specs.Answers.{AreAbove, starts_at}
 use Rattle.hlc_columns.proofs.FoundLemmas.{same_key}
-use Rattle.hlc_column.specs.Rows.{KeyCells}
+use Rattle.hlc_table_column.specs.Rows.{KeyCells}
 use Rattle.hlc_columns.specs.Table.{keyed}
 use Rattle.hlc_columns.proofs.WalkLemmas.{Entry, one_of}
 

@@ -13,10 +13,10 @@ use Rattle.std.proofs.lemmas.List.{append-nil, take-append-drop, length-map}
 use Rattle.std.proofs.lemmas.List.Elements.{All-from_recursion, All-nil, All-cons}
 use Rattle.std.proofs.lemmas.List.Elements.{filter-append, All-map, All-take, All-tail, All-weaker}
 use Rattle.hlc_rows.specs.declared.row.Row.{Row}
-use Rattle.hlc_index.specs.Entries.{keys_in, key_cmp}
-use Rattle.hlc_index.proofs.SlotLemmas.{itself}
-use Rattle.hlc_column.specs.Cells.{Cell}
-use Rattle.hlc_column.specs.Rows.{KeyCells, rows_of, row_of, KeysAscend}
+use Rattle.hlc_table_index.specs.Entries.{keys_in, key_cmp}
+use Rattle.hlc_table_index.proofs.SlotLemmas.{itself}
+use Rattle.hlc_table_column.specs.Cells.{Cell}
+use Rattle.hlc_table_column.specs.Rows.{KeyCells, rows_of, row_of, KeysAscend}
 use Rattle.hlc_columns.specs.Table.{table_rows, keyed}
 use Rattle.hlc_columns.specs.Answers.{AreAbove, AreNext, in_part, is_upto, part_end, last_key}
 use Rattle.hlc_columns.proofs.Keys.{rows_keyed, keys_keyed}

@@ -14,7 +14,7 @@ use Rattle.std.proofs.lemmas.List.Elements.{filter-append}
 use Rattle.std.proofs.lemmas.Map.Keys.{sorted_head, sorted_tail}
 use Rattle.hlc_values.proofs.MemberLemmas.{Contains-none, Contains-first, Contains-rest, Contains-cons_cases}
 use Rattle.hlc_values.proofs.MemberLemmas.{Contains-filter, Contains-from_filter}
-use Rattle.hlc_index.specs.Entries.{key_cmp, entries_in, entries_before}
+use Rattle.hlc_table_index.specs.Entries.{key_cmp, entries_in, entries_before}
 use Rattle.hlc_columns.specs.Answers.{is_below, is_from, is_between, IsBetween, leading}
 use Rattle.hlc_columns.proofs.Keys.{names}
 use Rattle.hlc_columns.proofs.WalkLemmas.{Entry}

@@ -17,7 +17,7 @@ use Rattle.hlc_values.proofs.MemberLemmas.{Contains-none, Contains-first, Contai
 use Rattle.hlc_rows.specs.declared.row.Row.{Row}
 use Rattle.hlc_rows.specs.declared.write.Write.{Write}
 use Rattle.hlc_rows.specs.Writes.{row_written, rows_written, writes_key, writes_twice}
-use Rattle.hlc_column.specs.Rows.{rows_with}
+use Rattle.hlc_table_column.specs.Rows.{rows_with}
 use Rattle.hlc_columns.specs.Table.{rows_kept, HasNoVersion, InsertedLast, AllInserted}
 use Rattle.hlc_columns.proofs.Inserted.{inserted-IsPermutation}
 use Rattle.hlc_columns.proofs.KeptOf.{NoneOf, kept_none, kept_before, filtered_none}

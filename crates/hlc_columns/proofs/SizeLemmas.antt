@@ -13,9 +13,9 @@ use Rattle.std.proofs.lemmas.Option.{none-some, same_Some}
 use Rattle.std.proofs.lemmas.List.{length-append, length-map}
 use Rattle.std.proofs.lemmas.List.Sums.{sum_by-cons, sum_by-append, sum_by_push}
 use Rattle.hlc_rows.specs.declared.row.Row.{Row}
-use Rattle.hlc_index.specs.Entries.{keys_in}
-use Rattle.hlc_column.specs.Cells.{Cell, value_bytes, cell_bytes}
-use Rattle.hlc_column.specs.Rows.{row_of, rows_of}
+use Rattle.hlc_table_index.specs.Entries.{keys_in}
+use Rattle.hlc_table_column.specs.Cells.{Cell, value_bytes, cell_bytes}
+use Rattle.hlc_table_column.specs.Rows.{row_of, rows_of}
 use Rattle.hlc_columns.specs.Table.{table_rows}
 use Rattle.hlc_columns.specs.Sizes.{sizes_of, with_row, with_key, Fit, row_bytes, AreSizes}
 use Rattle.hlc_columns.specs.Sizes.{Sizes}

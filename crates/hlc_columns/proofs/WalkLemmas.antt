@@ -5,9 +5,9 @@ use Rattle.std.proofs.lemmas.List.{append_assoc, map_push, length-append, take_a
 use Rattle.std.proofs.lemmas.List.Concat.{flat_map-append}
 use Rattle.std.proofs.lemmas.List.Elements.{filter-append}
 use Rattle.hlc_rows.specs.declared.row.Row.{Row}
-use Rattle.hlc_index.specs.Entries.{entries_in, entries_from, keys_in}
-use Rattle.hlc_column.specs.Cells.{Cell}
-use Rattle.hlc_column.specs.Rows.{KeyCells, rows_of}
+use Rattle.hlc_table_index.specs.Entries.{entries_in, entries_from, keys_in}
+use Rattle.hlc_table_column.specs.Cells.{Cell}
+use Rattle.hlc_table_column.specs.Rows.{KeyCells, rows_of}
 use Rattle.hlc_columns.specs.Table.{table_rows}
 
 abbrev pub Entry : Type 0

@@ -7,11 +7,11 @@ use Rattle.std.specs.Cmp.Lexicographic.{slice_cmp}
 use Rattle.std.specs.Str.{bytes_eq}
 use Rattle.std.specs.Ordering.{nat_cmp, is_lt, is_gt}
 use Rattle.std.specs.declared.cmp.Ordering.TheVariants.{Less, Greater}
-use Rattle.hlc_index.specs.Entries.{entries_in}
+use Rattle.hlc_table_index.specs.Entries.{entries_in}
 use Rattle.hlc_rows.specs.declared.row.Row.{Row}
 use Rattle.hlc_rows.specs.Rows.{answer}
-use Rattle.hlc_column.specs.Cells.{Cell}
-use Rattle.hlc_column.specs.Rows.{rows_of, rows_in, KeyCells, KeysAscend}
+use Rattle.hlc_table_column.specs.Cells.{Cell}
+use Rattle.hlc_table_column.specs.Rows.{rows_of, rows_in, KeyCells, KeysAscend}
 use Rattle.hlc_columns.specs.declared.answers.Walk.{Walk}
 use Rattle.hlc_columns.specs.declared.answers.WalkBack.{WalkBack}
 

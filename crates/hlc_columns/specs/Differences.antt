@@ -8,8 +8,8 @@ use Rattle.std.specs.Ordering.{nat_cmp}
 use Rattle.std.specs.Str.{bytes_eq}
 use Rattle.hlc_rows.specs.declared.row.Row.{Row}
 use Rattle.hlc_rows.specs.Rows.{answer}
-use Rattle.hlc_column.specs.Cells.{Cell}
-use Rattle.hlc_column.specs.Rows.{rows_of}
+use Rattle.hlc_table_column.specs.Cells.{Cell}
+use Rattle.hlc_table_column.specs.Rows.{rows_of}
 
 -- a key with its value at the second bound, or none if it has none there
 abbrev pub Difference : Type 0

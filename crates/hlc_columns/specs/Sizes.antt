@@ -3,11 +3,11 @@ use Rattle.std.specs.Prelude.{◌≡◌, ◌↔◌, ℕ, List, length, sum_by, f
 use Rattle.std.specs.List.Sorted.{IsStrictlySortedBy}
 use Rattle.std.specs.Ordering.{nat_cmp}
 use Rattle.std.specs.Cmp.Lexicographic.{slice_cmp}
-use Rattle.hlc_index.specs.Entries.{entries_in}
+use Rattle.hlc_table_index.specs.Entries.{entries_in}
 use Rattle.hlc_rows.specs.declared.row.Row.{Row}
-use Rattle.hlc_column.specs.Cells.{Cell, value_bytes, cell_bytes}
-pub use Rattle.hlc_sizes.specs.declared.sizes.Sizes.{Sizes}
-pub use Rattle.hlc_sizes.specs.Sizes.{no_sizes, plus, minus, with_row, with_key, Fit, IsPart}
+use Rattle.hlc_table_column.specs.Cells.{Cell, value_bytes, cell_bytes}
+pub use Rattle.hlc_table_sizes.specs.declared.sizes.Sizes.{Sizes}
+pub use Rattle.hlc_table_sizes.specs.Sizes.{no_sizes, plus, minus, with_row, with_key, Fit, IsPart}
 
 -- the bytes of the value of a row
 abbrev pub row_bytes : Row → ℕ

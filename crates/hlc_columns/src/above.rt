@@ -2,15 +2,15 @@
 ghost use Rattle.std.specs.Prelude.{◌≡◌, ◌≢◌, ◌++◌, All, IfOk, OnOk, take, ℕ, List};
 ghost use Rattle.std.specs.declared.cmp.Ordering.TheVariants.{Greater};
 ghost use Rattle.std.specs.List.Sorted.{IsStrictlySortedBy};
-ghost use Rattle.hlc_index.specs.Entries.{entries_in, keys_in, key_cmp};
-ghost use Rattle.hlc_column.specs.Cells.{Cell};
+ghost use Rattle.hlc_table_index.specs.Entries.{entries_in, keys_in, key_cmp};
+ghost use Rattle.hlc_table_column.specs.Cells.{Cell};
 ghost use Rattle.hlc_columns.specs.Table.{keyed};
 ghost use Rattle.hlc_columns.specs.Answers.{entries_left, AreAbove};
 
 use crate::answers::Walk;
 use crate::keyed::Keyed;
-use hlc_column::Rows;
-use hlc_index::Index;
+use hlc_table_column::Rows;
+use hlc_table_index::Index;
 use hlc_values::NoMemory;
 use std::alloc::Global;
 

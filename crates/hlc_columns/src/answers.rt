@@ -4,15 +4,15 @@ ghost use Rattle.std.specs.Prelude.{filter, reverse};
 ghost use Rattle.std.specs.List.Sorted.{IsStrictlySortedBy};
 ghost use Rattle.std.specs.Iterator.{YieldsFirstBy, item_count};
 ghost use Rattle.std.specs.Map.Iter.{deref_pair};
-ghost use Rattle.hlc_index.specs.Entries.{entries_in, entries_from, keys_in, key_cmp};
+ghost use Rattle.hlc_table_index.specs.Entries.{entries_in, entries_from, keys_in, key_cmp};
 ghost use Rattle.hlc_columns.specs.Table.{indexed_rows};
 ghost use Rattle.hlc_columns.specs.Answers.{AreAnswers, AreAnswersBack, IsBetween, answers_in, is_below, is_between};
 ghost use Rattle.hlc_columns.specs.Answers.{entries_left, entries_left_back, leading, starts_at};
 
 use hlc_clock::Stamp;
-use hlc_column::Rows;
-use hlc_index::Index;
 use hlc_rows::Bytes;
+use hlc_table_column::Rows;
+use hlc_table_index::Index;
 use std::marker::Model;
 
 /// This many columns are fetched from memory together.

@@ -2,15 +2,15 @@
 ghost use Rattle.std.specs.Prelude.{◌≡◌, ◌≢◌, ℕ, List, MatchOption, option_copied};
 ghost use Rattle.std.specs.Iterator.{YieldsFirstBy, item_count};
 ghost use Rattle.hlc_rows.specs.Rows.{answer};
-ghost use Rattle.hlc_column.specs.Rows.{rows_of};
+ghost use Rattle.hlc_table_column.specs.Rows.{rows_of};
 ghost use Rattle.hlc_columns.specs.Table.{indexed_rows};
 ghost use Rattle.hlc_columns.specs.Answers.{entries_left, IsBetween};
 ghost use Rattle.hlc_columns.specs.Differences.{AreDifferences, differences_in, difference_read, is_same};
 
 use crate::answers::Walk;
 use hlc_clock::Stamp;
-use hlc_column::{Lanes, Rows};
-use hlc_index::Index;
+use hlc_table_column::{Lanes, Rows};
+use hlc_table_index::Index;
 use std::marker::Model;
 
 /// Returns whether two answers are the same.

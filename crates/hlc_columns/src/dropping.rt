@@ -1,15 +1,15 @@
 //! Dropping rows from the columns of an index.
 ghost use Rattle.std.specs.Prelude.{◌≡◌, ◌≤◌, ◌<◌, [], length, take, drop, slice_set, slice_index_or};
 ghost use Rattle.std.specs.List.{items_where_true};
-ghost use Rattle.hlc_index.specs.Entries.{entries_in, with_value_in};
+ghost use Rattle.hlc_table_index.specs.Entries.{entries_in, with_value_in};
 ghost use Rattle.hlc_columns.specs.Table.{indexed_rows, table_rows, kept_in, cells_at, key_at, if_filled, AreFilled};
 ghost use Rattle.hlc_columns.specs.Sizes.{sizes_of, filled_sizes, Fit};
 
 use crate::sizes::sizes_at;
-use hlc_column::Rows;
-use hlc_flags::Flags;
-use hlc_index::Index;
-use hlc_sizes::Sizes;
+use hlc_table_column::Rows;
+use hlc_table_flags::Flags;
+use hlc_table_index::Index;
+use hlc_table_sizes::Sizes;
 
 /// Keeps only the flagged rows, in their order, and reads no column that keeps them all. A key without rows is removed.
 /// It needs no memory.

@@ -1,13 +1,13 @@
 //! The columns of an index, leaf by leaf.
 ghost use Rattle.std.specs.Prelude.{◌≡◌, ◌<◌, Some, IfOk, length, map, slice_get};
 ghost use Rattle.std.specs.List.Sorted.{IsStrictlySortedBy};
-ghost use Rattle.hlc_index.specs.Entries.{entries_in, keys_in, key_cmp};
+ghost use Rattle.hlc_table_index.specs.Entries.{entries_in, keys_in, key_cmp};
 ghost use Rattle.hlc_columns.specs.Table.{keyed};
 
 use crate::keyed::Keyed;
-use hlc_column::Rows;
-use hlc_index::Index;
 use hlc_rows::Bytes;
+use hlc_table_column::Rows;
+use hlc_table_index::Index;
 use hlc_values::NoMemory;
 use std::alloc::Global;
 use std::marker::Model;
@@ -21,7 +21,7 @@ pub struct Columns<'a> {
 
 impl<'a> Model for Columns<'a> {
     ghost use Rattle.std.specs.Prelude.{List};
-    ghost use Rattle.hlc_column.specs.Rows.{KeyCells};
+    ghost use Rattle.hlc_table_column.specs.Rows.{KeyCells};
     ghost use Rattle.hlc_columns.specs.Table.{keyed};
 
     ghost Value = { List KeyCells };

@@ -1,16 +1,16 @@
 //! Dropping rows of one key.
 ghost use Rattle.std.specs.Prelude.{◌≡◌, ◌+◌, ◌<◌, ◌++◌, ◌∷◌, [], length, slice_index_or};
 ghost use Rattle.std.specs.List.{items_where_true};
-ghost use Rattle.hlc_index.specs.Entries.{entries_in, entries_before, entries_from};
+ghost use Rattle.hlc_table_index.specs.Entries.{entries_in, entries_before, entries_from};
 ghost use Rattle.hlc_columns.specs.Sizes.{sizes_of, Fit};
 ghost use Rattle.hlc_columns.specs.Table.{cells_at, key_at, if_filled};
 
 use crate::dropping::keep_cells;
 use crate::sizes::sizes_at;
-use hlc_column::Rows;
-use hlc_flags::Flags;
-use hlc_index::Index;
-use hlc_sizes::Sizes;
+use hlc_table_column::Rows;
+use hlc_table_flags::Flags;
+use hlc_table_index::Index;
+use hlc_table_sizes::Sizes;
 
 /// Keeps only the flagged rows of the column at a position, in their order. The column is removed if it is left without
 /// rows. It needs no memory.

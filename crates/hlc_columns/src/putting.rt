@@ -2,17 +2,17 @@
 ghost use Rattle.std.specs.Prelude.{◌≡◌, ◌<◌, ◌≤◌, ◌++◌, ◌∷◌, [], ℕ, List, None, length, slice_index_or};
 ghost use Rattle.std.specs.Prelude.{OnOk, OnErr, IfOk, IfErr};
 ghost use Rattle.std.specs.Map.{lookup};
-ghost use Rattle.hlc_index.specs.Entries.{is_key, keys_in, entries_in, IsEntryAt, IsGap};
+ghost use Rattle.hlc_table_index.specs.Entries.{is_key, keys_in, entries_in, IsEntryAt, IsGap};
 ghost use Rattle.hlc_columns.specs.Parts.{new_row};
 ghost use Rattle.hlc_columns.specs.Table.{indexed_rows, AreFilled, InsertedLast};
-ghost use Rattle.hlc_column.specs.Cells.{value_bytes};
+ghost use Rattle.hlc_table_column.specs.Cells.{value_bytes};
 ghost use Rattle.hlc_columns.specs.Sizes.{sizes_of, with_row, with_key, Fit};
 
 use hlc_clock::Stamp;
-use hlc_column::Rows;
-use hlc_index::Index;
 use hlc_rows::{Bytes, value_slice};
-use hlc_sizes::{Sizes, length_of};
+use hlc_table_column::Rows;
+use hlc_table_index::Index;
+use hlc_table_sizes::{Sizes, length_of};
 use hlc_values::NoMemory;
 use std::alloc::Global;
 

@@ -3,9 +3,9 @@ ghost use Rattle.std.specs.Prelude.{◌≡◌, ◌<◌, ◌∷◌, [], length, s
 ghost use Rattle.hlc_columns.specs.Sizes.{sizes_of};
 ghost use Rattle.hlc_columns.specs.Table.{key_at, cells_at};
 
-use hlc_column::{Lanes, Rows};
-use hlc_index::Index;
-use hlc_sizes::Sizes;
+use hlc_table_column::{Lanes, Rows};
+use hlc_table_index::Index;
+use hlc_table_sizes::Sizes;
 
 /// Returns the sizes of a column with its key.
 fn sizes_of_column(key: &[u8], column: Lanes<'_>) -> Sizes

@@ -7,7 +7,7 @@ ghost use Rattle.hlc_columns.specs.Sizes.{AreSizes};
 use crate::answers::{Answers, AnswersBack};
 use crate::table::Table;
 use hlc_clock::Stamp;
-use hlc_sizes::Sizes;
+use hlc_table_sizes::Sizes;
 use std::marker::Model;
 
 /// A table as readers at one stamp see it. No call needs memory. In contracts it is the rows and the stamp.

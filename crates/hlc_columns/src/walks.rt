@@ -1,13 +1,13 @@
 //! Walks over the columns of an index.
 ghost use Rattle.std.specs.Prelude.{◌≡◌, ◌<◌, ◌^◌, IfOk, length, map, filter, nat_le};
 ghost use Rattle.std.specs.List.Sorted.{IsStrictlySortedBy};
-ghost use Rattle.hlc_index.specs.Entries.{entries_in, keys_in, key_cmp};
+ghost use Rattle.hlc_table_index.specs.Entries.{entries_in, keys_in, key_cmp};
 ghost use Rattle.hlc_columns.specs.Table.{indexed_rows};
 
 use crate::answers::Walk;
 use hlc_clock::Stamp;
-use hlc_column::Rows;
-use hlc_index::Index;
+use hlc_table_column::Rows;
+use hlc_table_index::Index;
 use hlc_values::NoMemory;
 use std::alloc::Global;
 

@@ -7,15 +7,15 @@ use Rattle.hlc_rows.specs.declared.row.Row.{Row}
 use Rattle.hlc_snapshot.specs.RegistryView.{stamps_to}
 use Rattle.hlc_clock.specs.Points.{ArePoints, last_point}
 use Rattle.hlc_clock.proofs.PointLemmas.{ArePoints-unique, points-last}
-use Rattle.hlc_column.proofs.FlagLemmas.{filter-IsRowSet}
+use Rattle.hlc_table_column.proofs.FlagLemmas.{filter-IsRowSet}
 use Rattle.hlc_witness.specs.declared.witness.Witness.{Witness}
 use Rattle.hlc_witness.specs.Cost.{changes_cost, rows_cost}
 use Rattle.hlc_witness.specs.Fewest.{Alike}
-use Rattle.hlc_draft.specs.Plan.{PlanView}
-use Rattle.hlc_draft.specs.Report.{report_of}
-use Rattle.hlc_draft.specs.Vacuumed.{IsVacuumOf, rows_to}
-use Rattle.hlc_draft.specs.declared.report.Report.{Report}
-use Rattle.hlc_draft.proofs.ChosenLemmas.{all_chosen, length_chosen}
+use Rattle.hlc_vacuum_draft.specs.Plan.{PlanView}
+use Rattle.hlc_vacuum_draft.specs.Report.{report_of}
+use Rattle.hlc_vacuum_draft.specs.Vacuumed.{IsVacuumOf, rows_to}
+use Rattle.hlc_vacuum_draft.specs.declared.report.Report.{Report}
+use Rattle.hlc_vacuum_draft.proofs.ChosenLemmas.{all_chosen, length_chosen}
 use Rattle.hlc_vacuum.specs.Representing.{RepresentsAfterVacuum, count_above}
 use Rattle.hlc_vacuum.proofs.CountLemmas.{split_count, same_above}
 use Rattle.hlc_vacuum.proofs.RepresentingLemmas.{representing_rows_are_fewest}

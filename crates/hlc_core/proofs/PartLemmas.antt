@@ -10,7 +10,7 @@ use Rattle.hlc_rows.specs.declared.row.Row.{Row}
 use Rattle.hlc_rows.specs.Rows.{is_candidate, later, newest, answer, IsRowSet}
 use Rattle.hlc_rows.proofs.CandidateLemmas.{other-misses}
 use Rattle.hlc_rows.proofs.NewestLemmas.{answer_none}
-use Rattle.hlc_column.proofs.FlagLemmas.{filter-IsRowSet}
+use Rattle.hlc_table_column.proofs.FlagLemmas.{filter-IsRowSet}
 use Rattle.hlc_vacuum.specs.Representing.{RowsRepresent}
 use Rattle.hlc_core.specs.Parts.{rows_of_keys}
 

@@ -7,15 +7,15 @@ use Rattle.hlc_clock.specs.Points.{ArePoints, PointsAscend}
 use Rattle.hlc_clock.proofs.PointLemmas.{points-ascend, points-last}
 use Rattle.hlc_rows.specs.declared.row.Row.{Row}
 use Rattle.hlc_rows.specs.Rows.{IsRowSet}
-use Rattle.hlc_column.proofs.FlagLemmas.{filter-IsRowSet}
+use Rattle.hlc_table_column.proofs.FlagLemmas.{filter-IsRowSet}
 use Rattle.hlc_snapshot.specs.RegistryView.{stamps, stamps_to}
 use Rattle.hlc_witness.specs.Fewest.{Fewest}
 use Rattle.hlc_witness.specs.Cost.{Cheapest, IsInLimits, rows_cost, changes_cost}
 use Rattle.hlc_witness.proofs.CostLemmas.{fewest_rows_are_cheapest, fewest_rows_cost}
-use Rattle.hlc_draft.specs.Vacuumed.{IsVacuumOf, rows_to}
+use Rattle.hlc_vacuum_draft.specs.Vacuumed.{IsVacuumOf, rows_to}
 use Rattle.hlc_vacuum.specs.Representing.{RowsRepresent, RepresentsAfterVacuum, count_above}
-use Rattle.hlc_draft.specs.declared.report.Report.{Report}
-use Rattle.hlc_draft.specs.Report.{report_of}
+use Rattle.hlc_vacuum_draft.specs.declared.report.Report.{Report}
+use Rattle.hlc_vacuum_draft.specs.Report.{report_of}
 use Rattle.hlc_columns.specs.Answers.{in_part}
 use Rattle.hlc_vacuum.specs.declared.part.PartPlan.{PartPlan}
 use Rattle.hlc_vacuum.specs.Part.{IsPartVacuum}

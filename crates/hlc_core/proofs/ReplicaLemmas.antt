@@ -12,7 +12,7 @@ use Rattle.hlc_node.specs.Items.{retires}
 use Rattle.hlc_rows.specs.Rows.{answer}
 use Rattle.hlc_heads.proofs.LowLemmas.{low-same}
 use Rattle.hlc_snapshot.specs.RegistryView.{stamps}
-use Rattle.hlc_draft.proofs.PartLemmas.{same_rows}
+use Rattle.hlc_vacuum_draft.proofs.PartLemmas.{same_rows}
 use Rattle.hlc_heads.specs.declared.heads.TheConstants.{MAX_NODES}
 use Rattle.hlc_events.specs.declared.fault.CoreFault.{CoreFault}
 use Rattle.hlc_events.specs.declared.fault.CoreFault.TheVariants.{Join}

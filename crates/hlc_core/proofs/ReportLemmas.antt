@@ -8,7 +8,7 @@ use Rattle.hlc_witness.specs.declared.witness.Witness.{Witness}
 use Rattle.hlc_witness.specs.Changes.{AreChanges}
 use Rattle.hlc_witness.specs.Cost.{changes_cost}
 use Rattle.hlc_witness.specs.AllChanges.{all_changes}
-use Rattle.hlc_draft.specs.declared.report.Report.{Report}
+use Rattle.hlc_vacuum_draft.specs.declared.report.Report.{Report}
 use Rattle.hlc_clock.proofs.PointLemmas.{ArePoints-unique, points-ascend}
 use Rattle.hlc_witness.proofs.ChangeLemmas.{changes_are_one}
 use Rattle.hlc_core.specs.Past.{Step, Started, Took, Opened, Closed, Vacuumed, PartVacuumed, Joined, floor}

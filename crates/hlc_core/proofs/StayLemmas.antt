@@ -12,8 +12,8 @@ use Rattle.hlc_rows.specs.Rows.{answer, IsRowSet}
 use Rattle.hlc_snapshot.specs.RegistryView.{RegistryView, Follows, at_once, opening, closing}
 use Rattle.hlc_snapshot.proofs.RegisterLemmas.{open_before, stamp_in-push_cases, stamp_in-all}
 use Rattle.hlc_snapshot.proofs.RegisterLemmas.{stamp_in-without_itself, stamp_in-without_other}
-use Rattle.hlc_draft.specs.Vacuumed.{rows_to}
-use Rattle.hlc_draft.proofs.PartLemmas.{answer-rows_to}
+use Rattle.hlc_vacuum_draft.specs.Vacuumed.{rows_to}
+use Rattle.hlc_vacuum_draft.proofs.PartLemmas.{answer-rows_to}
 use Rattle.hlc_core.specs.Past.{Step, Started, Took, Opened, Closed, Vacuumed, PartVacuumed, Joined, floor, opened}
 use Rattle.hlc_core.specs.Past.{open_snapshots}
 use Rattle.hlc_core.specs.Past.{stamp_of, writes, body_rows, IsLegal}

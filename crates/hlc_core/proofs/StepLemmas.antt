@@ -19,7 +19,7 @@ use Rattle.hlc_events.specs.declared.event.CoreEvent.TheVariants.{Close, Vacuum,
 use Rattle.hlc_core.specs.declared.reply.CoreReply.TheVariants.{Refused}
 use Rattle.hlc_events.specs.declared.event.CoreEvent.{CoreEvent}
 use Rattle.hlc_events.specs.declared.event.CoreEvent.TheVariants.{VacuumPart}
-use Rattle.hlc_draft.specs.declared.report.Report.{Report}
+use Rattle.hlc_vacuum_draft.specs.declared.report.Report.{Report}
 use Rattle.hlc_core.specs.declared.reply.CoreReply.{CoreReply}
 use Rattle.hlc_core.specs.declared.reply.CoreReply.TheVariants.{VacuumedPart}
 use Rattle.hlc_core.specs.StoreView.{StoreView}

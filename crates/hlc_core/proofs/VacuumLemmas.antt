@@ -14,18 +14,18 @@ use Rattle.hlc_snapshot.proofs.RegisterLemmas.{stamps_to-low}
 use Rattle.hlc_clock.specs.Points.{PointsAscend}
 use Rattle.hlc_witness.specs.Fewest.{Fewest}
 use Rattle.hlc_witness.specs.Cost.{Cheapest, rows_cost}
-use Rattle.hlc_draft.specs.Vacuumed.{IsVacuumOf, rows_to}
+use Rattle.hlc_vacuum_draft.specs.Vacuumed.{IsVacuumOf, rows_to}
 use Rattle.hlc_vacuum.specs.Representing.{RowsRepresent, RepresentsAfterVacuum, count_above, count_between}
 use Rattle.hlc_witness.proofs.CostLemmas.{fewest_rows_are_cheapest, fewest_rows_cost}
 use Rattle.hlc_vacuum.proofs.RepresentingLemmas.{vacuums_compose, representing_rows_are_fewest, vacuums_are_certified}
 use Rattle.hlc_vacuum.proofs.RepresentingLemmas.{rows_above_are_counted}
-use Rattle.hlc_draft.specs.declared.report.Report.{Report}
+use Rattle.hlc_vacuum_draft.specs.declared.report.Report.{Report}
 use Rattle.hlc_core.specs.Past.{Step, Vacuumed, horizon, vacuumed, part_dropped, open_snapshots, writes, vacuum_refusal}
 use Rattle.hlc_core.specs.Stored.{AreVacuumPoints, IsReport, LeavesFewest}
 use Rattle.hlc_core.specs.StoreView.{StoreView, with_rows_left, Represents}
 use Rattle.hlc_core.specs.Calls.{Vacuums}
 use Rattle.hlc_core.proofs.PastLemmas.{vacuum-above, vacuumed-low, writes-limits}
-use Rattle.hlc_column.proofs.FlagLemmas.{filter-IsRowSet}
+use Rattle.hlc_table_column.proofs.FlagLemmas.{filter-IsRowSet}
 use Rattle.hlc_core.proofs.ReportLemmas.{one-changes}
 use Rattle.hlc_clock.proofs.PointLemmas.{points-ascend, points-last}
 

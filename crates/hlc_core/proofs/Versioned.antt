@@ -1,9 +1,9 @@
 -- The stored rows of a key are accepted writes, and above the horizon they are all of them.
 use Rattle.std.proofs.Common.{ℕ, ◌≤◌, List, arith}
 use Rattle.std.specs.Prelude.{Contains}
-use Rattle.hlc_column.specs.Cells.{Cell}
-use Rattle.hlc_column.specs.Rows.{row_of}
-use Rattle.hlc_column.specs.Versions.{AreVersions}
+use Rattle.hlc_table_column.specs.Cells.{Cell}
+use Rattle.hlc_table_column.specs.Rows.{row_of}
+use Rattle.hlc_table_column.specs.Versions.{AreVersions}
 use Rattle.hlc_core.specs.Past.{Step, writes, horizon}
 use Rattle.hlc_core.specs.StoreView.{StoreView, Represents}
 

@@ -12,9 +12,9 @@ use Rattle.hlc_snapshot.specs.declared.fault.NoSnapshot.{NoSnapshot as NoSuchSna
 use Rattle.hlc_core.specs.declared.listing.Pair.{Pair}
 use Rattle.hlc_heads.specs.Heads.{AcceptedView}
 use Rattle.hlc_heads.specs.declared.heads.TheConstants.{MAX_INITIAL_NODES}
-use Rattle.hlc_draft.specs.declared.report.Numbers.{Numbers}
-use Rattle.hlc_draft.specs.declared.report.Report.{Report as AReport}
-use Rattle.hlc_draft.specs.Report.{numbers_of}
+use Rattle.hlc_vacuum_draft.specs.declared.report.Numbers.{Numbers}
+use Rattle.hlc_vacuum_draft.specs.declared.report.Report.{Report as AReport}
+use Rattle.hlc_vacuum_draft.specs.Report.{numbers_of}
 use Rattle.hlc_core.specs.Listing.{IsListing}
 use Rattle.hlc_core.specs.Past.{Step, Started, Took, Opened, Closed, Vacuumed, Joined, numbered, count, floor, opened}
 use Rattle.hlc_core.specs.Past.{stamp_of}
@@ -22,7 +22,7 @@ use Rattle.hlc_core.specs.Past.{writes, item_refusal, join_refusal, join_at_refu
 use Rattle.hlc_core.specs.Past.{vacuum_refusal}
 pub use Rattle.hlc_checkpoint.specs.Sorted.{AreRowsTo}
 pub use Rattle.hlc_columns.specs.Sizes.{AreSizes}
-pub use Rattle.hlc_column.specs.Versions.{AreVersions}
+pub use Rattle.hlc_table_column.specs.Versions.{AreVersions}
 use Rattle.hlc_core.specs.Stored.{IsReport, LeavesFewest}
 use Rattle.hlc_core.specs.StoreView.{StoreView, Represents}
 

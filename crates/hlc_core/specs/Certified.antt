@@ -3,8 +3,8 @@ use Rattle.std.specs.Prelude.{◌≡◌, ℕ, ◌<◌, List, length, None, Resul
 use Rattle.hlc_rows.specs.declared.row.Row.{Row}
 use Rattle.hlc_rows.specs.Rows.{IsRowSet}
 use Rattle.hlc_witness.specs.Fewest.{Alike}
-use Rattle.hlc_draft.specs.Vacuumed.{rows_to}
-use Rattle.hlc_draft.specs.declared.report.Report.{Report}
+use Rattle.hlc_vacuum_draft.specs.Vacuumed.{rows_to}
+use Rattle.hlc_vacuum_draft.specs.declared.report.Report.{Report}
 use Rattle.hlc_events.specs.declared.certificate_fault.CertificateFault.{CertificateFault}
 use Rattle.hlc_events.specs.declared.certificate_fault.CertificateFault.TheVariants.{Vacuum, NotFewest}
 use Rattle.hlc_core.specs.Past.{Step, writes, vacuum_refusal}

@@ -7,7 +7,7 @@ use Rattle.hlc_rows.specs.Rows.{answer, newest, IsNoLater, IsRowSet}
 use Rattle.hlc_node.specs.declared.item.Item.{Item}
 use Rattle.hlc_witness.specs.Fewest.{Alike}
 use Rattle.hlc_witness.specs.Cost.{rows_cost}
-use Rattle.hlc_draft.specs.declared.report.Report.{Report}
+use Rattle.hlc_vacuum_draft.specs.declared.report.Report.{Report}
 use Rattle.hlc_events.specs.declared.event.CoreEvent.{CoreEvent}
 use Rattle.hlc_events.specs.declared.event.CoreEvent.TheVariants.{Read, List as ListAll, Vacuum, VacuumTo}
 use Rattle.hlc_events.specs.declared.event.CoreEvent.TheVariants.{VacuumPart}

@@ -4,11 +4,11 @@ use Rattle.std.specs.Prelude.{Err, ⊤}
 use Rattle.hlc_rows.specs.declared.row.Row.{Row}
 use Rattle.hlc_witness.specs.Changes.{AreChanges}
 use Rattle.hlc_witness.specs.Cost.{changes_cost}
-use Rattle.hlc_draft.specs.declared.report.Numbers.{Numbers}
-use Rattle.hlc_draft.specs.declared.report.Report.{Report}
-use Rattle.hlc_draft.specs.Report.{numbers_of}
+use Rattle.hlc_vacuum_draft.specs.declared.report.Numbers.{Numbers}
+use Rattle.hlc_vacuum_draft.specs.declared.report.Report.{Report}
+use Rattle.hlc_vacuum_draft.specs.Report.{numbers_of}
 use Rattle.hlc_columns.specs.Answers.{AreNext, in_part, part_end}
-use Rattle.hlc_column.specs.Rows.{KeyCells}
+use Rattle.hlc_table_column.specs.Rows.{KeyCells}
 use Rattle.hlc_events.specs.declared.fault.CoreFault.{CoreFault}
 use Rattle.hlc_core.specs.Calls.{IsRefusal}
 use Rattle.hlc_core.specs.Past.{Step, PartVacuumed, writes, vacuum_refusal}

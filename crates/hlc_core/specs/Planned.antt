@@ -3,7 +3,7 @@ use Rattle.std.specs.Prelude.{◌≡◌, ℕ, ◌≤◌, ◌⊎◌, List, None, 
 use Rattle.hlc_events.specs.declared.event.CoreEvent.{CoreEvent}
 use Rattle.hlc_events.specs.declared.event.CoreEvent.TheVariants.{Vacuum, VacuumTo, VacuumPart}
 use Rattle.hlc_vacuum.specs.declared.part.PartPlan.{PartPlan}
-use Rattle.hlc_draft.specs.Report.{report_of}
+use Rattle.hlc_vacuum_draft.specs.Report.{report_of}
 use Rattle.hlc_core.specs.declared.planned.Planned.{Planned}
 use Rattle.hlc_core.specs.declared.planned.Planned.TheVariants.{Whole, Part, Refused as RefusedFor}
 use Rattle.hlc_core.specs.declared.reply.CoreReply.{CoreReply}

@@ -9,10 +9,10 @@ use Rattle.hlc_witness.specs.declared.witness.Witness.{Witness}
 use Rattle.hlc_witness.specs.Changes.{AreChanges}
 use Rattle.hlc_witness.specs.Fewest.{Fewest}
 use Rattle.hlc_witness.specs.Cost.{Cheapest, changes_cost, rows_cost}
-use Rattle.hlc_draft.specs.Vacuumed.{rows_to}
+use Rattle.hlc_vacuum_draft.specs.Vacuumed.{rows_to}
 use Rattle.hlc_vacuum.specs.Representing.{count_above, count_between}
 use Rattle.hlc_witness.specs.Certificate.{RowsAscend, IsCertificate}
-use Rattle.hlc_draft.specs.declared.report.Report.{Report}
+use Rattle.hlc_vacuum_draft.specs.declared.report.Report.{Report}
 use Rattle.hlc_core.specs.Past.{Step, Vacuumed, vacuumed, part_dropped, open_snapshots, writes}
 
 -- the points of a vacuum to a stamp after this past: the stamps of the open snapshots at or below it, and the stamp

@@ -20,9 +20,9 @@ use Rattle.hlc_node.specs.declared.item.Body.TheVariants.{Write, Batch, Report, 
 use Rattle.hlc_rows.specs.Rows.{answer, IsRowSet, IsSameVersion}
 use Rattle.hlc_snapshot.specs.declared.snapshot.Snapshot.{Snapshot}
 use Rattle.hlc_snapshot.specs.RegistryView.{stamps, without}
-use Rattle.hlc_column.specs.Rows.{rows_to}
-use Rattle.hlc_column.proofs.FlagLemmas.{filter-IsRowSet}
-use Rattle.hlc_draft.proofs.PartLemmas.{same_rows, answer-rows_to, alike_from}
+use Rattle.hlc_table_column.specs.Rows.{rows_to}
+use Rattle.hlc_table_column.proofs.FlagLemmas.{filter-IsRowSet}
+use Rattle.hlc_vacuum_draft.proofs.PartLemmas.{same_rows, answer-rows_to, alike_from}
 use Rattle.hlc_vacuum.specs.Representing.{RowsRepresent, count_above, count_between}
 use Rattle.hlc_vacuum.proofs.CountLemmas.{split_count, same_above}
 use Rattle.hlc_vacuum.proofs.RepresentingLemmas.{rows_above_are_counted}

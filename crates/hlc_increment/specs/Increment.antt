@@ -1,7 +1,7 @@
 -- An increment of a store: its state without the rows at or below a stamp; and what an older checkpoint becomes by it.
 use Rattle.std.specs.Prelude.{◌≡◌, ◌≢◌, ℕ, ◌<◌, ◌≤◌, ◌⊎◌, List, [], ◌∷◌, ◌++◌, All, length, ⊤}
 use Rattle.std.specs.List.Sorted.{IsPermutation}
-use Rattle.hlc_column.specs.Rows.{rows_to}
+use Rattle.hlc_table_column.specs.Rows.{rows_to}
 use Rattle.hlc_witness.specs.Certificate.{RowsAscend}
 use Rattle.hlc_core.specs.Past.{Step, Started, Took, Opened, Closed, Vacuumed, Joined, PartVacuumed}
 use Rattle.hlc_core.specs.StoreView.{StoreView, with_rows_left}

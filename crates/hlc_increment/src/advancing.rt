@@ -1,7 +1,7 @@
 //! An older checkpoint that becomes a newer one by an increment.
 ghost use Rattle.std.specs.Prelude.{◌≡◌, ◌≢◌, ◌<◌, ◌++◌, ◌↔◌, ◌⊎◌, All, IfOk, IfErr, IfSome, IsTrue, List, None};
 ghost use Rattle.std.specs.List.Sorted.{IsPermutation};
-ghost use Rattle.hlc_column.specs.Rows.{rows_to};
+ghost use Rattle.hlc_table_column.specs.Rows.{rows_to};
 ghost use Rattle.hlc_witness.specs.Certificate.{RowsAscend};
 ghost use Rattle.hlc_core.specs.Past.{Step, floor};
 ghost use Rattle.hlc_core.specs.Checkpoint.{IsCheckpoint};

@@ -7,7 +7,7 @@ use Rattle.hlc_values.proofs.PigeonLemmas.{Served, served}
 use Rattle.hlc_rows.specs.declared.row.Row.{Row}
 use Rattle.hlc_rows.specs.Rows.{newest, answer}
 use Rattle.hlc_rows.proofs.NewestLemmas.{newest_is_greatest, answer_none, answer_some}
-use Rattle.hlc_column.specs.Cells.{value_bytes}
+use Rattle.hlc_table_column.specs.Cells.{value_bytes}
 use Rattle.hlc_columns.specs.Answers.{AreAnswers}
 use Rattle.hlc_columns.specs.Sizes.{Sizes, AreSizes, row_bytes}
 use Rattle.hlc_core.proofs.DifferenceLemmas.{HaveOtherKeys, keys_apart}

@@ -5,8 +5,8 @@ use Rattle.std.proofs.lemmas.List.{append-nil, append_assoc}
 use Rattle.std.proofs.lemmas.Grind.{flat_map-append}
 use Rattle.hlc_values.proofs.SortedLemmas.{same_members}
 use Rattle.hlc_rows.specs.declared.row.Row.{Row}
-use Rattle.hlc_column.specs.Cells.{Cell}
-use Rattle.hlc_column.specs.Versions.{IsNewer, AreVersions}
+use Rattle.hlc_table_column.specs.Cells.{Cell}
+use Rattle.hlc_table_column.specs.Versions.{IsNewer, AreVersions}
 use Rattle.hlc_core.specs.StoreView.{StoreView}
 use Rattle.hlc_wire.specs.Placing.{with_bytes}
 use Rattle.hlc_range_calls.specs.Listing.{answer_bytes, narrowed, IsCopied}

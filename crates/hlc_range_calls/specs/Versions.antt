@@ -1,8 +1,8 @@
 -- How the versions of a key are returned.
 use Rattle.std.specs.Prelude.{◌≡◌, ◌≤◌, ℕ, List, ◌++◌, length, Contains}
 use Rattle.std.specs.Int.{to_le_bytes, w16, w64}
-use Rattle.hlc_column.specs.Cells.{Cell}
-use Rattle.hlc_column.specs.Rows.{row_of}
+use Rattle.hlc_table_column.specs.Cells.{Cell}
+use Rattle.hlc_table_column.specs.Rows.{row_of}
 use Rattle.hlc_core.specs.Calls.{AreVersions}
 use Rattle.hlc_core.specs.Past.{Step, horizon, writes}
 use Rattle.hlc_core.specs.StoreView.{StoreView, Represents}

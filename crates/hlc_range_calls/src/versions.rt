@@ -1,6 +1,6 @@
 //! The stored rows of a key, as bytes.
 ghost use Rattle.std.specs.Prelude.{◌≡◌, ◌≤◌, ◌+◌, length, option_copied};
-ghost use Rattle.hlc_column.specs.Versions.{version_read};
+ghost use Rattle.hlc_table_column.specs.Versions.{version_read};
 ghost use Rattle.hlc_wire.specs.Placing.{with_bytes};
 ghost use Rattle.hlc_range_calls.specs.Listing.{answer_bytes, narrowed};
 ghost use Rattle.hlc_range_calls.specs.Scan.{parts_bytes};

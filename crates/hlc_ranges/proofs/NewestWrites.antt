@@ -15,7 +15,7 @@ use Rattle.hlc_node.specs.declared.item.Body.{Body}
 use Rattle.hlc_node.specs.declared.item.Body.TheVariants.{Write, Batch, Report, Retire}
 use Rattle.hlc_rows.specs.Rows.{newest, answer, IsRowSet}
 use Rattle.hlc_rows.proofs.NewestLemmas.{newest_is_greatest, answer_none, answer_some}
-use Rattle.hlc_draft.proofs.PartLemmas.{newest_in_part, none_in_part}
+use Rattle.hlc_vacuum_draft.proofs.PartLemmas.{newest_in_part, none_in_part}
 use Rattle.hlc_core.specs.Past.{Step, Started, Took, Opened, Closed, Vacuumed, PartVacuumed, Joined, writes, body_rows}
 use Rattle.hlc_core.specs.Past.{item_rows}
 use Rattle.hlc_core.proofs.PastLemmas.{body_rows-are, took-writes, writes-row_set}

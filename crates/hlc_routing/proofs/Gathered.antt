@@ -23,7 +23,7 @@ use Rattle.hlc_values.proofs.MemberLemmas.{Contains-map}
 use Rattle.hlc_rows.specs.declared.row.Row.{Row}
 use Rattle.hlc_rows.specs.Rows.{answer}
 use Rattle.hlc_rows.proofs.NewestLemmas.{answer_none}
-use Rattle.hlc_column.proofs.FirstLemmas.{newest_nil}
+use Rattle.hlc_table_column.proofs.FirstLemmas.{newest_nil}
 use Rattle.hlc_columns.specs.Answers.{IsBetween, AreAnswers}
 use Rattle.hlc_columns.specs.View.{Seen}
 use Rattle.hlc_core.specs.Past.{Step, writes, stamp_of}

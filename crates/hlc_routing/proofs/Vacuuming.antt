@@ -4,7 +4,7 @@ use Rattle.std.proofs.Common.{ap, sym, ◌∙◌, subst, inl, inr, arith, length
 use Rattle.std.specs.Prelude.{slice_get}
 use Rattle.std.proofs.lemmas.Bool.{cases_lt}
 use Rattle.std.proofs.lemmas.Option.{slice_get_within}
-use Rattle.hlc_draft.specs.declared.report.Report.{Report}
+use Rattle.hlc_vacuum_draft.specs.declared.report.Report.{Report}
 use Rattle.hlc_events.specs.declared.fault.CoreFault.{CoreFault}
 use Rattle.hlc_core.specs.Past.{Step, Vacuumed, vacuum_refusal, writes}
 use Rattle.hlc_core.specs.StoreView.{StoreView}

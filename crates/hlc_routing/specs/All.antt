@@ -4,7 +4,7 @@ use Rattle.std.specs.Prelude.{slice_get}
 use Rattle.std.specs.Prelude.{Result, Ok, Err, ⊤}
 use Rattle.hlc_events.specs.declared.fault.CoreFault.{CoreFault}
 use Rattle.hlc_events.specs.declared.fault.CoreFault.TheVariants.{NoMemory}
-use Rattle.hlc_draft.specs.declared.report.Report.{Report}
+use Rattle.hlc_vacuum_draft.specs.declared.report.Report.{Report}
 use Rattle.hlc_core.specs.Past.{Step, Opened, Closed, Vacuumed, Joined, open_refusal, vacuum_refusal, join_refusal}
 use Rattle.hlc_core.specs.Past.{opened, stamp_of, numbered, floor, writes}
 use Rattle.hlc_core.specs.StoreView.{StoreView}

@@ -18,8 +18,8 @@ use Rattle.std.proofs.lemmas.List.Sorted.{length_permutation}
 use Rattle.hlc_values.proofs.MemberLemmas.{Contains-none, Contains-first, Contains-rest, Contains-cons_cases}
 use Rattle.hlc_values.proofs.MemberLemmas.{Contains-filter, Contains-from_filter}
 use Rattle.hlc_rows.specs.declared.row.Row.{Row}
-use Rattle.hlc_column.specs.Rows.{KeyCells, KeysAscend, keys_in, rows_in, rows_in_one, row_of}
-use Rattle.hlc_column.proofs.RowLemmas.{key_among}
+use Rattle.hlc_table_column.specs.Rows.{KeyCells, KeysAscend, keys_in, rows_in, rows_in_one, row_of}
+use Rattle.hlc_table_column.proofs.RowLemmas.{key_among}
 use Rattle.hlc_columns.specs.Answers.{AreNext, in_part, is_upto, part_end, last_key}
 use Rattle.hlc_witness.specs.Certificate.{RowsAscend}
 use Rattle.hlc_checkpoint.specs.Lent.{AreListOf}

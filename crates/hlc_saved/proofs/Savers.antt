@@ -17,7 +17,7 @@ use Rattle.sha2.specs.Sha256.{sha256}
 use Rattle.sha2.proofs.Facts256.{length-sha256}
 use Rattle.hlc_rows.specs.declared.row.Row.{Row}
 use Rattle.hlc_rows.specs.Limits.{write_refusal}
-use Rattle.hlc_column.specs.Rows.{KeyCells}
+use Rattle.hlc_table_column.specs.Rows.{KeyCells}
 use Rattle.hlc_columns.specs.Answers.{AreNext, last_key}
 use Rattle.hlc_witness.specs.Cost.{IsInLimits, AreInLimits}
 use Rattle.hlc_core.specs.StoreView.{StoreView}

@@ -3,7 +3,7 @@ use Rattle.std.specs.Prelude.{◌≡◌, ℕ, ◌-◌, List, ◌++◌, length, t
 use Rattle.std.specs.List.{flat_map}
 use Rattle.sha2.specs.Sha256.{sha256}
 use Rattle.hlc_rows.specs.declared.row.Row.{Row}
-use Rattle.hlc_column.specs.Rows.{KeyCells, KeysAscend, rows_in}
+use Rattle.hlc_table_column.specs.Rows.{KeyCells, KeysAscend, rows_in}
 use Rattle.hlc_columns.specs.Table.{columns_in}
 use Rattle.hlc_core.specs.StoreView.{StoreView}
 use Rattle.hlc_checkpoint.specs.Checkpoint.{IsStore}

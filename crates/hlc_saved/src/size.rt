@@ -1,7 +1,7 @@
 //! The number of bytes of a checkpoint.
 ghost use Rattle.std.specs.Prelude.{◌≡◌, ◌<◌, ◌+◌, ◌*◌, All, IfSome, OnSome, SomeIff, length, option_copied};
 ghost use Rattle.std.specs.List.{flat_map};
-ghost use Rattle.hlc_column.specs.Rows.{rows_in, rows_in_one};
+ghost use Rattle.hlc_table_column.specs.Rows.{rows_in, rows_in_one};
 ghost use Rattle.hlc_columns.specs.Table.{columns_in};
 ghost use Rattle.hlc_witness.specs.Cost.{IsInLimits, AreInLimits};
 ghost use Rattle.hlc_checkpoint.specs.Checkpoint.{IsCheckpoint, IsStore};

@@ -1,7 +1,7 @@
 //! What a storm found.
 ghost use Rattle.std.specs.Prelude.{◌≡◌, ◌+◌, ◌∷◌, List, map, IfOk, IfErr};
 ghost use Rattle.std.specs.List.{range_with_len};
-ghost use Rattle.hlc_draft.specs.declared.report.Report.{Report as AReport};
+ghost use Rattle.hlc_vacuum_draft.specs.declared.report.Report.{Report as AReport};
 ghost use Rattle.hlc_core.specs.Past.{Step, Opened, Closed, count, floor, opened, writes};
 ghost use Rattle.hlc_core.specs.Listing.{IsListing};
 ghost use Rattle.hlc_core.specs.Stored.{IsReport};

@@ -7,10 +7,10 @@ use Rattle.hlc_values.proofs.MemberLemmas.{Contains-filter, Contains-from_filter
 use Rattle.hlc_values.proofs.PigeonLemmas.{served, sum_by_one}
 use Rattle.hlc_rows.specs.Rows.{IsRowSet, IsSameVersion}
 use Rattle.hlc_rows.specs.declared.row.Row.{Row}
-use Rattle.hlc_column.proofs.FlagLemmas.{filter-IsRowSet}
+use Rattle.hlc_table_column.proofs.FlagLemmas.{filter-IsRowSet}
 use Rattle.hlc_vacuum.specs.Representing.{count_above}
-use Rattle.hlc_draft.specs.Vacuumed.{rows_to}
-use Rattle.hlc_draft.proofs.PartLemmas.{apart_rows}
+use Rattle.hlc_vacuum_draft.specs.Vacuumed.{rows_to}
+use Rattle.hlc_vacuum_draft.proofs.PartLemmas.{apart_rows}
 
 -- a list is its rows at or below a bound and its rows above it
 pub split_count : (bound : ℕ) (rows : List Row) → length rows ≡ length (rows_to bound rows) + count_above bound rows

@@ -18,8 +18,8 @@ use Rattle.std.proofs.lemmas.Map.Keys.{sorted_head, sorted_tail}
 use Rattle.std.proofs.lemmas.Slice.Eq.{bytes_eq-Decides}
 use Rattle.hlc_rows.specs.declared.row.Row.{Row}
 use Rattle.hlc_rows.specs.Rows.{IsRowSet}
-use Rattle.hlc_column.specs.Cells.{Cell}
-use Rattle.hlc_column.specs.Rows.{row_of, rows_of, rows_with, KeyCells, rows_in_one, rows_in, keys_in, KeysAscend}
+use Rattle.hlc_table_column.specs.Cells.{Cell}
+use Rattle.hlc_table_column.specs.Rows.{row_of, rows_of, rows_with, KeyCells, rows_in_one, rows_in, keys_in, KeysAscend}
 use Rattle.std.proofs.Common.{Contains, Option, Some, None, zero, suc, get_or, ◌≤◌, ◌<◌, ◌-◌}
 use Rattle.std.proofs.lemmas.Bool.{le-ltb}
 use Rattle.std.proofs.lemmas.List.{length-map, drop_more}
@@ -28,12 +28,12 @@ use Rattle.hlc_witness.specs.Cost.{rows_cost}
 use Rattle.hlc_columns.specs.Answers.{in_part, part_end, last_key}
 use Rattle.hlc_columns.specs.Table.{rows_kept}
 use Rattle.hlc_vacuum.specs.Part.{all_kept, HaveFlags, IsPartOf, IsPartVacuum}
-use Rattle.hlc_draft.specs.Report.{report_of}
-use Rattle.hlc_draft.specs.Vacuumed.{IsVacuumOf, rows_to}
+use Rattle.hlc_vacuum_draft.specs.Report.{report_of}
+use Rattle.hlc_vacuum_draft.specs.Vacuumed.{IsVacuumOf, rows_to}
 use Rattle.hlc_vacuum.specs.declared.part.PartPlan.{PartPlan}
-use Rattle.hlc_draft.specs.declared.report.Report.{Report}
-use Rattle.hlc_column.proofs.FlagLemmas.{flagged-none, flagged-append, flagged-map, flagged-IsRowSet}
-use Rattle.hlc_column.proofs.FlagLemmas.{flagged-Contains}
+use Rattle.hlc_vacuum_draft.specs.declared.report.Report.{Report}
+use Rattle.hlc_table_column.proofs.FlagLemmas.{flagged-none, flagged-append, flagged-map, flagged-IsRowSet}
+use Rattle.hlc_table_column.proofs.FlagLemmas.{flagged-Contains}
 use Rattle.hlc_columns.proofs.FoundLemmas.{other_key}
 
 -- a row of another key is kept

@@ -7,16 +7,16 @@ use Rattle.std.specs.declared.alloc.AllocError.{AllocError}
 use Rattle.std.proofs.lemmas.List.{append-nil, append_assoc, length-append, length-map, take_more, take-append-drop}
 use Rattle.std.proofs.lemmas.Option.{get_or_from_slice_get}
 use Rattle.std.proofs.lemmas.Grind.{flat_map-append}
-use Rattle.hlc_column.specs.Rows.{KeyCells, KeysAscend, row_of, rows_in, rows_in_one}
-use Rattle.hlc_draft.specs.declared.draft.Draft.{Draft}
+use Rattle.hlc_table_column.specs.Rows.{KeyCells, KeysAscend, row_of, rows_in, rows_in_one}
+use Rattle.hlc_vacuum_draft.specs.declared.draft.Draft.{Draft}
 use Rattle.hlc_witness.specs.AllChanges.{key_changes}
-use Rattle.hlc_draft.specs.KeyPlan.{AddsPlan, IsDraftOf, own_changes}
+use Rattle.hlc_vacuum_draft.specs.KeyPlan.{AddsPlan, IsDraftOf, own_changes}
 use Rattle.hlc_vacuum.specs.declared.piece.Piece.{Piece}
 use Rattle.hlc_columns.specs.Table.{columns_in}
 use Rattle.hlc_vacuum.specs.Leaves.{JoinsMore, IsPieceOf}
 use Rattle.hlc_vacuum.specs.Parallel.{DraftsPiece, leaves_of}
-use Rattle.hlc_draft.proofs.JoinedLemmas.{ascend_front, ascend_back, column_next, own-append}
-use Rattle.hlc_draft.proofs.JoinedLemmas.{draft_append, draft_none, draft_push, draft_same}
+use Rattle.hlc_vacuum_draft.proofs.JoinedLemmas.{ascend_front, ascend_back, column_next, own-append}
+use Rattle.hlc_vacuum_draft.proofs.JoinedLemmas.{draft_append, draft_none, draft_push, draft_same}
 
 -- the columns of some pieces, and of others after them
 columns_both : (xs ys : List (List KeyCells)) → columns_in (xs ++ ys) ≡ columns_in xs ++ columns_in ys

@@ -3,11 +3,11 @@ use Rattle.std.proofs.Common.{◌≡◌, ◌∙◌, ℕ, List, length, ap, sym, 
 use Rattle.hlc_rows.specs.declared.row.Row.{Row}
 use Rattle.hlc_rows.specs.Rows.{IsRowSet}
 use Rattle.hlc_clock.specs.Points.{PointsAscend}
-use Rattle.hlc_column.specs.Rows.{KeyCells, KeysAscend, rows_in}
-use Rattle.hlc_draft.specs.Plan.{PlanView, TallyView, IsPlanOf, IsTallyOf}
-use Rattle.hlc_draft.specs.declared.draft.Draft.{Draft}
-use Rattle.hlc_draft.specs.KeyPlan.{IsDraftOf, IsJoined}
-use Rattle.hlc_draft.proofs.JoinedLemmas.{joined_plans, draft_tallies}
+use Rattle.hlc_table_column.specs.Rows.{KeyCells, KeysAscend, rows_in}
+use Rattle.hlc_vacuum_draft.specs.Plan.{PlanView, TallyView, IsPlanOf, IsTallyOf}
+use Rattle.hlc_vacuum_draft.specs.declared.draft.Draft.{Draft}
+use Rattle.hlc_vacuum_draft.specs.KeyPlan.{IsDraftOf, IsJoined}
+use Rattle.hlc_vacuum_draft.proofs.JoinedLemmas.{joined_plans, draft_tallies}
 use Rattle.hlc_vacuum.specs.declared.piece.Piece.{Piece}
 use Rattle.hlc_vacuum.specs.Leaves.{IsPieceOf}
 

@@ -18,12 +18,12 @@ use Rattle.hlc_witness.specs.Changes.{AreChanges}
 use Rattle.hlc_witness.specs.Cost.{AreInLimits, IsInLimits}
 use Rattle.hlc_witness.specs.Fewest.{Alike}
 use Rattle.hlc_vacuum.specs.Representing.{RowsRepresent, RepresentsAfterVacuum, count_above, count_between}
-use Rattle.hlc_draft.specs.Vacuumed.{IsVacuumOf, rows_to}
+use Rattle.hlc_vacuum_draft.specs.Vacuumed.{IsVacuumOf, rows_to}
 use Rattle.hlc_witness.specs.declared.witness.Witness.{Witness}
 use Rattle.hlc_witness.proofs.CertificateLemmas.{fewest_rows_are_certified, ascending_rows_are_a_row_set}
 use Rattle.hlc_witness.proofs.ChangeLemmas.{changes_force_rows, changes_alike}
 use Rattle.hlc_vacuum.proofs.CountLemmas.{split_count, same_above, count_push}
-use Rattle.hlc_draft.proofs.PartLemmas.{push-IsRowSet, alike_from, answer-push, same_rows, answer-rows_to}
+use Rattle.hlc_vacuum_draft.proofs.PartLemmas.{push-IsRowSet, alike_from, answer-push, same_rows, answer-rows_to}
 use Rattle.hlc_witness.proofs.PlaceLemmas.{last_point-get_or, last_upper}
 
 -- the rows above a stamp are those up to a higher one, and those above that

@@ -5,13 +5,13 @@ use Rattle.hlc_rows.specs.declared.row.Row.{Row}
 use Rattle.hlc_rows.specs.Rows.{IsRowSet}
 use Rattle.hlc_witness.specs.Cost.{rows_cost}
 use Rattle.hlc_columns.specs.Answers.{AreNext, part_end}
-use Rattle.hlc_column.specs.Rows.{rows_with, KeyCells, keys_in, rows_in}
+use Rattle.hlc_table_column.specs.Rows.{rows_with, KeyCells, keys_in, rows_in}
 use Rattle.hlc_columns.specs.Table.{rows_kept}
-use Rattle.hlc_draft.specs.Plan.{IsPlanOf, PlanView, tally_of}
-use Rattle.hlc_draft.specs.Vacuumed.{IsVacuumOf, rows_to}
+use Rattle.hlc_vacuum_draft.specs.Plan.{IsPlanOf, PlanView, tally_of}
+use Rattle.hlc_vacuum_draft.specs.Vacuumed.{IsVacuumOf, rows_to}
 use Rattle.hlc_vacuum.specs.declared.part.PartPlan.{PartPlan}
 use Rattle.hlc_vacuum.specs.declared.part.PartTally.{PartTally}
-use Rattle.hlc_draft.specs.declared.report.Report.{Report}
+use Rattle.hlc_vacuum_draft.specs.declared.report.Report.{Report}
 
 -- among some rows those of several keys are kept if their flags are set, each key in turn with as many flags as it has
 -- rows; all others are kept

@@ -5,7 +5,7 @@ use Rattle.hlc_rows.specs.Rows.{answer, IsRowSet}
 use Rattle.hlc_witness.specs.declared.witness.Witness.{Witness}
 use Rattle.hlc_witness.specs.Fewest.{Fewest}
 use Rattle.hlc_witness.specs.Changes.{AreChanges}
-use Rattle.hlc_draft.specs.Vacuumed.{rows_to}
+use Rattle.hlc_vacuum_draft.specs.Vacuumed.{rows_to}
 
 -- The stored rows are among all, each row above the horizon is stored, and the answers are the same at each open stamp
 -- and at each stamp from the horizon on.

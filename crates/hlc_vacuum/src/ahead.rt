@@ -1,6 +1,6 @@
 //! Columns fetched from memory before they are read.
 ghost use Rattle.std.specs.Prelude.{◌≤◌, ◌<◌, length};
-ghost use Rattle.hlc_column.specs.Rows.{rows_in};
+ghost use Rattle.hlc_table_column.specs.Rows.{rows_in};
 
 use hlc_columns::{Columns, Keyed};
 

@@ -9,7 +9,7 @@ ghost use Rattle.hlc_witness.specs.Fewest.{Fewest};
 ghost use Rattle.hlc_witness.specs.Cost.{Cheapest, AreInLimits, changes_cost, rows_cost};
 ghost use Rattle.hlc_witness.specs.Changes.{AreChanges};
 ghost use Rattle.hlc_witness.specs.Certificate.{IsCertificate, RowsAscend};
-ghost use Rattle.hlc_draft.specs.Vacuumed.{KeepsNewest, IsVacuumOf, rows_to};
+ghost use Rattle.hlc_vacuum_draft.specs.Vacuumed.{KeepsNewest, IsVacuumOf, rows_to};
 ghost use Rattle.hlc_vacuum.specs.Representing.{RowsRepresent, RepresentsAfterVacuum, count_above, count_between};
 
 /// The rows that a vacuum keeps at or below the last point are the cheapest, against all rows that there were, and cost

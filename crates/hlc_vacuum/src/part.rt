@@ -2,19 +2,19 @@
 ghost use Rattle.std.specs.Prelude.{◌≡◌, ℕ, List, IfOk};
 ghost use Rattle.hlc_clock.specs.Points.{PointsAscend};
 ghost use Rattle.hlc_columns.specs.Answers.{in_part, part_end};
-ghost use Rattle.hlc_column.specs.Rows.{KeyCells, keys_in};
+ghost use Rattle.hlc_table_column.specs.Rows.{KeyCells, keys_in};
 ghost use Rattle.hlc_vacuum.specs.Part.{all_kept, with_plan, HaveFlags, IsPartOf, IsPartTallyOf, IsPartVacuum};
-ghost use Rattle.hlc_draft.specs.Plan.{PlanView, tally_of};
-ghost use Rattle.hlc_draft.specs.Report.{numbers_in, report_of};
+ghost use Rattle.hlc_vacuum_draft.specs.Plan.{PlanView, tally_of};
+ghost use Rattle.hlc_vacuum_draft.specs.Report.{numbers_in, report_of};
 
 use crate::piece::Piece;
 use crate::plan::{Plan, Tally};
 use crate::planner::{plan_columns, plan_of, tally_of};
 use hlc_clock::Stamp;
 use hlc_columns::{Keyed, Table};
-use hlc_draft::{Numbers, Report, Unlisted};
-use hlc_flags::Flags;
 use hlc_rows::Bytes;
+use hlc_table_flags::Flags;
+use hlc_vacuum_draft::{Numbers, Report, Unlisted};
 use hlc_values::NoMemory;
 use std::alloc::Global;
 

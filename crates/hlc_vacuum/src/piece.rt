@@ -1,7 +1,7 @@
 //! A draft with its changes.
 ghost use Rattle.std.specs.Prelude.{◌≡◌, ◌++◌, ◌+◌, [], OnOk};
 
-use hlc_draft::{Draft, append_list};
+use hlc_vacuum_draft::{Draft, append_list};
 use hlc_values::NoMemory;
 use hlc_witness::Witness;
 use std::alloc::Global;

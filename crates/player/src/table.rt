@@ -1,6 +1,6 @@
 //! The calls of a table alone, and the plan of its vacuum.
 ghost use Rattle.std.specs.Prelude.{[], IfOk};
-ghost use Rattle.hlc_draft.specs.Plan.{IsPlanOf};
+ghost use Rattle.hlc_vacuum_draft.specs.Plan.{IsPlanOf};
 ghost use Rattle.hlc_vacuum.specs.Part.{IsPartOf};
 
 use crate::events::row_of;

@@ -1,9 +1,9 @@
-//! The small callers in the READMEs of `hlc_bytes` and `hlc_index`.
+//! The small callers in the READMEs of `hlc_bytes` and `hlc_table_index`.
 ghost use Rattle.std.specs.Prelude.{◌≡◌, ◌≤◌, length, false, IsSome, IfOk, IfSome};
-ghost use Rattle.hlc_index.specs.Entries.{entries_in};
+ghost use Rattle.hlc_table_index.specs.Entries.{entries_in};
 
 use hlc_bytes::Bytes;
-use hlc_index::Index;
+use hlc_table_index::Index;
 use std::alloc::{AllocFailed, Global};
 
 /// Copies a key that is stored in place, and so needs no memory.

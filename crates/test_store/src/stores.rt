@@ -1,7 +1,7 @@
 //! The small callers in the READMEs of `hlc_checkpoint` and `hlc_core`, each with what it may rely on.
 ghost use Rattle.std.specs.Prelude.{◌≡◌, true, List, length, IfOk, IsOkAnd};
 ghost use Rattle.hlc_checkpoint.specs.Checkpoint.{IsCheckpoint};
-ghost use Rattle.hlc_draft.specs.Vacuumed.{rows_to};
+ghost use Rattle.hlc_vacuum_draft.specs.Vacuumed.{rows_to};
 ghost use Rattle.hlc_core.specs.Past.{Step, floor};
 ghost use Rattle.hlc_core.specs.StoreView.{Represents};
 

@@ -1,7 +1,7 @@
 -- One more row is added.
 use Rattle.std.proofs.Common.{◌∙◌, ◌++◌, ◌∷◌, [], ap, sym, take, append_assoc, arith}
 use Rattle.std.proofs.lemmas.List.{take_all, length-map}
-use Rattle.hlc_column.specs.Rows.{row_of, rows_of}
+use Rattle.hlc_table_column.specs.Rows.{row_of, rows_of}
 use Rattle.hlc_checkpoint.proofs.Copied.{row_more}
 use Rattle.hlc_checkpoint.proofs.row_ref.add_rows.Goals as goal
 

@@ -1,7 +1,7 @@
 -- One more leaf is copied.
 use Rattle.std.proofs.Common.{◌∙◌, ap}
 use Rattle.std.proofs.lemmas.List.{take_all}
-use Rattle.hlc_column.specs.Rows.{rows_in}
+use Rattle.hlc_table_column.specs.Rows.{rows_in}
 use Rattle.hlc_columns.specs.Table.{columns_in}
 use Rattle.hlc_checkpoint.specs.Sorted.{rows_on}
 use Rattle.hlc_checkpoint.proofs.Copied.{leaf_on}

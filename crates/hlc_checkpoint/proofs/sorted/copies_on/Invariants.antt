@@ -1,6 +1,6 @@
 -- The rows of the leaves so far are copied.
 use Rattle.std.proofs.Common.{◌≡◌, take}
-use Rattle.hlc_column.specs.Rows.{rows_in}
+use Rattle.hlc_table_column.specs.Rows.{rows_in}
 use Rattle.hlc_columns.specs.Table.{columns_in}
 use Rattle.hlc_checkpoint.specs.Sorted.{rows_on}
 use Rattle.hlc_checkpoint.proofs.sorted.copies_on.Given as goal

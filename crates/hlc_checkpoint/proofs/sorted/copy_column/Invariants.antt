@@ -1,6 +1,6 @@
 -- The rows at the positions so far are copied.
 use Rattle.std.proofs.Common.{◌≡◌, ◌++◌, take}
-use Rattle.hlc_column.specs.Rows.{rows_of}
+use Rattle.hlc_table_column.specs.Rows.{rows_of}
 use Rattle.hlc_checkpoint.specs.Sorted.{rows_on}
 use Rattle.hlc_checkpoint.proofs.sorted.copy_column.Given as goal
 

@@ -1,6 +1,6 @@
 -- The rows of the columns so far are copied.
 use Rattle.std.proofs.Common.{◌≡◌, ◌++◌, take}
-use Rattle.hlc_column.specs.Rows.{rows_in}
+use Rattle.hlc_table_column.specs.Rows.{rows_in}
 use Rattle.hlc_checkpoint.specs.Sorted.{rows_on}
 use Rattle.hlc_checkpoint.proofs.sorted.copy_leaf.Given as goal
 

@@ -1,9 +1,9 @@
 -- The table is a row set, and so are its rows above the bound.
 use Rattle.std.proofs.Common.{ltb, ap, ◌∙◌, ◌≡◌}
 use Rattle.hlc_rows.specs.declared.row.Row.{Row}
-use Rattle.hlc_column.specs.Rows.{rows_in}
+use Rattle.hlc_table_column.specs.Rows.{rows_in}
 use Rattle.hlc_columns.specs.Table.{columns_in}
-use Rattle.hlc_column.proofs.FlagLemmas.{filter-IsRowSet}
+use Rattle.hlc_table_column.proofs.FlagLemmas.{filter-IsRowSet}
 use Rattle.hlc_checkpoint.proofs.sorted.sorted_rows_above.Goals as goal
 
 pub sort-requires : goal.sort-requires

@@ -1,7 +1,7 @@
 -- The walk begins at the first key that is not below this one, and leaves out the key itself.
 use Rattle.std.proofs.Common.{◌≡◌, ◌∙◌, List, subst, sym, ap, true}
 use Rattle.std.specs.List.Sorted.{IsStrictlySortedBy}
-use Rattle.hlc_index.specs.Entries.{entries_in, entries_before, entries_from, keys_in, key_cmp}
+use Rattle.hlc_table_index.specs.Entries.{entries_in, entries_before, entries_from, keys_in, key_cmp}
 use Rattle.hlc_columns.specs.Answers.{AreAbove, starts_at, entries_left}
 use Rattle.hlc_columns.proofs.WalkLemmas.{Entry}
 use Rattle.hlc_columns.proofs.Listed.{above_from, skip, skipped}

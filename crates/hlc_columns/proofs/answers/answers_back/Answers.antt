@@ -3,7 +3,7 @@ use Rattle.std.proofs.Common.{◌∙◌, subst, sym, ap}
 use Rattle.std.specs.Prelude.{option_copied}
 use Rattle.hlc_columns.specs.Answers.{AreAnswers, answers_in, entries_left_back, IsBetween}
 use Rattle.hlc_columns.specs.Table.{indexed_rows}
-use Rattle.hlc_index.specs.Entries.{entries_in}
+use Rattle.hlc_table_index.specs.Entries.{entries_in}
 use Rattle.hlc_columns.proofs.Answered.{answers_are, answers_reverse}
 use Rattle.hlc_columns.proofs.answers.answers_back.Goals as goal
 

@@ -2,7 +2,7 @@
 use Rattle.std.proofs.Common.{◌≡◌, ◌∙◌, [], ap, sym, length, take, drop, get_or}
 use Rattle.std.specs.List.{items_where_true}
 use Rattle.std.proofs.lemmas.List.{get_or-map}
-use Rattle.hlc_index.specs.Entries.{with_value_in}
+use Rattle.hlc_table_index.specs.Entries.{with_value_in}
 use Rattle.hlc_columns.specs.Table.{cells_at}
 use Rattle.hlc_columns.proofs.SizeLemmas.{Entry}
 use Rattle.hlc_columns.proofs.Dropped.{same_value, all_set}

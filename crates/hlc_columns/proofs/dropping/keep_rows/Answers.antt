@@ -1,6 +1,6 @@
 -- One more leaf; and then the columns without rows are removed.
 use Rattle.std.proofs.Common.{◌<◌, ◌∙◌, ap, sym, subst, arith, length, All}
-use Rattle.hlc_index.specs.Entries.{entries_in}
+use Rattle.hlc_table_index.specs.Entries.{entries_in}
 use Rattle.hlc_columns.specs.Table.{kept_in, table_rows}
 use Rattle.hlc_columns.proofs.Kept.{run_none, total_none, leaf_rows, column_inside, leaf_enough, next_leaves, next_left}
 use Rattle.hlc_columns.specs.Sizes.{sizes_of}

@@ -1,9 +1,9 @@
 -- The row goes into a column of its own; all others stay.
 use Rattle.std.proofs.Common.{◌≡◌, ◌<◌, refl, sym, ap, subst, length, arith, All, None}
 use Rattle.std.specs.Map.{lookup}
-use Rattle.hlc_index.specs.Entries.{entries_in}
+use Rattle.hlc_table_index.specs.Entries.{entries_in}
 use Rattle.hlc_columns.specs.Parts.{new_row}
-use Rattle.hlc_column.specs.Cells.{value_bytes}
+use Rattle.hlc_table_column.specs.Cells.{value_bytes}
 use Rattle.hlc_columns.specs.Sizes.{sizes_of, with_row, with_key}
 use Rattle.hlc_columns.specs.Table.{indexed_rows}
 use Rattle.hlc_columns.proofs.FoundLemmas.{test}

@@ -1,6 +1,6 @@
 -- One more column.
 use Rattle.std.proofs.Common.{◌≡◌, ◌+◌, ◌∙◌, ap, arith, List, length, filter}
-use Rattle.hlc_column.specs.Rows.{rows_of}
+use Rattle.hlc_table_column.specs.Rows.{rows_of}
 use Rattle.hlc_columns.specs.Answers.{entries_left}
 use Rattle.hlc_columns.specs.Table.{indexed_rows, table_rows}
 use Rattle.hlc_columns.proofs.Ranged.{all_lead}

@@ -1,7 +1,7 @@
 -- One more key.
 use Rattle.std.proofs.Common.{◌∙◌, ◌++◌, ap, sym, map, Bor, List, ℕ}
 use Rattle.std.proofs.lemmas.List.{append-nil}
-use Rattle.hlc_index.specs.Entries.{keys_in}
+use Rattle.hlc_table_index.specs.Entries.{keys_in}
 use Rattle.hlc_columns.proofs.WalkLemmas.{Entry, name_next}
 use Rattle.hlc_columns.proofs.walks.list_keys.Goals as goal
 

@@ -1,5 +1,5 @@
 -- One more version is measured; and at the end none is left.
-use Rattle.hlc_column.specs.Versions.{version_read}
+use Rattle.hlc_table_column.specs.Versions.{version_read}
 use Rattle.hlc_range_calls.proofs.Rowing.{measured_more}
 use Rattle.hlc_range_calls.proofs.versions.measure.Goals as goal
 

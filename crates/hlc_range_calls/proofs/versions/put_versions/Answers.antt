@@ -1,5 +1,5 @@
 -- One more version is put after those before it; and at the end none is left.
-use Rattle.hlc_column.specs.Versions.{version_read}
+use Rattle.hlc_table_column.specs.Versions.{version_read}
 use Rattle.hlc_range_calls.specs.Versions.{version_bytes}
 use Rattle.hlc_range_calls.proofs.ByteLemmas.{put_next}
 use Rattle.hlc_range_calls.proofs.versions.put_versions.Goals as goal

@@ -1,6 +1,6 @@
 -- One more row.
 use Rattle.std.proofs.Common.{subst, sym, take, ◌+◌}
-use Rattle.hlc_column.specs.Rows.{rows_of}
+use Rattle.hlc_table_column.specs.Rows.{rows_of}
 use Rattle.hlc_body.specs.Spelling.{AreOfSize}
 use Rattle.hlc_saved.proofs.Sizes.{sized_row}
 use Rattle.hlc_saved.proofs.size.column_size.Goals as goal

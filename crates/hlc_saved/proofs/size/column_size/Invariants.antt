@@ -1,6 +1,6 @@
 -- The size of those so far.
 use Rattle.std.proofs.Common.{take}
-use Rattle.hlc_column.specs.Rows.{rows_of}
+use Rattle.hlc_table_column.specs.Rows.{rows_of}
 use Rattle.hlc_body.specs.Spelling.{AreOfSize}
 use Rattle.hlc_saved.proofs.size.column_size.Given as goal
 

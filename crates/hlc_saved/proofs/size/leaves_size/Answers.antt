@@ -1,6 +1,6 @@
 -- One more leaf.
 use Rattle.std.proofs.Common.{subst, sym, take, ◌+◌}
-use Rattle.hlc_column.specs.Rows.{rows_in}
+use Rattle.hlc_table_column.specs.Rows.{rows_in}
 use Rattle.hlc_columns.specs.Table.{columns_in}
 use Rattle.hlc_body.specs.Spelling.{AreOfSize}
 use Rattle.hlc_saved.proofs.Sizes.{sized_leaf}

@@ -2,10 +2,10 @@
 use Rattle.std.proofs.Common.{◌≡◌, ◌∙◌, length, ap, count_by, not, sym}
 use Rattle.std.specs.List.{items_where_true}
 use Rattle.hlc_clock.specs.Points.{last_point}
-use Rattle.hlc_draft.specs.Plan.{TallyView}
-use Rattle.hlc_draft.specs.declared.report.Numbers.{Numbers}
-use Rattle.hlc_draft.proofs.ChosenLemmas.{length_chosen}
-use Rattle.hlc_draft.proofs.VacuumLemmas.{vacuums_keep_fewest, vacuums_keep_cheapest}
+use Rattle.hlc_vacuum_draft.specs.Plan.{TallyView}
+use Rattle.hlc_vacuum_draft.specs.declared.report.Numbers.{Numbers}
+use Rattle.hlc_vacuum_draft.proofs.ChosenLemmas.{length_chosen}
+use Rattle.hlc_vacuum_draft.proofs.VacuumLemmas.{vacuums_keep_fewest, vacuums_keep_cheapest}
 use Rattle.hlc_vacuum.proofs.applying.apply_tally.Goals as goal
 use Rattle.hlc_vacuum.proofs.applying.apply_tally.Goals.{After-drop_rows}
 

@@ -1,6 +1,6 @@
 -- If no flag is unset, the flagged rows are all rows.
 use Rattle.std.proofs.Common.{◌≡◌, count_by, not, sym, arith}
-use Rattle.hlc_draft.proofs.ChosenLemmas.{all_chosen}
+use Rattle.hlc_vacuum_draft.proofs.ChosenLemmas.{all_chosen}
 use Rattle.hlc_vacuum.proofs.applying.drop_rows.Goals as goal
 
 pub returns-else-dropped-gt0 : goal.returns-else-dropped-gt0

@@ -2,7 +2,7 @@
 use Rattle.std.proofs.Common.{◌≡◌, ◌∙◌, ◌++◌, ◌∷◌, [], sym, ap, subst, append_assoc, arith, rules}
 use Rattle.std.specs.List.{AllZip}
 use Rattle.std.proofs.lemmas.Grind.{common_steps}
-use Rattle.hlc_column.specs.Rows.{KeysAscend}
+use Rattle.hlc_table_column.specs.Rows.{KeysAscend}
 use Rattle.hlc_columns.specs.Table.{columns_in}
 use Rattle.hlc_vacuum.specs.Leaves.{IsPieceOf}
 use Rattle.hlc_vacuum.specs.Parallel.{DraftsPiece}

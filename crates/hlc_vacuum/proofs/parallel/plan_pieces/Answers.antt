@@ -5,7 +5,7 @@ use Rattle.rayon.specs.Lists.{chunks_of}
 use Rattle.rayon.proofs.ListFacts.{IfOk-then}
 use Rattle.rayon.proofs.ToStd.{slice-AllZip, chunks_of-concat}
 use Rattle.hlc_clock.specs.Points.{PointsAscend}
-use Rattle.hlc_column.specs.Rows.{KeysAscend}
+use Rattle.hlc_table_column.specs.Rows.{KeysAscend}
 use Rattle.hlc_columns.specs.Table.{columns_in}
 use Rattle.hlc_vacuum.specs.Parallel.{DraftsPiece, leaves_of}
 use Rattle.hlc_vacuum.proofs.Pieces.{piece_ascends}

@@ -1,6 +1,6 @@
 -- The rows of the keys are vacuumed.
 use Rattle.std.proofs.Common.{◌∙◌, ap, subst, sym}
-use Rattle.hlc_draft.specs.Plan.{TallyView}
+use Rattle.hlc_vacuum_draft.specs.Plan.{TallyView}
 use Rattle.hlc_vacuum.specs.Part.{all_kept, HaveFlags}
 use Rattle.hlc_vacuum.proofs.PartRows.{part-vacuum, part-flags}
 use Rattle.hlc_vacuum.proofs.part.apply_part.Goals as goal

@@ -1,7 +1,7 @@
 -- The rows of the keys are vacuumed, as by a plan with this tally.
 use Rattle.std.proofs.Common.{◌∙◌, ap, refl, subst, sym}
-use Rattle.hlc_draft.specs.Plan.{TallyView}
-use Rattle.hlc_draft.specs.Report.{report_of}
+use Rattle.hlc_vacuum_draft.specs.Plan.{TallyView}
+use Rattle.hlc_vacuum_draft.specs.Report.{report_of}
 use Rattle.hlc_vacuum.specs.Part.{all_kept, with_plan, HaveFlags}
 use Rattle.hlc_vacuum.proofs.PartRows.{part-vacuum, part-flags}
 use Rattle.hlc_vacuum.proofs.part.apply_part_tally.Goals as goal

@@ -1,6 +1,6 @@
 -- The first keys were copied.
 use Rattle.std.proofs.Common.{◌≡◌, take}
-use Rattle.hlc_column.specs.Rows.{keys_in}
+use Rattle.hlc_table_column.specs.Rows.{keys_in}
 use Rattle.hlc_vacuum.proofs.part.copy_keys.Given as goal
 
 abbrev pub invariant-loop-one : goal.invariant-loop-one

@@ -1,7 +1,7 @@
 -- One more key.
 use Rattle.std.proofs.Common.{◌+◌, ◌∙◌, ◌≤◌, ap, ap₂, subst, sym, refl, drop, length, take}
 use Rattle.std.proofs.lemmas.List.{drop_all}
-use Rattle.hlc_column.specs.Rows.{rows_with}
+use Rattle.hlc_table_column.specs.Rows.{rows_with}
 use Rattle.hlc_columns.specs.Table.{rows_kept}
 use Rattle.hlc_vacuum.specs.Part.{all_kept, HaveFlags}
 use Rattle.hlc_vacuum.proofs.PartRows.{flags-step, kept-step}

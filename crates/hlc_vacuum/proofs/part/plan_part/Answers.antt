@@ -1,10 +1,10 @@
 -- The plan is of the columns listed.
 use Rattle.std.proofs.Common.{◌≡◌, ◌∙◌, ap, refl, rules, subst}
 use Rattle.hlc_rows.specs.Rows.{IsRowSet}
-use Rattle.hlc_column.proofs.FlagLemmas.{filter-IsRowSet}
+use Rattle.hlc_table_column.proofs.FlagLemmas.{filter-IsRowSet}
 use Rattle.hlc_columns.specs.Answers.{in_part, part_end}
-use Rattle.hlc_column.specs.Rows.{keys_in, rows_in}
-use Rattle.hlc_draft.specs.KeyPlan.{IsDraftOf, own_changes}
+use Rattle.hlc_table_column.specs.Rows.{keys_in, rows_in}
+use Rattle.hlc_vacuum_draft.specs.KeyPlan.{IsDraftOf, own_changes}
 use Rattle.hlc_vacuum.proofs.Planned.{piece_plans}
 use Rattle.hlc_vacuum.proofs.part.plan_part.Goals as goal
 

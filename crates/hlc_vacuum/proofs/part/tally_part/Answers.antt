@@ -1,10 +1,10 @@
 -- The tally is of the columns listed.
 use Rattle.std.proofs.Common.{◌∙◌, ap, refl, subst}
 use Rattle.hlc_rows.specs.Rows.{IsRowSet}
-use Rattle.hlc_column.proofs.FlagLemmas.{filter-IsRowSet}
+use Rattle.hlc_table_column.proofs.FlagLemmas.{filter-IsRowSet}
 use Rattle.hlc_columns.specs.Answers.{in_part, part_end}
-use Rattle.hlc_column.specs.Rows.{keys_in, rows_in}
-use Rattle.hlc_draft.specs.KeyPlan.{IsDraftOf}
+use Rattle.hlc_table_column.specs.Rows.{keys_in, rows_in}
+use Rattle.hlc_vacuum_draft.specs.KeyPlan.{IsDraftOf}
 use Rattle.hlc_vacuum.proofs.Planned.{draft_is_tally}
 use Rattle.hlc_vacuum.proofs.part.tally_part.Goals as goal
 

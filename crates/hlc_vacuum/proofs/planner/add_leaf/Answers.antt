@@ -1,9 +1,9 @@
 -- Each column adds its plan and its changes to those before it.
 use Rattle.std.proofs.Common.{subst, arith, None, take}
 use Rattle.std.proofs.lemmas.List.{take_all}
-use Rattle.hlc_column.specs.Rows.{rows_in_one}
+use Rattle.hlc_table_column.specs.Rows.{rows_in_one}
 use Rattle.hlc_witness.specs.AllChanges.{key_changes}
-use Rattle.hlc_draft.specs.KeyPlan.{own_changes}
+use Rattle.hlc_vacuum_draft.specs.KeyPlan.{own_changes}
 use Rattle.hlc_vacuum.specs.Leaves.{JoinsMore}
 use Rattle.hlc_vacuum.proofs.Pieces.{more_none, more_on, column_on, own-more}
 use Rattle.hlc_vacuum.proofs.planner.add_leaf.Goals as goal

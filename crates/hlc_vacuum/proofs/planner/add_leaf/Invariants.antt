@@ -1,6 +1,6 @@
 -- The plans of the columns so far were added, and their changes.
 use Rattle.std.proofs.Common.{take}
-use Rattle.hlc_draft.specs.KeyPlan.{own_changes}
+use Rattle.hlc_vacuum_draft.specs.KeyPlan.{own_changes}
 use Rattle.hlc_vacuum.specs.Leaves.{JoinsMore}
 use Rattle.hlc_vacuum.proofs.planner.add_leaf.Given as goal
 

@@ -2,8 +2,8 @@
 use Rattle.std.proofs.Common.{◌∙◌, ap, subst, sym, take}
 use Rattle.std.proofs.lemmas.List.{take_all}
 use Rattle.hlc_columns.specs.Table.{columns_in}
-use Rattle.hlc_draft.specs.KeyPlan.{IsDraftOf, own_changes}
-use Rattle.hlc_draft.proofs.JoinedLemmas.{draft_none, own-append}
+use Rattle.hlc_vacuum_draft.specs.KeyPlan.{IsDraftOf, own_changes}
+use Rattle.hlc_vacuum_draft.proofs.JoinedLemmas.{draft_none, own-append}
 use Rattle.hlc_vacuum.proofs.Pieces.{leaves_on, leaf_next}
 use Rattle.hlc_vacuum.proofs.planner.plan_leaves.Goals as goal
 

@@ -1,7 +1,7 @@
 -- The plans of the columns of the leaves so far, joined, and their changes.
 use Rattle.std.proofs.Common.{take}
 use Rattle.hlc_columns.specs.Table.{columns_in}
-use Rattle.hlc_draft.specs.KeyPlan.{IsDraftOf, own_changes}
+use Rattle.hlc_vacuum_draft.specs.KeyPlan.{IsDraftOf, own_changes}
 use Rattle.hlc_vacuum.proofs.planner.plan_leaves.Given as goal
 
 abbrev pub invariant-loop-leaf : goal.invariant-loop-leaf

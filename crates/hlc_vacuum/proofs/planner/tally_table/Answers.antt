@@ -2,8 +2,8 @@
 use Rattle.std.proofs.Common.{subst}
 use Rattle.std.proofs.lemmas.Result.{IfOk-weaker}
 use Rattle.hlc_columns.specs.Table.{columns_in}
-use Rattle.hlc_draft.specs.Plan.{IsTallyOf}
-use Rattle.hlc_draft.specs.KeyPlan.{IsDraftOf}
+use Rattle.hlc_vacuum_draft.specs.Plan.{IsTallyOf}
+use Rattle.hlc_vacuum_draft.specs.KeyPlan.{IsDraftOf}
 use Rattle.hlc_vacuum.proofs.Planned.{draft_is_tally}
 use Rattle.hlc_vacuum.proofs.planner.tally_table.Goals as goal
 

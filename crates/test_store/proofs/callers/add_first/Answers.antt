@@ -6,7 +6,7 @@ use Rattle.std.specs.Str.{bytes_eq}
 use Rattle.std.proofs.lemmas.Bool.{cases_Bool}
 use Rattle.std.proofs.lemmas.Slice.Eq.{bytes_eq-Decides}
 use Rattle.hlc_rows.specs.declared.row.Row.{Row}
-use Rattle.hlc_column.specs.Rows.{rows_with}
+use Rattle.hlc_table_column.specs.Rows.{rows_with}
 use Rattle.test_store.proofs.callers.add_first.Goals as goal
 
 no_row_with : (key : List ℕ) (rows : List Row) → rows_with key rows ≡ [] → (other : Row) → Contains rows other

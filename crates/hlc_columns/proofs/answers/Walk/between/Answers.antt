@@ -2,7 +2,7 @@
 use Rattle.std.proofs.Common.{◌∙◌, subst, sym, ap}
 use Rattle.std.specs.Prelude.{option_copied}
 use Rattle.std.specs.List.Sorted.{IsStrictlySortedBy}
-use Rattle.hlc_index.specs.Entries.{entries_before, entries_from, keys_in, key_cmp}
+use Rattle.hlc_table_index.specs.Entries.{entries_before, entries_from, keys_in, key_cmp}
 use Rattle.hlc_columns.proofs.Ranged.{within, walked}
 use Rattle.hlc_columns.proofs.answers.Walk.between.Goals as goal
 

@@ -2,7 +2,7 @@
 use Rattle.std.proofs.Common.{◌≡◌, ◌∙◌, ◌++◌, ℕ, List, [], Some, arith, subst, sym, ap, reverse, take}
 use Rattle.std.specs.Prelude.{option_copied}
 use Rattle.std.specs.List.Sorted.{IsStrictlySortedBy}
-use Rattle.hlc_index.specs.Entries.{entries_in, entries_before, entries_from, keys_in, key_cmp}
+use Rattle.hlc_table_index.specs.Entries.{entries_in, entries_before, entries_from, keys_in, key_cmp}
 use Rattle.hlc_columns.specs.Answers.{is_from, leading}
 use Rattle.hlc_columns.proofs.Ranged.{within, walked_below, walked_all, before_end, all_before}
 use Rattle.hlc_columns.proofs.WalkLemmas.{Entry}

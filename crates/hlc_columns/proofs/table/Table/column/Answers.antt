@@ -2,9 +2,9 @@
 use Rattle.std.proofs.Common.{◌≡◌, ◌<◌, ◌∙◌, List, Some, None, ap, sym, subst, length}
 use Rattle.std.specs.Prelude.{option_copied, IfSome}
 use Rattle.std.proofs.lemmas.Map.Entries.{All-lookup}
-use Rattle.hlc_index.specs.Entries.{entries_in, is_key}
-use Rattle.hlc_column.specs.Cells.{Cell}
-use Rattle.hlc_column.specs.Rows.{rows_of, rows_with}
+use Rattle.hlc_table_index.specs.Entries.{entries_in, is_key}
+use Rattle.hlc_table_column.specs.Cells.{Cell}
+use Rattle.hlc_table_column.specs.Rows.{rows_of, rows_with}
 use Rattle.hlc_columns.proofs.FoundLemmas.{cells_in, rows_in_table, found_absent}
 use Rattle.hlc_columns.proofs.table.Table.column.Goals as goal
 use Rattle.hlc_columns.proofs.table.Table.column.Goals.{After-get}

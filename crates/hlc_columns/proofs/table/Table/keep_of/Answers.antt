@@ -3,8 +3,8 @@ use Rattle.std.proofs.Common.{◌≡◌, ◌∙◌, List, [], ap, sym, subst, le
 use Rattle.std.proofs.lemmas.List.{length-map, length-take-le, get_or-map}
 use Rattle.hlc_rows.specs.declared.row.Row.{Row}
 use Rattle.hlc_rows.specs.Rows.{IsRowSet}
-use Rattle.hlc_index.specs.Entries.{entries_in}
-use Rattle.hlc_column.specs.Rows.{row_of, rows_with}
+use Rattle.hlc_table_index.specs.Entries.{entries_in}
+use Rattle.hlc_table_column.specs.Rows.{row_of, rows_with}
 use Rattle.hlc_columns.specs.Table.{rows_kept, cells_at}
 use Rattle.hlc_columns.proofs.SizeLemmas.{Entry}
 use Rattle.hlc_columns.proofs.FoundLemmas.{absent_rows}

@@ -3,8 +3,8 @@ use Rattle.std.proofs.Common.{◌≡◌, ◌<◌, ◌∙◌, List, All, length, 
 use Rattle.std.proofs.lemmas.List.Elements.{All-map}
 use Rattle.std.proofs.lemmas.Result.{IfOk-weaker}
 use Rattle.hlc_rows.specs.Rows.{newest}
-use Rattle.hlc_index.specs.Entries.{entries_in}
-use Rattle.hlc_column.specs.Rows.{KeyCells, KeysAscend, AreAlone, rows_in}
+use Rattle.hlc_table_index.specs.Entries.{entries_in}
+use Rattle.hlc_table_column.specs.Rows.{KeyCells, KeysAscend, AreAlone, rows_in}
 use Rattle.hlc_columns.specs.Table.{columns_in, keyed}
 use Rattle.hlc_columns.proofs.FoundLemmas.{newest_alone}
 use Rattle.hlc_columns.proofs.Keys.{rows_keyed, keys_keyed, leaves_keyed}

@@ -2,7 +2,7 @@
 use Rattle.std.proofs.Common.{rules, ◌-◌, ◌∙◌, ◌∷◌, [], true, false, ap, sym, arith, length, replicate}
 use Rattle.std.proofs.Common.{length-append}
 use Rattle.std.proofs.lemmas.List.{length-map, length-replicate, take_all}
-use Rattle.hlc_column.specs.Rows.{row_of, rows_with}
+use Rattle.hlc_table_column.specs.Rows.{row_of, rows_with}
 use Rattle.hlc_columns.specs.Table.{rows_kept}
 use Rattle.hlc_columns.proofs.Removed.{last_out, is_there}
 use Rattle.hlc_columns.proofs.table.Table.remove_last.Goals as goal

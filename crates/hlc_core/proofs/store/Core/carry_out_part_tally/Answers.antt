@@ -1,6 +1,6 @@
 -- The rows of the part are vacuumed, at the points of the open snapshots up to the stamp, and the horizon is moved.
 use Rattle.std.proofs.Common.{◌∙◌, ap, sym, subst}
-use Rattle.hlc_draft.specs.Report.{numbers_in, report_of}
+use Rattle.hlc_vacuum_draft.specs.Report.{numbers_in, report_of}
 use Rattle.hlc_vacuum.specs.Part.{with_plan}
 use Rattle.hlc_core.specs.PlanAt.{IsPartTallyAt}
 use Rattle.hlc_core.proofs.Consistent.{consistent-fewer}

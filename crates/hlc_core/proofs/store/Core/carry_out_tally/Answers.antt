@@ -4,10 +4,10 @@ use Rattle.std.specs.List.{items_where_true}
 use Rattle.hlc_snapshot.specs.RegistryView.{stamps_to}
 use Rattle.hlc_clock.specs.Points.{ArePoints}
 use Rattle.hlc_witness.specs.Cost.{rows_cost}
-use Rattle.hlc_draft.specs.declared.report.Numbers.{Numbers}
-use Rattle.hlc_draft.specs.Plan.{PlanView, TallyView, IsPlanOf, tally_of}
-use Rattle.hlc_draft.specs.Report.{numbers_in, report_of}
-use Rattle.hlc_draft.specs.Vacuumed.{IsVacuumOf, rows_to}
+use Rattle.hlc_vacuum_draft.specs.declared.report.Numbers.{Numbers}
+use Rattle.hlc_vacuum_draft.specs.Plan.{PlanView, TallyView, IsPlanOf, tally_of}
+use Rattle.hlc_vacuum_draft.specs.Report.{numbers_in, report_of}
+use Rattle.hlc_vacuum_draft.specs.Vacuumed.{IsVacuumOf, rows_to}
 use Rattle.hlc_core.specs.Past.{floor, horizon}
 use Rattle.hlc_core.specs.StoreView.{StoreView}
 use Rattle.hlc_core.specs.PlanAt.{IsPlanAt}

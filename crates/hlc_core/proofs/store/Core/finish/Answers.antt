@@ -1,6 +1,6 @@
 -- The part was planned for an event that asks for it: so it is a step of each history.
 use Rattle.std.proofs.Common.{subst, sym}
-use Rattle.hlc_draft.specs.declared.report.Report.{Report}
+use Rattle.hlc_vacuum_draft.specs.declared.report.Report.{Report}
 use Rattle.hlc_core.specs.declared.reply.CoreReply.TheVariants.{VacuumedPart}
 use Rattle.hlc_core.specs.declared.planned.Planned.{Planned}
 use Rattle.hlc_core.specs.History.{IsStep, past_of}

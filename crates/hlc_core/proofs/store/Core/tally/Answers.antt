@@ -2,7 +2,7 @@
 use Rattle.std.proofs.Common.{ap, subst, sym, ◌∙◌}
 use Rattle.hlc_snapshot.specs.RegistryView.{stamps_to}
 use Rattle.hlc_clock.specs.Points.{ArePoints}
-use Rattle.hlc_draft.specs.Plan.{TallyView, IsPlanOf}
+use Rattle.hlc_vacuum_draft.specs.Plan.{TallyView, IsPlanOf}
 use Rattle.hlc_core.specs.StoreView.{StoreView}
 use Rattle.hlc_core.proofs.store.Core.tally.Goals as goal
 

@@ -1,6 +1,6 @@
 -- The tally is carried out, as each plan that has it would be.
 use Rattle.std.proofs.Common.{◌∙◌, ap}
-use Rattle.hlc_draft.specs.Report.{numbers_in, report_of}
+use Rattle.hlc_vacuum_draft.specs.Report.{numbers_in, report_of}
 use Rattle.hlc_core.proofs.store.Core.vacuum_by_tally.Goals as goal
 
 pub returns-clause-ok : goal.returns-clause-ok

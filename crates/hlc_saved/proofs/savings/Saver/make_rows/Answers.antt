@@ -2,7 +2,7 @@
 use Rattle.std.proofs.Common.{refl, ◌∙◌, ◌++◌, ap, subst, List, ℕ, length, length-append, arith}
 use Rattle.std.specs.List.{flat_map}
 use Rattle.hlc_body.specs.Spelling.{row_bytes}
-use Rattle.hlc_column.specs.Rows.{KeyCells}
+use Rattle.hlc_table_column.specs.Rows.{KeyCells}
 use Rattle.hlc_frame.specs.Writing.{HasPut}
 use Rattle.hlc_saved.specs.Writing.{HasColumns}
 use Rattle.hlc_saved.proofs.Makes.{some_bytes, last_at}

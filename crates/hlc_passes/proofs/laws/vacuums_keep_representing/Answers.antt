@@ -1,6 +1,0 @@
--- The remaining stored rows are a vacuum of all accepted ones.
-use Rattle.hlc_core.proofs.VacuumLemmas.{vacuums}
-use Rattle.hlc_passes.proofs.laws.vacuums_keep_representing.Goals as goal
-
-pub returns : goal.returns
-returns c = vacuums

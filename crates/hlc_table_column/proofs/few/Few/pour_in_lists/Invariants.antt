@@ -1,0 +1,11 @@
+-- The rows so far have moved, and the later ones are as they were.
+use Rattle.std.proofs.Common.{◌≡◌, ◌++◌, length, take, drop}
+use Rattle.hlc_table_column.proofs.few.Few.pour_in_lists.Given as goal
+
+abbrev pub invariant-loop-place : goal.invariant-loop-place
+invariant-loop-place g l = record {
+  moved : l.to.cells ≡ l.fn.to.cells ++ take l.place l.fn.self;
+  room : l.to.room ≡ l.fn.to.room;
+  later : drop l.place l.from ≡ drop l.place l.fn.self;
+  long : length l.from ≡ length l.fn.self;
+}

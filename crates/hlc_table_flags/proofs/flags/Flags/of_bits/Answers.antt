@@ -1,0 +1,6 @@
+-- The bits themselves.
+use Rattle.std.proofs.Common.{refl}
+use Rattle.hlc_table_flags.proofs.flags.Flags.of_bits.Goals as goal
+
+pub returns : goal.returns
+returns c = refl

@@ -1,0 +1,54 @@
+-- One bit of one word is set.
+use Rattle.std.proofs.Common.{◌+◌, ◌<◌, ◌/◌, ◌%◌, ◌*◌, ◌^◌, ◌∙◌, ℕ, ap, arith, length, length-set}
+use Rattle.std.specs.Prelude.{bit_or}
+use Rattle.hlc_table_flags.proofs.BitLemmas.{bits_length}
+use Rattle.hlc_table_flags.proofs.WordLemmas.{set_word, set_none, set_flag}
+use Rattle.hlc_table_flags.proofs.list.FlagList.set_after.Goals as goal
+use Rattle.hlc_table_flags.proofs.list.FlagList.set_after.Goals.{After-self}
+
+-- the position
+abbrev at : After-self → ℕ
+at c = c.args.from + c.args.place
+
+below : (c : After-self) → at c < c.self.inside.len
+below c =
+    let many = bits_length c.self.inside.words.items 0 c.self.inside.len in
+    let all = ap length c.self.view_is in
+    let lt = c.requires in
+    omega (arith, many, all, lt)
+
+-- its word
+inside : (c : After-self) → at c / 64 < length c.self.inside.words.items
+inside c = let lt = below c in let many = c.self.invariant.0 in omega (arith, lt, many)
+
+pub overflow_add-at : goal.overflow_add-at
+overflow_add-at c =
+    let lt = below ((goal.at.overflow_add-at c).After-self) in
+    let fits = c.self.ranges in
+    omega (arith, lt, fits)
+
+pub index_mut-requires : goal.index_mut-requires
+index_mut-requires c =
+    let lt = inside ((goal.at.index_mut-requires c).After-self) in
+    let many = c.self.invariant.0 in
+    omega (arith, lt, many)
+
+-- no bit from the end on is set, since this one is before it
+pub invariant_of-self : goal.invariant_of-self
+invariant_of-self c =
+    let self = (goal.at.invariant_of-self c).After-self in
+    let words = c.self.inside.words.items in
+    let word = c.index_mut.result.now in (
+      length-set words (at self / 64) (bit_or word (1 * 2 ^ (at self % 64) % 2 ^ 64)) ∙ c.self.invariant.0,
+      set_none words _ (at self) c.self.inside.len
+          (set_word words word (at self) c.index_mut.ensures.value (inside self)) (inside self) (below self)
+          c.self.invariant.1,
+    )
+
+pub returns : goal.returns
+returns c =
+    let self = (goal.at.returns c).After-self in
+    let words = c.self.inside.words.items in
+    set_flag words _ (at self) c.self.inside.len c.args.self.now
+    (set_word words c.index_mut.result.now (at self) c.index_mut.ensures.value (inside self)) (inside self)
+    (below self) c.self.view_is
