@@ -194,8 +194,8 @@ fn answer_lines<W: Write>(
     None
 }
 
-/// Prints the answer to a good line. The key of a read is looked up as a part of the line, if possible, and its value is
-/// printed without a copy.
+/// Prints the answer to a good line. The key of a read is looked up as a part of the line, if possible, and its value
+/// is printed without a copy.
 #[inline(always)]
 fn answer_line<W: Write>(
     alloc: Global,
@@ -240,9 +240,23 @@ fn reply_to(alloc: Global, world: &mut World, event: Event<Spelled<'_>>) -> Repl
         → (after : List (AnEvent × AReply))
         × AnswersLine nodes schedule event.entry result after × Represents nodes world.new after }
 {
-    match owned_event(alloc, event) {
-        Ok(event) => world.step(event),
-        Err(_) => Reply::Refused(Refusal::NoMemory),
+    match event {
+        Event::Report { node, reading } => world.step(Event::Report { node, reading }),
+        Event::Send { node, reading } => world.step(Event::Send { node, reading }),
+        Event::Receive {
+            node,
+            reading,
+            message,
+        } => world.step(Event::Receive {
+            node,
+            reading,
+            message,
+        }),
+        Event::Deliver { node, number } => world.step(Event::Deliver { node, number }),
+        event => match owned_event(alloc, event) {
+            Ok(event) => world.step(event),
+            Err(_) => Reply::Refused(Refusal::NoMemory),
+        },
     }
 }
 

@@ -2,5 +2,5 @@
 use Rattle.test_store.proofs.callers.deliver_twice.Goals as goal
 
 pub returns : goal.returns
-returns c = λ schedule represents. c.step-second.ensures.represents _
-    (c.step-first.ensures.represents schedule represents)
+returns c = λ nodes schedule represents. c.step-second.ensures.represents nodes _
+    (c.step-first.ensures.represents nodes schedule represents)
