@@ -23,12 +23,13 @@ OnReader kept Closed Open = MatchOption kept Closed (λ lent. Open lent.1)
 abbrev pub IsGivenBack : (the_row).Denot → (the_row).Denot → Type 0
 IsGivenBack old new = (new.value ≡ old.value) × (IsSome old.value → new.at ≡ old.at)
 
--- the same two about each past that the store represents before the call
+-- the answer of a call that may change the store, about each past that the store represents before it
 abbrev pub OnStorePast
     : Option StoreView → Option StoreView → Type 0 → (StoreView → StoreView → List Step → Type 0) → Type 0
 OnStorePast old new Closed Open =
     OnStore old new Closed (λ before after. (past : List Step) → Represents before past → Open before after past)
 
+-- the answer of a call that only reads, about each past that the lent store represents
 abbrev pub OnReaderPast : Loan → Type 0 → (List Step → Type 0) → Type 0
 OnReaderPast kept Closed Open = OnReader kept Closed (λ core. (past : List Step) → Represents core past → Open past)
 

@@ -44,7 +44,7 @@ link_at links node = slice_index_or links node no_link
 abbrev pub advanced : HeadsView → ℕ → IntakeView → HeadsView
 advanced marks node link = record { links = slice_set marks.links node link; top = max marks.top link.head }
 
--- the number after this one; there is none after the last
+-- the number after this one, or this one if it is the last
 abbrev pub number_after : ℕ → ℕ
 number_after number = if number == NUMBER_BOUND then number else number + 1
 

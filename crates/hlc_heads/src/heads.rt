@@ -209,9 +209,8 @@ impl Heads {
         Accepted::new(node, stamp, false)
     }
 
-    /// Makes the stamp of a node's last accepted item its head, and no longer counts the node in
-    /// the floor. The node is below the number of nodes and has not retired, and the stamp is above
-    /// its head.
+    /// Makes the stamp of a node's last item, which was accepted, its head, and no longer counts the node in the floor.
+    /// The node is below the number of nodes and has not retired, and the stamp is above its head.
     pub fn retire(&mut self, node: u16, stamp: Stamp) -> Accepted
         requires node { node < length self.old.links }
         requires open { (link_at self.old.links node).retired ≡ false }
