@@ -1,5 +1,5 @@
 //! Bytes that are stored in place.
-ghost use Rattle.std.specs.Prelude.{◌≡◌, ◌≤◌, length, IsOk};
+ghost use Rattle.std.specs.Prelude.{◌≡◌, ◌≤◌, length};
 
 use std::marker::Model;
 

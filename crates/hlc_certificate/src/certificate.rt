@@ -55,28 +55,18 @@ impl Certificate {
                 node,
                 value,
             } => self.rows.push(Row {
-                key: to_bytes(alloc, key)?,
+                key: key.to_bytes(alloc)?,
                 stamp: *stamp,
                 node: *node,
                 value: to_value(alloc, value)?,
             })?,
             CheckLine::Witness { key, before, at } => self.witnesses.push(Witness {
-                key: to_bytes(alloc, key)?,
+                key: key.to_bytes(alloc)?,
                 before: *before,
                 at: *at,
             })?,
         }
         Ok(())
-    }
-}
-
-/// Returns a copy of the bytes.
-fn to_bytes(alloc: Global, spelled: &Spelled<'_>) -> Result<Bytes, NoMemory>
-    ensures { IfOk result (λ copy. copy ≡ spelled.now) }
-{
-    match spelled.as_word() {
-        Some(word) => Bytes::from_slice(alloc, word),
-        None => Ok(Bytes::from_vec(spelled.to_vec(alloc)?)),
     }
 }
 
@@ -86,7 +76,7 @@ fn to_value(alloc: Global, value: &Option<Spelled<'_>>) -> Result<Option<Bytes>,
 {
     match value {
         None => Ok(None),
-        Some(bytes) => Ok(Some(to_bytes(alloc, bytes)?)),
+        Some(bytes) => Ok(Some(bytes.to_bytes(alloc)?)),
     }
 }
 

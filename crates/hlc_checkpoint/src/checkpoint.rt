@@ -1,6 +1,5 @@
 //! A checkpoint of a store, and the first reason why some values are not one.
-ghost use Rattle.std.specs.Prelude.{◌≡◌, ◌≢◌, IfOk, IfSome, ◌↔◌, ◌≤◌, [], IsTrue, All, MatchOption, max};
-ghost use Rattle.hlc_heads.specs.Low.{lower};
+ghost use Rattle.std.specs.Prelude.{◌≡◌, ◌≢◌, IfOk, IfSome, ◌↔◌, ◌≤◌, [], IsTrue, All, MatchOption};
 ghost use Rattle.hlc_heads.specs.Heads.{floor_of};
 ghost use Rattle.hlc_checkpoint.specs.StoreView.{HasNodes, HasStamps, HasLastItem, greatest_head, marks_of};
 ghost use Rattle.hlc_checkpoint.specs.RestoreFaults.{fault_code};
@@ -10,7 +9,7 @@ ghost use Rattle.hlc_checkpoint.specs.Checkpoint.{IsUnderHead, floor_in};
 ghost use Rattle.hlc_checkpoint.specs.Growing.{with_rows};
 
 use hlc_clock::Stamp;
-use hlc_heads::{MAX_INITIAL_NODES, MAX_NODES};
+use hlc_heads::{MAX_INITIAL_NODES, MAX_NODES, greater, lower};
 use hlc_intake::Intake;
 use hlc_rows::Row;
 use hlc_snapshot::{Snapshot, is_register};
@@ -389,13 +388,6 @@ fn greatest_head(links: &[Intake]) -> Stamp
     greatest
 }
 
-/// Returns the greater of the two stamps.
-fn greater(a: Stamp, b: Stamp) -> Stamp
-    ensures { result ≡ max a b }
-{
-    if a < b { b } else { a }
-}
-
 /// Returns the least head of the links whose nodes have not retired, or the top if all have.
 fn floor_of(links: &[Intake], top: Stamp) -> Stamp
     ensures { result ≡ floor_of (marks_of links.now top) }
@@ -407,16 +399,6 @@ fn floor_of(links: &[Intake], top: Stamp) -> Stamp
         }
     }
     least.unwrap_or(top)
-}
-
-/// Returns the lower of the two stamps, or `stamp` if it is the only one.
-fn lower(least: Option<Stamp>, stamp: Stamp) -> Stamp
-    ensures { result ≡ lower least stamp }
-{
-    match least {
-        Some(low) if low < stamp => low,
-        _ => stamp,
-    }
 }
 
 /// Returns whether no open snapshot is above the floor.

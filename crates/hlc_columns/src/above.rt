@@ -1,6 +1,5 @@
 //! The columns of the keys above a key.
-ghost use Rattle.std.specs.Prelude.{◌≡◌, ◌≢◌, ◌++◌, All, IfOk, OnOk, take, ℕ, List};
-ghost use Rattle.std.specs.declared.cmp.Ordering.TheVariants.{Greater};
+ghost use Rattle.std.specs.Prelude.{◌≡◌, IfOk, take, ℕ, List};
 ghost use Rattle.std.specs.List.Sorted.{IsStrictlySortedBy};
 ghost use Rattle.hlc_table_index.specs.Entries.{entries_in, keys_in, key_cmp};
 ghost use Rattle.hlc_table_column.specs.Cells.{Cell};

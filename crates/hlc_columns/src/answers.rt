@@ -1,5 +1,5 @@
 //! The answers of many keys at one bound, one after another, without a list of them.
-ghost use Rattle.std.specs.Prelude.{◌≡◌, ◌≤◌, ◌++◌, ◌∷◌, [], MatchOption, option_copied, length, slice_index_or};
+ghost use Rattle.std.specs.Prelude.{◌≡◌, ◌≤◌, ◌∷◌, [], MatchOption, option_copied, length, slice_index_or};
 ghost use Rattle.std.specs.Prelude.{filter, reverse};
 ghost use Rattle.std.specs.List.Sorted.{IsStrictlySortedBy};
 ghost use Rattle.std.specs.Iterator.{YieldsFirstBy, item_count};
@@ -39,8 +39,9 @@ impl<'a> Walk<'a> {
         to: Option<&'a [u8]>,
     ) -> Walk<'a>
         requires { slot ≤ length (slice_index_or columns.now at []) }
-        ensures { entries_left result
+        ensures exact { entries_left result
             ≡ leading (is_below (option_copied to.entry)) (entries_from columns.now at slot) }
+        ensures ascend { IsStrictlySortedBy key_cmp (keys_in (entries_in columns.now)) }
     {
         let mut walk = Walk {
             columns,

@@ -1,5 +1,5 @@
 //! Dropping rows of one key.
-ghost use Rattle.std.specs.Prelude.{◌≡◌, ◌+◌, ◌<◌, ◌++◌, ◌∷◌, [], length, slice_index_or};
+ghost use Rattle.std.specs.Prelude.{◌≡◌, ◌+◌, ◌<◌, ◌++◌, [], length, slice_index_or};
 ghost use Rattle.std.specs.List.{items_where_true};
 ghost use Rattle.hlc_table_index.specs.Entries.{entries_in, entries_before, entries_from};
 ghost use Rattle.hlc_columns.specs.Sizes.{sizes_of, Fit};

@@ -18,7 +18,8 @@ pub(crate) fn list_keys(alloc: Global, columns: &Index<Rows>) -> Result<Vec<&[u8
     ensures ascend { IsStrictlySortedBy key_cmp (keys_in (entries_in columns.now)) }
 {
     let mut keys = Vec::new(alloc);
-    for entry in columns.iter() {
+    let mut walk = Walk::from_slot(columns, 0, 0, None);
+    while let Some(entry) = walk.next() {
         keys.push(entry.0.as_slice())?;
     }
     Ok(keys)

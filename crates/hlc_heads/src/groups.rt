@@ -68,7 +68,7 @@ pub(crate) fn least_of(groups: &[Option<Stamp>]) -> Option<Stamp>
 }
 
 /// Returns the lower of the two stamps, or `stamp` if it is the only one.
-pub(crate) fn lower(least: Option<Stamp>, stamp: Stamp) -> Stamp
+pub fn lower(least: Option<Stamp>, stamp: Stamp) -> Stamp
     ensures { MatchOption least (result ≡ stamp) (λ low. result ≡ min low stamp) }
 {
     match least {

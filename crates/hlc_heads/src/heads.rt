@@ -317,7 +317,7 @@ fn number_after(number: u64) -> u64
 }
 
 /// Returns the greater of the two stamps.
-fn greater(a: Stamp, b: Stamp) -> Stamp
+pub fn greater(a: Stamp, b: Stamp) -> Stamp
     ensures { result ≡ max a b }
 {
     if a < b { b } else { a }

@@ -1,6 +1,5 @@
 //! A write of a batch: several keys at one stamp.
 ghost use Rattle.std.specs.Prelude.{◌≡◌, ◌+◌, ◌<◌, ◌≤◌, length, option_copied, take};
-ghost use Rattle.std.specs.Prelude.{List};
 ghost use Rattle.hlc_rows.specs.Limits.{write_refusal};
 ghost use Rattle.hlc_rows.specs.Writes.{all_refusal, batch_refusal, eight_at, first_of, marks_of};
 ghost use Rattle.hlc_rows.specs.Writes.{number_of, short_number};

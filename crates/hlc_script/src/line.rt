@@ -8,7 +8,7 @@ use hlc_text::bytes::{Spelled, bytes};
 use hlc_text::stamp::stamp;
 use hlc_text::words::LineWords;
 use hlc_values::NoMemory;
-use hlc_world::{Bytes, Event};
+use hlc_world::Event;
 use std::alloc::Global;
 
 /// Returns the event of a line, with its bytes still in their spelling, or none where no event has this line.
@@ -36,11 +36,11 @@ pub fn owned_event(alloc: Global, event: Event<Spelled<'_>>) -> Result<Event, No
         Event::Delete { node, reading, key } => Ok(Event::Delete {
             node,
             reading,
-            key: owned(alloc, &key)?,
+            key: key.to_bytes(alloc)?,
         }),
         Event::Read { id, key } => Ok(Event::Read {
             id,
-            key: owned(alloc, &key)?,
+            key: key.to_bytes(alloc)?,
         }),
         Event::Report { node, reading } => Ok(Event::Report { node, reading }),
         Event::Retire { node, reading } => Ok(Event::Retire { node, reading }),
@@ -81,20 +81,9 @@ fn owned_write(
     Ok(Event::Write {
         node,
         reading,
-        key: owned(alloc, &key)?,
-        value: owned(alloc, &value)?,
+        key: key.to_bytes(alloc)?,
+        value: value.to_bytes(alloc)?,
     })
-}
-
-/// Returns a copy of the bytes. Up to 30 bytes that are their own spelling take no memory.
-#[inline(always)]
-fn owned(alloc: Global, spelled: &Spelled<'_>) -> Result<Bytes, NoMemory>
-    ensures { IfOk result (λ owned. owned ≡ spelled.now) }
-{
-    match spelled.as_word() {
-        Some(word) => Bytes::from_slice(alloc, word),
-        None => Ok(Bytes::from_vec(spelled.to_vec(alloc)?)),
-    }
 }
 
 /// Returns the event of the words, or none.

@@ -1,5 +1,5 @@
 //! The map.
-ghost use Rattle.std.specs.Prelude.{◌≡◌, ◌≢◌, ◌-◌, ◌+◌, ◌<◌, ◌≤◌, ◌++◌, ◌↔◌, [], ℕ, IsTrue, None, Some, length};
+ghost use Rattle.std.specs.Prelude.{◌≡◌, ◌≢◌, ◌-◌, ◌+◌, ◌<◌, ◌≤◌, ◌++◌, [], ℕ, IsTrue, None, Some, length};
 ghost use Rattle.std.specs.Prelude.{slice_get, slice_index_or, All};
 ghost use Rattle.std.specs.Prelude.{filter, OnOk, OnErr, IfOk, IfErr, option_copied};
 ghost use Rattle.std.specs.Map.{lookup};
@@ -12,7 +12,6 @@ ghost use Rattle.hlc_table_index.specs.Entries.{IsEntryAt, IsGap, IsPlace};
 ghost use Rattle.hlc_table_index.specs.Entries.{entries_before, entries_from};
 ghost use Rattle.std.specs.declared.cmp.Ordering.TheVariants.{Less};
 
-use crate::entries::Entries;
 use crate::filled::Filled;
 use crate::head::head_of;
 use crate::leaves::Leaves;
@@ -67,15 +66,6 @@ impl<V: Drop> Index<V> {
         ensures { result.now ≡ slice_index_or self.now at [] }
     {
         self.leaves.leaf(at).entries()
-    }
-
-    /// Returns an iterator of the entries in the order of their keys. It needs no memory.
-    pub fn iter(&self) -> Entries<'_, V>
-        ensures all { result ≡ entries_in self.now }
-        ensures ascend { IsStrictlySortedBy key_cmp (keys_in (entries_in self.now)) }
-    {
-        let _ = &self.leaves;
-        Entries::new(self)
     }
 
     /// Returns the value of a key, or none. It needs no memory.

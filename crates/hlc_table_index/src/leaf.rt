@@ -4,7 +4,7 @@ ghost use Rattle.std.specs.Prelude.{OnErr, IfOk, IfErr, OnOk};
 ghost use Rattle.std.specs.Prelude.{take, drop, slice_get, Some, map, filter};
 ghost use Rattle.std.specs.List.{insert};
 ghost use Rattle.hlc_table_index.specs.Head.{head_of, AreBytes};
-ghost use Rattle.hlc_table_index.specs.Entries.{keys_in, key_cmp, IsSlot, IsBelowAt, IsAboveAt};
+ghost use Rattle.hlc_table_index.specs.Entries.{keys_in, IsSlot, IsBelowAt};
 ghost use Rattle.hlc_table_index.specs.Entries.{with_value};
 ghost use Rattle.std.specs.Borrow.{Lends, sem};
 ghost use Rattle.hlc_table_index.specs.contracts.leaf.Leaf.{the_row};

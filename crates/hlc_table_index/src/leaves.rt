@@ -1,5 +1,5 @@
 //! Leaves side by side, and the heads of their first keys.
-ghost use Rattle.std.specs.Prelude.{◌≡◌, ◌≢◌, ◌-◌, ◌+◌, ◌++◌, ◌∷◌, ◌≤◌, ◌<◌, [], List, length, slice_index_or};
+ghost use Rattle.std.specs.Prelude.{◌≡◌, ◌-◌, ◌+◌, ◌++◌, ◌∷◌, ◌≤◌, ◌<◌, [], List, length, slice_index_or};
 ghost use Rattle.std.specs.Prelude.{All, IsTrue, OnErr, IfErr, OnOk};
 ghost use Rattle.std.specs.Prelude.{take, drop, slice_set, map, filter};
 ghost use Rattle.std.specs.List.{insert};

@@ -1,5 +1,5 @@
 //! The position of the newest of some stamps and nodes, which are side by side.
-ghost use Rattle.std.specs.Prelude.{◌≡◌, ◌↔◌, ◌≤◌, ◌<◌, ◌-◌, ◌⊎◌, ℕ, IsTrue, Some, IfSome, MatchOption, length};
+ghost use Rattle.std.specs.Prelude.{◌≡◌, ◌↔◌, ◌≤◌, ◌<◌, ◌-◌, ◌⊎◌, IsTrue, Some, IfSome, MatchOption, length};
 ghost use Rattle.std.specs.Prelude.{slice_index};
 ghost use Rattle.std.specs.Prelude.{take, count_by, nat_le, false};
 ghost use Rattle.std.specs.List.Sorted.{IsPartitionPoint};

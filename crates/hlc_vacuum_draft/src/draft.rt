@@ -1,5 +1,5 @@
 //! An unfinished plan: the plans of the columns so far, one after another.
-ghost use Rattle.std.specs.Prelude.{◌≡◌, ◌+◌, ◌<◌, ◌≤◌, ◌++◌, [], IfSome, MatchOption, None, OnOk, length, map};
+ghost use Rattle.std.specs.Prelude.{◌≡◌, ◌+◌, ◌<◌, ◌++◌, [], IfSome, MatchOption, None, OnOk, length, map};
 ghost use Rattle.std.specs.Prelude.{nat_lt, slice_set, true};
 ghost use Rattle.hlc_clock.specs.Points.{PointsAscend};
 ghost use Rattle.hlc_table_column.specs.Rows.{rows_of};

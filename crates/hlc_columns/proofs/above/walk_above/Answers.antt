@@ -16,7 +16,7 @@ ahead c = entries_from c.args.columns.now c.seek-at.result.0 c.seek-at.result.1
 above : (c : After-is_at) → AreAbove (entries_in c.args.columns.now) c.args.key.now (skip c.is_at.result (ahead c))
 above c =
     subst (λ b. AreAbove (entries_in c.args.columns.now) c.args.key.now (skip b (ahead c)))
-    (sym (c.is_at.ensures.first ∙ ap (starts_at c.args.key.now) (c.from_slot-walk.ensures ∙ all_lead (ahead c))))
+    (sym (c.is_at.ensures.first ∙ ap (starts_at c.args.key.now) (c.from_slot-walk.ensures.exact ∙ all_lead (ahead c))))
     (subst (λ es. AreAbove es c.args.key.now (skip (starts_at c.args.key.now (ahead c)) (ahead c)))
     (sym c.seek-at.ensures.whole)
     (above_from (entries_before c.args.columns.now c.seek-at.result.0 c.seek-at.result.1) (ahead c) c.args.key.now
@@ -27,7 +27,7 @@ pub returns-then-is_at-clause-above : goal.returns-then-is_at-clause-above
 returns-then-is_at-clause-above c =
     let at = (goal.at.returns-then-is_at-clause-above c).After-is_at in
     let same : entries_left c.is_at.new.self ≡ ahead at =
-    c.is_at.ensures.same ∙ c.from_slot-walk.ensures ∙ all_lead (ahead at) in
+    c.is_at.ensures.same ∙ c.from_slot-walk.ensures.exact ∙ all_lead (ahead at) in
     subst (AreAbove (entries_in c.args.columns.now) c.args.key.now)
     (sym (skipped (entries_left c.is_at.new.self) (entries_left c.next.new.self) _ c.next.ensures
     ∙ ap (skip true) same))
@@ -38,7 +38,7 @@ pub returns-else-is_at-clause-above : goal.returns-else-is_at-clause-above
 returns-else-is_at-clause-above c =
     let at = (goal.at.returns-else-is_at-clause-above c).After-is_at in
     let same : entries_left c.is_at.new.self ≡ ahead at =
-    c.is_at.ensures.same ∙ c.from_slot-walk.ensures ∙ all_lead (ahead at) in
+    c.is_at.ensures.same ∙ c.from_slot-walk.ensures.exact ∙ all_lead (ahead at) in
     subst (AreAbove (entries_in c.args.columns.now) c.args.key.now) (sym same)
     (subst (λ b. AreAbove (entries_in c.args.columns.now) c.args.key.now (skip b (ahead at))) c.if-is_at.false
     (above at))

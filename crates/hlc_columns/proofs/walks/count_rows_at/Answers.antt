@@ -10,7 +10,7 @@ use Rattle.hlc_columns.proofs.walks.count_rows_at.Goals as goal
 pub loop-entry-init : goal.loop-entry-init
 loop-entry-init c =
     let all = ap (λ (es : List Entry). length (filter (within c.args.bound) (table_rows es)))
-    (c.from_slot-walk.ensures ∙ all_lead _ ∙ all_from_first c.args.columns.now) in
+    (c.from_slot-walk.ensures.exact ∙ all_lead _ ∙ all_from_first c.args.columns.now) in
     omega (arith, all)
 
 one_more : (c : goal.After-count_at) → c.loop-entry.total + c.count_at.result

@@ -12,7 +12,7 @@ returns-clause-exact c =
     let at = c.seek-at.result.0 in
     let slot = c.seek-at.result.1 in
     let to = option_copied c.args.to in
-    c.from_slot.ensures
+    c.from_slot.ensures.exact
     ∙ walked (entries_before leaves at slot) (entries_from leaves at slot) c.args.from.now to
     (subst (λ es. IsStrictlySortedBy key_cmp (keys_in es)) c.seek-at.ensures.whole c.seek-at.ensures.ascend)
     c.seek-at.ensures.front c.seek-at.ensures.back

@@ -6,7 +6,7 @@ use Rattle.hlc_table_index.specs.Entries.{keys_in, entries_in, IsGap, IsSlot}
 use Rattle.hlc_table_index.proofs.Places.{slot_empty, slot_end, grown, grown_ascend, pushed, end_place, with_is}
 use Rattle.hlc_table_index.proofs.index.Index.insert_at.Given.{Over}
 use Rattle.hlc_table_index.proofs.index.Index.insert_at.Goals as goal
-use Rattle.hlc_table_index.proofs.index.Index.insert_at.Goals.{After-len, After-is_full_end}
+use Rattle.hlc_table_index.proofs.index.Index.insert_at.Goals.{After-is_full_end}
 
 -- the first entry of all
 pub invariant_of-self : goal.invariant_of-self
