@@ -90,12 +90,12 @@ class Machine:
         """Takes the links over in the ranges that the map has now. Returns whether it has them all.
 
         A link is not there yet while the node joins; and a range whose log has ended is not in the map for long. Raises
-        Retired where the node has in all ranges.
+        Fenced where another process has the node, whatever that one has done with it, and Retired where the node has
+        in all ranges.
         """
         if not self.lock.revision:
             self.lock.claim({}, self.at_home)
         self.map.read(self.home)
-        before = set(self.parts)
         self.parts = {number: part for number, part in self.parts.items() if number in self.map.live}
         missing, retired = 0, None
         for found in self.map.all_live():
@@ -106,7 +106,7 @@ class Machine:
                     retired = failure
                 except log.Sealed:
                     missing += 1
-        if set(self.parts) - before and not self.lock.is_held():
+        if not self.lock.is_held():
             raise log.Fenced(f"another process has node {self.number}")
         if retired and not missing and not self.parts:
             raise retired

@@ -8,6 +8,7 @@ from range_support import OTHER, RangeCase
 
 import life
 import log
+import machine
 import part
 import ranges
 import serve
@@ -88,6 +89,37 @@ class Nodes(RangeCase):
         self.assertIsNone(self.value(b"node/w1"))
         self.assertEqual(self.new_etcd().list(b"retires/"), [])
         self.assertRaises(log.Fenced, self.writer.append_changes, [[(b"a", b"a")]])
+
+    def test_a_lost_writer_that_stood_still_over_a_split(self):
+        """Of the ranges that go on it was in some, or in none: it ends as one whose node another process has."""
+        for name, starts in (b"w1", [b"t"]), (b"w2", [b"f", b"p", b"v"]):
+            with self.subTest(name=name):
+                self.coordinator.let_join(name)
+                writer = self.start_writer(name.decode())
+                for start in starts:
+                    self.split(start)
+                self.ask(b"lost/" + name)
+                self.assertRaises(log.Fenced, self.write, b"z", writer=writer)
+        self.assertEqual(self.writes(), [])
+
+    def test_a_lost_writer_that_stood_still_on_its_way_into_ranges(self):
+        """Its node retires between the map and a link, or between two links."""
+        take = machine.Machine.take_link
+        for place, name in enumerate([b"w1", b"w2", b"w3"]):
+            with self.subTest(place=place):
+                self.coordinator.let_join(name)
+                writer, places = self.start_writer(name.decode()), iter(range(3))
+                self.split(b"%dm" % place)
+                self.split(b"%dt" % place)
+
+                def take_link(of, found, new, name=name, mine=writer.machine, place=place, places=places):
+                    if of is mine and next(places) == place:
+                        self.ask(b"lost/" + name)
+                    return take(of, found, new)
+
+                with mock.patch("machine.Machine.take_link", take_link):
+                    self.assertRaises(log.Fenced, writer.take_over)
+                self.assertIsNone(self.value(b"node/" + name))
 
     def test_a_lost_writer_that_retired_everywhere(self):
         """Its writer, or a coordinator, was killed before it gave the name back: no merge waits for it for good."""
