@@ -147,9 +147,13 @@ class Etcd:
         self.connection = self.channel = None
 
     def call(self, path, request):
-        """Returns the answer of the first member that answers."""
-        end = time.monotonic() + PATIENCE
+        """Returns the answer of the first member that answers.
+
+        A process may stand still in a call. Of each attempt no more counts than it may take, so that the others follow.
+        """
+        left = PATIENCE
         while True:
+            start = time.monotonic()
             try:
                 answer = self.ask(path, request)
                 self.note("")
@@ -159,7 +163,8 @@ class Etcd:
                 self.next_member()
                 if self.ending.is_set():
                     raise Stopped from None
-                if time.monotonic() > end:
+                left -= min(time.monotonic() - start, TIMEOUT)
+                if left < 0:
                     raise
 
     def note(self, trouble):

@@ -107,6 +107,27 @@ class Lines(unittest.TestCase):
             self.assertRaises(etcd.Stopped, client.get, b"key")
         self.assertIn("refused", client.trouble)
 
+    def attempts(self, seconds):
+        """Returns how many attempts a call makes which each take so many seconds, and fail."""
+        client, now, made = etcd.Etcd(["a:1", "b:1"]), [0.0], []
+
+        def ask(*_):
+            now[0] += seconds(len(made))
+            made.append(client.at)
+            raise etcd.Unavailable
+
+        clock = mock.Mock(monotonic=lambda: now[0], sleep=lambda _: None)
+        with mock.patch("etcd.time", clock), mock.patch.object(client, "ask", ask):
+            self.assertRaises(etcd.Unavailable, client.get, b"key")
+        return len(made)
+
+    def test_the_patience_of_a_call(self):
+        """It does not end with the time for which the process stood still."""
+        many = int(etcd.PATIENCE / etcd.TIMEOUT) + 1
+        self.assertEqual(self.attempts(lambda _: etcd.TIMEOUT), many)
+        self.assertEqual(self.attempts(lambda place: etcd.TIMEOUT if place else 10 * etcd.PATIENCE), many)
+        self.assertEqual(self.attempts(lambda _: etcd.TIMEOUT / 2), 2 * many - 1)
+
     def test_a_call_that_failed_leaves_no_connection(self):
         """The next one would find it in the middle of a request."""
         for by_rpc in {False, etcd.BY_RPC}:
