@@ -92,7 +92,7 @@ class Link:
         self.key, self.seal = link_key(node, prefix), prefix + SEAL
         self.owner = secrets.token_hex(8)
         self.revision = 0
-        self.has_retired = False
+        self.has_retired = self.is_sealed = False
 
     def claim(self, new, conditions=()):
         """Takes the link over, and returns the state that the last append left, or `new` if there is no such link.
@@ -170,6 +170,7 @@ class Link:
 
     def refuse_sealed(self):
         if self.etcd.get(self.seal):
+            self.is_sealed = True
             raise Sealed(f"the log of {self.key.decode()} is sealed")
 
 

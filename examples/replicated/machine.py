@@ -106,6 +106,8 @@ class Machine:
                     retired = failure
                 except log.Sealed:
                     missing += 1
+            elif self.parts[found.id].link.is_sealed:
+                missing += 1
         if not self.lock.is_held():
             raise log.Fenced(f"another process has node {self.number}")
         if retired and not missing and not self.parts:

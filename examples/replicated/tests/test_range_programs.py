@@ -12,7 +12,7 @@ import machine
 import part
 import ranges
 import serve
-from etcd import delete
+from etcd import Stopped, delete
 
 
 class Nodes(RangeCase):
@@ -182,6 +182,19 @@ class Coordinators(RangeCase):
                 self.assertEqual(len(self.live()), 1)
         self.report()
         self.compare(self.caught_up())
+
+    def test_a_writer_waits_for_the_map(self):
+        """The coordinator was killed before it. Until the next one comes, the writer appends nothing, and can end."""
+        words = ranges.split_words(self.known(), b"m")
+        self.coordinator.first.link.end_log(words)
+        revision, process = self.memory.revision, self.writer.life
+        with mock.patch("writer.time.sleep", lambda _: process.ask(0, "SIGTERM")):
+            self.assertRaises(Stopped, self.write, b"a", b"z")
+        self.assertEqual(self.memory.revision, revision)
+        process.asked.clear()
+        with mock.patch("writer.time.sleep", lambda _: self.start_coordinator()):
+            self.writer.append_waiting()
+        self.assertEqual(self.writes(), [b"a", b"z"])
 
     def test_a_fenced_one_seals_nothing(self):
         first, self.coordinator = self.coordinator, self.start_coordinator()
