@@ -1,7 +1,7 @@
 -- The words in which the contracts of a store speak.
 pub use Rattle.hlc_core.specs.Past.{Step, Started, Took, Joined, Opened, Closed, Vacuumed, PartVacuumed}
 pub use Rattle.hlc_core.specs.Past.{initial_nodes, numbered, count, head, floor, horizon, vacuumed, part_dropped}
-pub use Rattle.hlc_core.specs.Past.{opened, open_snapshots, writes, stamp_of, item_refusal, join_refusal, open_refusal}
+pub use Rattle.hlc_core.specs.Past.{last_id, open_snapshots, writes, stamp_of, item_refusal, join_refusal, open_refusal}
 pub use Rattle.hlc_core.specs.Past.{join_at_refusal, room_refusal, vacuum_refusal, IsLegal}
 pub use Rattle.hlc_core.specs.Replicas.{items_of, joins_of, AreReplicas, CanMeet}
 pub use Rattle.hlc_core.specs.StoreView.{StoreView, Represents}

@@ -150,53 +150,53 @@ snapshots = list_reader w16 65536 wide16 snapshot_at snapshot_bytes SnapshotFits
 -- ---- the part before the rows
 
 abbrev a_preamble : ℕ → List IntakeView → List Snapshot → ℕ → ℕ → ℕ → Preamble
-a_preamble start ls ss opened horizon count = record {
-  start = start;
+a_preamble nodes ls ss last_id horizon count = record {
+  initial_nodes = nodes;
   links = ls;
   snapshots = ss;
-  opened = opened;
+  last_id = last_id;
   horizon = horizon;
   count = count;
 }
 
 pub record PreambleFits (preamble : Preamble) : Type 0 where
-  pub start : preamble.start < 65536
+  pub initial_nodes : preamble.initial_nodes < 65536
   pub links : ListFits 65536 LinkFits preamble.links
   pub snapshots : ListFits 65536 SnapshotFits preamble.snapshots
-  pub opened : preamble.opened < 18446744073709551616
+  pub last_id : preamble.last_id < 18446744073709551616
   pub horizon : preamble.horizon < 18446744073709551616
   pub count : preamble.count < 18446744073709551616
 
 -- the reading after the first parts
 abbrev from_count : ℕ → List IntakeView → List Snapshot → ℕ → ℕ → List ℕ → Result (Preamble × List ℕ) WireFault
-from_count start ls ss opened horizon bytes =
-    number_at w64 bytes >>= λ count. Ok (a_preamble start ls ss opened horizon count.0, count.1)
+from_count nodes ls ss last_id horizon bytes =
+    number_at w64 bytes >>= λ count. Ok (a_preamble nodes ls ss last_id horizon count.0, count.1)
 
 abbrev from_horizon : ℕ → List IntakeView → List Snapshot → ℕ → List ℕ → Result (Preamble × List ℕ) WireFault
-from_horizon start ls ss opened bytes =
-    number_at w64 bytes >>= λ horizon. from_count start ls ss opened horizon.0 horizon.1
+from_horizon nodes ls ss last_id bytes =
+    number_at w64 bytes >>= λ horizon. from_count nodes ls ss last_id horizon.0 horizon.1
 
-abbrev from_opened : ℕ → List IntakeView → List Snapshot → List ℕ → Result (Preamble × List ℕ) WireFault
-from_opened start ls ss bytes = number_at w64 bytes >>= λ opened. from_horizon start ls ss opened.0 opened.1
+abbrev from_last_id : ℕ → List IntakeView → List Snapshot → List ℕ → Result (Preamble × List ℕ) WireFault
+from_last_id nodes ls ss bytes = number_at w64 bytes >>= λ last_id. from_horizon nodes ls ss last_id.0 last_id.1
 
 abbrev from_snapshots : ℕ → List IntakeView → List ℕ → Result (Preamble × List ℕ) WireFault
-from_snapshots start ls bytes = list_at w16 snapshot_at bytes >>= λ ss. from_opened start ls ss.0 ss.1
+from_snapshots nodes ls bytes = list_at w16 snapshot_at bytes >>= λ ss. from_last_id nodes ls ss.0 ss.1
 
 abbrev from_links : ℕ → List ℕ → Result (Preamble × List ℕ) WireFault
-from_links start bytes = list_at w16 link_at bytes >>= λ ls. from_snapshots start ls.0 ls.1
+from_links nodes bytes = list_at w16 link_at bytes >>= λ ls. from_snapshots nodes ls.0 ls.1
 
 -- the last numbers
 abbrev numbers_bytes : ℕ → ℕ → ℕ → List ℕ
-numbers_bytes opened horizon count = to_be_bytes w64 opened ++ (to_be_bytes w64 horizon ++ to_be_bytes w64 count)
+numbers_bytes last_id horizon count = to_be_bytes w64 last_id ++ (to_be_bytes w64 horizon ++ to_be_bytes w64 count)
 
 preamble_takes : (bytes : List ℕ) (x : Preamble × List ℕ) → IsBytes bytes → preamble_at bytes ≡ Ok x
     → Takes bytes (preamble_bytes x.0) x.1 × PreambleFits x.0
 unfolding preamble_at
 preamble_takes bytes x fits e =
-    let a = bind_ok (number_at w16 bytes) (λ start. from_links start.0 start.1) x e in
+    let a = bind_ok (number_at w16 bytes) (λ nodes. from_links nodes.0 nodes.1) x e in
     let b = bind_ok (list_at w16 link_at a.0.1) (λ ls. from_snapshots a.0.0 ls.0 ls.1) x a.2 in
-    let c = bind_ok (list_at w16 snapshot_at b.0.1) (λ ss. from_opened a.0.0 b.0.0 ss.0 ss.1) x b.2 in
-    let d = bind_ok (number_at w64 c.0.1) (λ opened. from_horizon a.0.0 b.0.0 c.0.0 opened.0 opened.1) x c.2 in
+    let c = bind_ok (list_at w16 snapshot_at b.0.1) (λ ss. from_last_id a.0.0 b.0.0 ss.0 ss.1) x b.2 in
+    let d = bind_ok (number_at w64 c.0.1) (λ last_id. from_horizon a.0.0 b.0.0 c.0.0 last_id.0 last_id.1) x c.2 in
     let f = bind_ok (number_at w64 d.0.1) (λ horizon. from_count a.0.0 b.0.0 c.0.0 d.0.0 horizon.0 horizon.1) x d.2 in
     let g = bind_ok (number_at w64 f.0.1)
     (λ count. Ok (a_preamble a.0.0 b.0.0 c.0.0 d.0.0 f.0.0 count.0, count.1)) x f.2 in
@@ -218,16 +218,16 @@ preamble_takes bytes x fits e =
     subst (λ (p : Preamble × List ℕ). Takes bytes (preamble_bytes p.0) p.1 × PreambleFits p.0)
     (ok_is (a_preamble a.0.0 b.0.0 c.0.0 d.0.0 f.0.0 g.0.0, g.0.1) x g.2) (
       tz,
-      record { start = t.1; links = u.1; snapshots = v.1; opened = w.1; horizon = y.1; count = z.1 },
+      record { initial_nodes = t.1; links = u.1; snapshots = v.1; last_id = w.1; horizon = y.1; count = z.1 },
     )
 
 preamble_again : (p : Preamble) (rest : List ℕ) → PreambleFits p → preamble_at (preamble_bytes p ++ rest) ≡ Ok (p, rest)
 unfolding preamble_at
 preamble_again p rest fits =
-    let a : List ℕ = to_be_bytes w16 p.start in
+    let a : List ℕ = to_be_bytes w16 p.initial_nodes in
     let b : List ℕ = list_bytes w16 link_bytes p.links in
     let c : List ℕ = list_bytes w16 snapshot_bytes p.snapshots in
-    let d : List ℕ = to_be_bytes w64 p.opened in
+    let d : List ℕ = to_be_bytes w64 p.last_id in
     let f : List ℕ = to_be_bytes w64 p.horizon in
     let g : List ℕ = to_be_bytes w64 p.count in
     let regrouped : preamble_bytes p ++ rest ≡ a ++ (b ++ (c ++ (d ++ (f ++ (g ++ rest))))) =
@@ -238,10 +238,10 @@ preamble_again p rest fits =
     ∙ ap (λ (x : List ℕ). d ++ x) (append_assoc f g rest)))) in
     ap preamble_at regrouped
     ∙ rw (
-      two.again p.start (b ++ (c ++ (d ++ (f ++ (g ++ rest))))) fits.start,
+      two.again p.initial_nodes (b ++ (c ++ (d ++ (f ++ (g ++ rest))))) fits.initial_nodes,
       links.again p.links (c ++ (d ++ (f ++ (g ++ rest)))) fits.links,
       snapshots.again p.snapshots (d ++ (f ++ (g ++ rest))) fits.snapshots,
-      eight.again p.opened (f ++ (g ++ rest)) fits.opened,
+      eight.again p.last_id (f ++ (g ++ rest)) fits.last_id,
       eight.again p.horizon (g ++ rest) fits.horizon,
       eight.again p.count rest fits.count,
     ) refl
@@ -262,7 +262,8 @@ checkpoint_takes bytes x fits e =
     let t = preamble_reader.takes bytes a.0 fits a.1 in
     let u = times_take row_at row_bytes RowFits row_reader p.count a.0.1 b.0 t.0.rest_fits b.1 in
     let front : Takes bytes (preamble_bytes (preamble_of (kept_of p b.0.0))) a.0.1 =
-    subst (λ (n : ℕ). Takes bytes (preamble_bytes (a_preamble p.start p.links p.snapshots p.opened p.horizon n)) a.0.1)
+    subst (λ (n : ℕ).
+    Takes bytes (preamble_bytes (a_preamble p.initial_nodes p.links p.snapshots p.last_id p.horizon n)) a.0.1)
     (sym u.1) t.0 in
     let both = Takes-then bytes (preamble_bytes (preamble_of (kept_of p b.0.0))) a.0.1 (flat_map row_bytes b.0.0) b.0.1
     front u.0 in
@@ -270,11 +271,11 @@ checkpoint_takes bytes x fits e =
     (ok_is (kept_of p b.0.0, b.0.1) x b.2) (
       both,
       record {
-        start = t.1.start;
+        initial_nodes = t.1.initial_nodes;
         links = t.1.links;
         top = refl;
         snapshots = t.1.snapshots;
-        opened = t.1.opened;
+        last_id = t.1.last_id;
         horizon = t.1.horizon;
         rows = (subst (λ (n : ℕ). n < 18446744073709551616) (sym u.1) t.1.count, u.2);
       },
@@ -282,10 +283,10 @@ checkpoint_takes bytes x fits e =
 
 pub fits_before : (kept : StoreView) → CheckpointFits kept → PreambleFits (preamble_of kept)
 fits_before kept fits = record {
-  start = fits.start;
+  initial_nodes = fits.initial_nodes;
   links = fits.links;
   snapshots = fits.snapshots;
-  opened = fits.opened;
+  last_id = fits.last_id;
   horizon = fits.horizon;
   count = fits.rows.0;
 }
@@ -293,11 +294,11 @@ fits_before kept fits = record {
 same_kept : (kept : StoreView) → kept.top ≡ greatest_head kept.links → kept_of (preamble_of kept) kept.rows ≡ kept
 same_kept kept top =
     ap (λ (t : ℕ). record {
-      start = kept.start;
+      initial_nodes = kept.initial_nodes;
       links = kept.links;
       top = t;
       snapshots = kept.snapshots;
-      opened = kept.opened;
+      last_id = kept.last_id;
       horizon = kept.horizon;
       rows = kept.rows;
     }) (sym top)

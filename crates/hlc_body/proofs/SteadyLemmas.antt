@@ -46,17 +46,17 @@ list_steady w is = steady_then _ (number_steady w) (λ n. times_steady is n)
 pub preamble_steady : IsSteady preamble_at
 unfolding preamble_at
 preamble_steady =
-    steady_then _ (number_steady w16) (λ start.
+    steady_then _ (number_steady w16) (λ initial_nodes.
     steady_then _ (list_steady w16 link_steady) (λ links.
     steady_then _ (list_steady w16 snapshot_steady) (λ snapshots.
-    steady_then _ (number_steady w64) (λ opened.
+    steady_then _ (number_steady w64) (λ last_id.
     steady_then _ (number_steady w64) (λ horizon.
     steady_then _ (number_steady w64) (λ count.
     steady_done (record {
-      start = start;
+      initial_nodes = initial_nodes;
       links = links;
       snapshots = snapshots;
-      opened = opened;
+      last_id = last_id;
       horizon = horizon;
       count = count;
     })))))))

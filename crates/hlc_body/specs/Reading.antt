@@ -53,18 +53,18 @@ list_at w read bytes = do
 -- the part before the rows
 unfoldable pub preamble_at : List ℕ → Result (Preamble × List ℕ) WireFault
 preamble_at bytes = do
-  start ← number_at w16 bytes
-  links ← list_at w16 link_at start.1
+  initial_nodes ← number_at w16 bytes
+  links ← list_at w16 link_at initial_nodes.1
   snapshots ← list_at w16 snapshot_at links.1
-  opened ← number_at w64 snapshots.1
-  horizon ← number_at w64 opened.1
+  last_id ← number_at w64 snapshots.1
+  horizon ← number_at w64 last_id.1
   count ← number_at w64 horizon.1
   Ok (
     record {
-      start = start.0;
+      initial_nodes = initial_nodes.0;
       links = links.0;
       snapshots = snapshots.0;
-      opened = opened.0;
+      last_id = last_id.0;
       horizon = horizon.0;
       count = count.0;
     },

@@ -4,10 +4,10 @@ use Rattle.hlc_body.specs.Spelling.{Preamble}
 
 abbrev pub seen : PreambleRef → Preamble
 seen preamble = record {
-  start = preamble.start;
+  initial_nodes = preamble.initial_nodes;
   links = preamble.links.now;
   snapshots = preamble.snapshots.now;
-  opened = preamble.opened;
+  last_id = preamble.last_id;
   horizon = preamble.horizon;
   count = preamble.count;
 }

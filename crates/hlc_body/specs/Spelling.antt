@@ -25,29 +25,29 @@ row_bytes row = key_bytes row.key ++ (to_be_bytes w64 row.stamp ++ (to_be_bytes 
 abbrev pub list_bytes : {A : Type 0} → Width → (A → List ℕ) → List A → List ℕ
 list_bytes w spell xs = to_be_bytes w (length xs) ++ flat_map spell xs
 
--- the part before the rows: the number of nodes at the start; the links; the open snapshots; the number ever opened;
+-- the part before the rows: the number of nodes at the start; the links; the open snapshots; the last id of a snapshot;
 -- the horizon; the number of rows
 pub record Preamble : Type 0 where
-  pub start : ℕ
+  pub initial_nodes : ℕ
   pub links : List IntakeView
   pub snapshots : List Snapshot
-  pub opened : ℕ
+  pub last_id : ℕ
   pub horizon : ℕ
   pub count : ℕ
 
 abbrev pub preamble_bytes : Preamble → List ℕ
 preamble_bytes preamble =
-    to_be_bytes w16 preamble.start ++ (list_bytes w16 link_bytes preamble.links
-    ++ (list_bytes w16 snapshot_bytes preamble.snapshots ++ (to_be_bytes w64 preamble.opened
+    to_be_bytes w16 preamble.initial_nodes ++ (list_bytes w16 link_bytes preamble.links
+    ++ (list_bytes w16 snapshot_bytes preamble.snapshots ++ (to_be_bytes w64 preamble.last_id
     ++ (to_be_bytes w64 preamble.horizon ++ to_be_bytes w64 preamble.count))))
 
 -- a checkpoint without its rows; its greatest stamp is the greatest head, and is not encoded
 abbrev pub preamble_of : StoreView → Preamble
 preamble_of kept = record {
-  start = kept.start;
+  initial_nodes = kept.initial_nodes;
   links = kept.links;
   snapshots = kept.snapshots;
-  opened = kept.opened;
+  last_id = kept.last_id;
   horizon = kept.horizon;
   count = length kept.rows;
 }
@@ -55,11 +55,11 @@ preamble_of kept = record {
 -- the checkpoint with these rows
 abbrev pub kept_of : Preamble → List Row → StoreView
 kept_of preamble rows = record {
-  start = preamble.start;
+  initial_nodes = preamble.initial_nodes;
   links = preamble.links;
   top = greatest_head preamble.links;
   snapshots = preamble.snapshots;
-  opened = preamble.opened;
+  last_id = preamble.last_id;
   horizon = preamble.horizon;
   rows = rows;
 }
@@ -91,19 +91,19 @@ abbrev pub ListFits : {A : Type 0} → ℕ → (A → Type 0) → List A → Typ
 ListFits limit Fits xs = (length xs < limit) × All Fits xs
 
 pub record PreambleFits (preamble : Preamble) : Type 0 where
-  pub start : preamble.start < 65536
+  pub initial_nodes : preamble.initial_nodes < 65536
   pub links : ListFits 65536 LinkFits preamble.links
   pub snapshots : ListFits 65536 SnapshotFits preamble.snapshots
-  pub opened : preamble.opened < 18446744073709551616
+  pub last_id : preamble.last_id < 18446744073709551616
   pub horizon : preamble.horizon < 18446744073709551616
   pub count : preamble.count < 18446744073709551616
 
 pub record CheckpointFits (kept : StoreView) : Type 0 where
-  pub start : kept.start < 65536
+  pub initial_nodes : kept.initial_nodes < 65536
   pub links : ListFits 65536 LinkFits kept.links
   pub top : kept.top ≡ greatest_head kept.links
   pub snapshots : ListFits 65536 SnapshotFits kept.snapshots
-  pub opened : kept.opened < 18446744073709551616
+  pub last_id : kept.last_id < 18446744073709551616
   pub horizon : kept.horizon < 18446744073709551616
   pub rows : ListFits 18446744073709551616 RowFits kept.rows
 

@@ -16,10 +16,10 @@ use std::marker::Model;
 /// All parts of a checkpoint except its rows, and the number of rows.
 #[derive(Drop)]
 pub struct Preamble {
-    start: u16,
+    initial_nodes: u16,
     links: Vec<Intake>,
     snapshots: Vec<Snapshot>,
-    opened: u64,
+    last_id: u64,
     horizon: Stamp,
     count: u64,
 }
@@ -30,10 +30,10 @@ impl Model for Preamble {
     ghost Value = { APreamble };
 
     ghost view = { λ preamble. record {
-      start = preamble.start;
+      initial_nodes = preamble.initial_nodes;
       links = preamble.links.items;
       snapshots = preamble.snapshots.items;
-      opened = preamble.opened;
+      last_id = preamble.last_id;
       horizon = preamble.horizon;
       count = preamble.count;
     } };
@@ -52,14 +52,14 @@ impl Preamble {
         ensures { result ≡ kept_of self rows.items }
     {
         let Preamble {
-            start,
+            initial_nodes,
             links,
             snapshots,
-            opened,
+            last_id,
             horizon,
             count: _,
         } = self;
-        Checkpoint::of(start, links, snapshots, opened, horizon, rows)
+        Checkpoint::of(initial_nodes, links, snapshots, last_id, horizon, rows)
     }
 }
 
@@ -69,19 +69,19 @@ impl Preamble {
 pub fn preamble_at(alloc: Global, bytes: &[u8]) -> Result<(Preamble, &[u8]), DecodeError>
     ensures { Gives (λ x. (x.0, x.1.now)) result (preamble_at bytes.now) }
 {
-    let (start, rest) = u16_at(bytes)?;
+    let (initial_nodes, rest) = u16_at(bytes)?;
     let (links, rest) = links_at(alloc, rest)?;
     let (snapshots, rest) = snapshots_at(alloc, rest)?;
-    let (opened, rest) = u64_at(rest)?;
+    let (last_id, rest) = u64_at(rest)?;
     let (horizon, rest) = u64_at(rest)?;
     let (count, rest) = u64_at(rest)?;
     let horizon = Stamp::from_bits(horizon);
     Ok((
         Preamble {
-            start,
+            initial_nodes,
             links,
             snapshots,
-            opened,
+            last_id,
             horizon,
             count,
         },
@@ -92,10 +92,10 @@ pub fn preamble_at(alloc: Global, bytes: &[u8]) -> Result<(Preamble, &[u8]), Dec
 /// All parts of a state except its rows, and the number of rows, lent.
 #[derive(Drop)]
 pub struct PreambleRef<'a> {
-    pub start: u16,
+    pub initial_nodes: u16,
     pub links: &'a [Intake],
     pub snapshots: &'a [Snapshot],
-    pub opened: u64,
+    pub last_id: u64,
     pub horizon: Stamp,
     pub count: u64,
 }
@@ -106,10 +106,10 @@ impl<'a> PreambleRef<'a> {
         ensures { seen result ≡ preamble_of checkpoint.now }
     {
         PreambleRef {
-            start: checkpoint.start(),
+            initial_nodes: checkpoint.initial_nodes(),
             links: checkpoint.links(),
             snapshots: checkpoint.snapshots(),
-            opened: checkpoint.opened(),
+            last_id: checkpoint.last_id(),
             horizon: checkpoint.horizon(),
             count: checkpoint.rows().len() as u64,
         }
@@ -121,10 +121,10 @@ impl<'a> PreambleRef<'a> {
         ensures { seen result ≡ preamble_of store.now }
     {
         PreambleRef {
-            start: store.start(),
+            initial_nodes: store.initial_nodes(),
             links: store.links(),
             snapshots: store.snapshots(),
-            opened: store.opened(),
+            last_id: store.last_id(),
             horizon: store.horizon(),
             count,
         }
@@ -149,10 +149,10 @@ pub fn put_preamble(out: &mut Vec<u8>, preamble: &PreambleRef<'_>) -> Result<(),
     ensures { OnOk result (out.new.items ≡ out.old.items ++ preamble_bytes (seen preamble.now)) }
 {
     let horizon = preamble.horizon.bits();
-    out.extend_from_slice(&preamble.start.to_be_bytes())?;
+    out.extend_from_slice(&preamble.initial_nodes.to_be_bytes())?;
     put_links(out, preamble.links)?;
     put_snapshots(out, preamble.snapshots)?;
-    out.extend_from_slice(&preamble.opened.to_be_bytes())?;
+    out.extend_from_slice(&preamble.last_id.to_be_bytes())?;
     out.extend_from_slice(&horizon.to_be_bytes())?;
     out.extend_from_slice(&preamble.count.to_be_bytes())?;
     Ok(())

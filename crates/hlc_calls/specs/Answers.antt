@@ -10,7 +10,7 @@ use Rattle.hlc_columns.specs.Sizes.{Sizes}
 use Rattle.hlc_vacuum_draft.specs.declared.report.Numbers.{Numbers}
 use Rattle.hlc_vacuum_draft.specs.declared.report.Report.{Report}
 use Rattle.hlc_vacuum_draft.specs.Report.{numbers_of}
-use Rattle.hlc_core.specs.Past.{Step, Took, Opened, Closed, Joined, numbered, floor, opened, stamp_of}
+use Rattle.hlc_core.specs.Past.{Step, Took, Opened, Closed, Joined, numbered, floor, last_id, stamp_of}
 use Rattle.hlc_core.specs.Past.{item_refusal, join_refusal, join_at_refusal, open_refusal, room_refusal, vacuum_refusal}
 use Rattle.hlc_core.specs.StoreView.{StoreView, Represents}
 use Rattle.hlc_core.specs.Calls.{IsWrite, AreSizes, Vacuums}
@@ -43,13 +43,13 @@ ReturnsJoinedAt new start past code node returned =
 -- a snapshot was opened at the stamp, and its id is returned; or it was refused
 abbrev pub ReturnsOpened : StoreView → ℕ → List Step → ℕ → ℕ → Type 0
 ReturnsOpened new stamp past code id =
-    IsAnswered (open_refusal past stamp) ⊤ ((id ≡ opened past + 1) × Represents new (Opened stamp ∷ past)) code id
+    IsAnswered (open_refusal past stamp) ⊤ ((id ≡ last_id past + 1) × Represents new (Opened stamp ∷ past)) code id
 
 -- a snapshot was opened at the floor, and its id and its stamp are returned; or it was refused
 abbrev pub ReturnsOpenedAtFloor : StoreView → List Step → ℕ → ℕ → ℕ → Type 0
 ReturnsOpenedAtFloor new past code id stamp =
     IsAnswered (room_refusal past) ⊤
-    ((id ≡ opened past + 1) × (stamp ≡ floor past) × Represents new (Opened stamp ∷ past)) code id
+    ((id ≡ last_id past + 1) × (stamp ≡ floor past) × Represents new (Opened stamp ∷ past)) code id
 
 -- the snapshot of this stamp was closed, and its stamp is returned; or there is none
 abbrev pub ReturnsClosedAt : Option ℕ → Type 0 → ℕ → ℕ → Type 0
@@ -84,19 +84,19 @@ AreNumbers numbers floor kept bytes dropped =
     × (dropped ≡ narrowed numbers.dropped)
 
 -- a vacuum to the stamp took place, and the numbers of its report are returned; its floor is the stamp
-abbrev pub ReturnsVacuumed : StoreView → StoreView → ℕ → List Step → ℕ → ℕ → ℕ → ℕ → Type 0
-ReturnsVacuumed old new at past floor kept bytes dropped =
-    (report : Report) × Vacuums old new at past report × AreNumbers (numbers_of report) floor kept bytes dropped
+abbrev pub ReturnsVacuumed : StoreView → ℕ → List Step → ℕ → ℕ → ℕ → ℕ → Type 0
+ReturnsVacuumed new at past floor kept bytes dropped =
+    (report : Report) × Vacuums new at past report × AreNumbers (numbers_of report) floor kept bytes dropped
 
 -- a vacuum to the floor took place, and the numbers of its report are returned
-abbrev pub ReturnsVacuumedAtFloor : StoreView → StoreView → List Step → ℕ → ℕ → ℕ → ℕ → Type 0
-ReturnsVacuumedAtFloor old new past stamp kept bytes dropped =
-    ReturnsVacuumed old new (floor past) past stamp kept bytes dropped
+abbrev pub ReturnsVacuumedAtFloor : StoreView → List Step → ℕ → ℕ → ℕ → ℕ → Type 0
+ReturnsVacuumedAtFloor new past stamp kept bytes dropped =
+    ReturnsVacuumed new (floor past) past stamp kept bytes dropped
 
 -- the same for a vacuum to this stamp, or it was refused
-abbrev pub ReturnsVacuumedTo : StoreView → StoreView → ℕ → List Step → ℕ → ℕ → ℕ → ℕ → ℕ → Type 0
-ReturnsVacuumedTo old new at past code returned kept bytes dropped =
-    IsAnswered (vacuum_refusal past at) ⊤ (ReturnsVacuumed old new at past returned kept bytes dropped)
+abbrev pub ReturnsVacuumedTo : StoreView → ℕ → List Step → ℕ → ℕ → ℕ → ℕ → ℕ → Type 0
+ReturnsVacuumedTo new at past code returned kept bytes dropped =
+    IsAnswered (vacuum_refusal past at) ⊤ (ReturnsVacuumed new at past returned kept bytes dropped)
     code returned
 
 -- why a vacuum to the stamp would be refused, if it would, apart from out of memory

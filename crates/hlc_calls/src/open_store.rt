@@ -15,7 +15,7 @@ use hlc_core::{Bytes, Core, Numbers, Stamp};
 pub fn join(core: &mut Core, node: &mut u16, start: &mut u64) -> u32
     ensures answer { (past : List Step) → Represents core.old past
         → ReturnsJoined core.new past result node.new start.new }
-    ensures same { result ≢ 0 → (core.new ≡ core.old) × (node.new ≡ 0) × (start.new ≡ 0) }
+    ensures unchanged { result ≢ 0 → (core.new ≡ core.old) × (node.new ≡ 0) × (start.new ≡ 0) }
 {
     match core.join() {
         Ok(made) => {
@@ -37,7 +37,7 @@ pub fn join(core: &mut Core, node: &mut u16, start: &mut u64) -> u32
 pub fn join_at(core: &mut Core, start: Stamp, node: &mut u16, returned: &mut u64) -> u32
     ensures answer { (past : List Step) → Represents core.old past
         → ReturnsJoinedAt core.new start past result node.new returned.new }
-    ensures same { result ≢ 0 → (core.new ≡ core.old) × (node.new ≡ 0) }
+    ensures unchanged { result ≢ 0 → (core.new ≡ core.old) × (node.new ≡ 0) }
 {
     match core.join_at(start) {
         Ok(number) => {
@@ -69,7 +69,7 @@ pub fn open(core: &mut Core, stamp: Stamp, returned: &mut u64) -> u32
 pub fn open_floor(core: &mut Core, returned: &mut u64, stamp: &mut u64) -> u32
     ensures answer { (past : List Step) → Represents core.old past
         → ReturnsOpenedAtFloor core.new past result returned.new stamp.new }
-    ensures same { result ≢ 0 → (core.new ≡ core.old) × (stamp.new ≡ 0) }
+    ensures unchanged { result ≢ 0 → (core.new ≡ core.old) × (stamp.new ≡ 0) }
 {
     match core.open_floor() {
         Ok(opening) => {
@@ -192,7 +192,7 @@ pub fn vacuum(
     dropped: &mut u64,
 ) -> u32
     ensures vacuumed { result ≡ 0 → (past : List Step) → Represents core.old past
-        → ReturnsVacuumedAtFloor core.old core.new past
+        → ReturnsVacuumedAtFloor core.new past
         floor.new kept.new bytes.new dropped.new }
     ensures expected { result ≢ 0 → (result ≡ 15) × (core.new ≡ core.old) }
     ensures nothing { result ≢ 0
@@ -238,7 +238,7 @@ pub fn vacuum_to(
     dropped: &mut u64,
 ) -> u32
     ensures answer { (past : List Step) → Represents core.old past
-        → ReturnsVacuumedTo core.old core.new at past result returned.new
+        → ReturnsVacuumedTo core.new at past result returned.new
         kept.new bytes.new dropped.new }
     ensures unchanged { result ≢ 0 → core.new ≡ core.old }
     ensures nothing { result ≢ 0 → (kept.new ≡ 0) × (bytes.new ≡ 0) × (dropped.new ≡ 0) }

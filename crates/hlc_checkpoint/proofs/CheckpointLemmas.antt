@@ -62,7 +62,7 @@ under-from links row (within, low) =
 -- a core of a checkpoint's parts, with its rows in another order, is consistent and sound
 pub restored : (kept : StoreView) (rows : List Row) → IsCheckpoint kept → IsPermutation kept.rows rows
     → IsConsistent (marks_of kept.links kept.top) kept.snapshots rows
-    × IsSound kept.start kept.links kept.top kept.horizon rows
+    × IsSound kept.initial_nodes kept.links kept.top kept.horizon rows
 restored kept rows is moved = (
   record {
     opened = is.opened;
@@ -83,23 +83,23 @@ restored kept rows is moved = (
 -- and so has a copy of a checkpoint, by its own parts
 pub copied : (kept copy : StoreView) → IsCheckpoint kept → IsCopyOf kept copy
     → IsConsistent (marks_of copy.links copy.top) copy.snapshots copy.rows
-    × IsSound copy.start copy.links copy.top copy.horizon copy.rows
+    × IsSound copy.initial_nodes copy.links copy.top copy.horizon copy.rows
 copied kept copy is same =
     subst (λ (c : StoreView). IsConsistent (marks_of c.links c.top) c.snapshots c.rows
-    × IsSound c.start c.links c.top c.horizon c.rows)
+    × IsSound c.initial_nodes c.links c.top c.horizon c.rows)
     {x = with_rows_left kept copy.rows kept.horizon} (sym same.same) (restored kept copy.rows is same.rows)
 
 -- its snapshots are those of a register
 pub copied-register : (kept copy : StoreView) → IsCheckpoint kept → IsCopyOf kept copy
-    → IsRegister (record { snapshots = copy.snapshots; opened = copy.opened })
+    → IsRegister (record { snapshots = copy.snapshots; last_id = copy.last_id })
 copied-register kept copy is same =
-    subst (λ (c : StoreView). IsRegister (record { snapshots = c.snapshots; opened = c.opened }))
+    subst (λ (c : StoreView). IsRegister (record { snapshots = c.snapshots; last_id = c.last_id }))
     {x = with_rows_left kept copy.rows kept.horizon} (sym same.same) is.register
 
 -- the state of a core is that of a store
 pub store-of : (kept : StoreView) → IsConsistent (marks_of kept.links kept.top) kept.snapshots kept.rows
-    → IsSound kept.start kept.links kept.top kept.horizon kept.rows
-    → IsRegister (record { snapshots = kept.snapshots; opened = kept.opened }) → IsStore kept
+    → IsSound kept.initial_nodes kept.links kept.top kept.horizon kept.rows
+    → IsRegister (record { snapshots = kept.snapshots; last_id = kept.last_id }) → IsStore kept
 store-of kept consistent sound register = record {
   nodes = sound.nodes;
   stamps = sound.stamps;

@@ -26,7 +26,7 @@ floor_in kept = floor_of (marks_of kept.links kept.top)
 
 -- the open snapshots are those of a register
 abbrev pub HasRegister : StoreView → Type 0
-HasRegister kept = IsRegister (record { snapshots = kept.snapshots; opened = kept.opened })
+HasRegister kept = IsRegister (record { snapshots = kept.snapshots; last_id = kept.last_id })
 
 -- no open snapshot is above this floor
 abbrev pub AreAtMost : ℕ → StoreView → Type 0
@@ -40,7 +40,7 @@ IsUnderHead links row = MatchOption (slice_get links row.node) ⊥ (λ link. row
 -- snapshots are those of a register; neither they nor the horizon are above the floor; the rows ascend by key, stamp
 -- and node, none is above the head of its node, and an item may write each.
 pub record IsCheckpoint (kept : StoreView) : Type 0 where
-  pub nodes : HasNodes kept.start kept.links
+  pub nodes : HasNodes kept.initial_nodes kept.links
   pub stamps : All HasStamps kept.links
   pub last : All HasLastItem kept.links
   pub top : kept.top ≡ greatest_head kept.links
@@ -53,7 +53,7 @@ pub record IsCheckpoint (kept : StoreView) : Type 0 where
 
 -- A state is that of a store: it is a checkpoint, but that its rows are in any order; no two of them are one version.
 pub record IsStore (kept : StoreView) : Type 0 where
-  pub nodes : HasNodes kept.start kept.links
+  pub nodes : HasNodes kept.initial_nodes kept.links
   pub stamps : All HasStamps kept.links
   pub last : All HasLastItem kept.links
   pub top : kept.top ≡ greatest_head kept.links
@@ -66,7 +66,7 @@ pub record IsStore (kept : StoreView) : Type 0 where
 
 -- there are nodes, and possible links of them
 abbrev pub HasLinks : StoreView → Type 0
-HasLinks kept = HasNodes kept.start kept.links × All HasStamps kept.links × All HasLastItem kept.links
+HasLinks kept = HasNodes kept.initial_nodes kept.links × All HasStamps kept.links × All HasLastItem kept.links
 
 -- nothing but the rows is the reason
 abbrev pub IsSoundHead : StoreView → Type 0
@@ -75,10 +75,10 @@ IsSoundHead kept =
 
 -- the first reason why this is no checkpoint; out of memory if it is one
 abbrev pub IsFirstReason : StoreView → RestoreFault → Type 0
-IsFirstReason kept NodesOutOfRange = HasNodes kept.start kept.links → ⊥
-IsFirstReason kept NumberAboveHead = HasNodes kept.start kept.links × (All HasStamps kept.links → ⊥)
+IsFirstReason kept NodesOutOfRange = HasNodes kept.initial_nodes kept.links → ⊥
+IsFirstReason kept NumberAboveHead = HasNodes kept.initial_nodes kept.links × (All HasStamps kept.links → ⊥)
 IsFirstReason kept RetiredWithoutItem =
-    HasNodes kept.start kept.links × All HasStamps kept.links × (All HasLastItem kept.links → ⊥)
+    HasNodes kept.initial_nodes kept.links × All HasStamps kept.links × (All HasLastItem kept.links → ⊥)
 IsFirstReason kept SnapshotsNotRising = HasLinks kept × (HasRegister kept → ⊥)
 IsFirstReason kept SnapshotAboveFloor = HasLinks kept × HasRegister kept × (AreAtMost (floor_in kept) kept → ⊥)
 IsFirstReason kept HorizonAboveFloor =

@@ -9,13 +9,13 @@ use Rattle.hlc_rows.specs.Rows.{IsRowSet}
 use Rattle.hlc_witness.specs.Cost.{AreInLimits}
 
 -- the state of a core: the number of nodes at the start; by node the progress of its link; the greatest head; the open
--- snapshots; the number ever opened; the horizon; the stored rows
+-- snapshots; the last id of a snapshot that was assigned; the horizon; the stored rows
 pub record StoreView : Type 0 where
-  pub start : ℕ
+  pub initial_nodes : ℕ
   pub links : List IntakeView
   pub top : ℕ
   pub snapshots : List Snapshot
-  pub opened : ℕ
+  pub last_id : ℕ
   pub horizon : ℕ
   pub rows : List Row
 
@@ -33,10 +33,10 @@ without_snapshots kept = record kept { snapshots = [] }
 
 -- there were 1 to 64 nodes at the start, and there is a link of each of them and of each that joined, no more in all
 -- than node numbers
-pub record HasNodes (start : ℕ) (links : List IntakeView) : Type 0 where
-  pub some : 0 < start
-  pub few : start ≤ MAX_INITIAL_NODES
-  pub linked : start ≤ length links
+pub record HasNodes (initial_nodes : ℕ) (links : List IntakeView) : Type 0 where
+  pub some : 0 < initial_nodes
+  pub few : initial_nodes ≤ MAX_INITIAL_NODES
+  pub linked : initial_nodes ≤ length links
   pub bounded : length links ≤ MAX_NODES
 
 -- each item has a stamp of its own above 0.0, so there are no more items than the word of the head
@@ -54,8 +54,8 @@ greatest_head (link ∷ links) = max link.head (greatest_head links)
 
 -- there are nodes, and links of them with possible progress; the top is the greatest head; the horizon is not above the
 -- floor; an item may write each row
-pub record IsSound (start : ℕ) (links : List IntakeView) (most low : ℕ) (rows : List Row) : Type 0 where
-  pub nodes : HasNodes start links
+pub record IsSound (initial_nodes : ℕ) (links : List IntakeView) (most low : ℕ) (rows : List Row) : Type 0 where
+  pub nodes : HasNodes initial_nodes links
   pub stamps : All HasStamps links
   pub last : All HasLastItem links
   pub top : most ≡ greatest_head links

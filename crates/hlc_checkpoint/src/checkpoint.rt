@@ -31,7 +31,7 @@ pub enum RestoreFault {
     /// A node has retired, but none of its items was accepted.
     RetiredWithoutItem,
     /// More than 1,024 snapshots are open; or their ids do not ascend from 1 on, up to at most the
-    /// number ever opened; or that number is above the greatest id, 2^64 - 2.
+    /// last id; or the last id is above 2^64 - 2.
     SnapshotsNotRising,
     /// An open snapshot is above the floor.
     SnapshotAboveFloor,
@@ -114,7 +114,7 @@ impl<T: Drop> From<AllocFailed<T>> for RestoreFault {
 }
 
 /// The whole state of a store, as plain values: the number of nodes at the start; by node the
-/// progress of its link; the open snapshots, the oldest first, and the number ever opened; the
+/// progress of its link; the open snapshots, the oldest first, and the last id that was assigned; the
 /// horizon; the rows, by key, stamp and node.
 ///
 /// In contracts it is the same as a core, whose top is the greatest head. So a checkpoint
@@ -122,10 +122,10 @@ impl<T: Drop> From<AllocFailed<T>> for RestoreFault {
 /// of it.
 #[derive(Debug, Drop)]
 pub struct Checkpoint {
-    start: u16,
+    initial_nodes: u16,
     links: Vec<Intake>,
     snapshots: Vec<Snapshot>,
-    opened: u64,
+    last_id: u64,
     horizon: Stamp,
     rows: Vec<Row>,
 }
@@ -136,11 +136,11 @@ impl Model for Checkpoint {
     ghost Value = { StoreView };
 
     ghost view = { λ checkpoint. record {
-      start = checkpoint.start;
+      initial_nodes = checkpoint.initial_nodes;
       links = checkpoint.links.items;
       top = greatest_head checkpoint.links.items;
       snapshots = checkpoint.snapshots.items;
-      opened = checkpoint.opened;
+      last_id = checkpoint.last_id;
       horizon = checkpoint.horizon;
       rows = checkpoint.rows.items;
     } };
@@ -150,38 +150,38 @@ impl Checkpoint {
     /// Makes a checkpoint from these parts, whether they are a store's or not. They are not
     /// checked.
     pub fn of(
-        start: u16,
+        initial_nodes: u16,
         links: Vec<Intake>,
         snapshots: Vec<Snapshot>,
-        opened: u64,
+        last_id: u64,
         horizon: Stamp,
         rows: Vec<Row>,
     ) -> Checkpoint
         ensures { result ≡ record {
-          start = start;
+          initial_nodes = initial_nodes;
           links = links.items;
           top = greatest_head links.items;
           snapshots = snapshots.items;
-          opened = opened;
+          last_id = last_id;
           horizon = horizon;
           rows = rows.items;
         } }
     {
         Checkpoint {
-            start,
+            initial_nodes,
             links,
             snapshots,
-            opened,
+            last_id,
             horizon,
             rows,
         }
     }
 
     /// Returns the number of nodes at the start.
-    pub fn start(&self) -> u16
-        ensures { result ≡ self.now.start }
+    pub fn initial_nodes(&self) -> u16
+        ensures { result ≡ self.now.initial_nodes }
     {
-        self.start
+        self.initial_nodes
     }
 
     /// Returns the progress of each link, by node.
@@ -215,11 +215,11 @@ impl Checkpoint {
         self.snapshots.as_slice()
     }
 
-    /// Returns the number of snapshots that were ever opened.
-    pub fn opened(&self) -> u64
-        ensures { result ≡ self.now.opened }
+    /// Returns the last id of a snapshot that was assigned, 0 if none.
+    pub fn last_id(&self) -> u64
+        ensures { result ≡ self.now.last_id }
     {
-        self.opened
+        self.last_id
     }
 
     /// Returns the stamp of the last vacuum, or part of one, 0.0 before the first.
@@ -254,10 +254,10 @@ impl Checkpoint {
         let snapshots = Vec::from_slice(alloc, self.snapshots.as_slice())?;
         let rows = Vec::new(alloc);
         Ok(Checkpoint::of(
-            self.start,
+            self.initial_nodes,
             links,
             snapshots,
-            self.opened,
+            self.last_id,
             self.horizon,
             rows,
         ))
@@ -269,16 +269,16 @@ impl Checkpoint {
         ensures rows { result.1.items ≡ self.rows }
     {
         let Checkpoint {
-            start,
+            initial_nodes,
             links,
             snapshots,
-            opened,
+            last_id,
             horizon,
             rows,
         } = self;
         let none = Vec::new(alloc);
         (
-            Checkpoint::of(start, links, snapshots, opened, horizon, none),
+            Checkpoint::of(initial_nodes, links, snapshots, last_id, horizon, none),
             rows,
         )
     }
@@ -322,7 +322,7 @@ pub(crate) fn head_reason(checkpoint: &Checkpoint) -> Option<RestoreFault>
 {
     let links = checkpoint.links();
     let snapshots = checkpoint.snapshots();
-    if !are_nodes(checkpoint.start(), links) {
+    if !are_nodes(checkpoint.initial_nodes(), links) {
         return Some(RestoreFault::NodesOutOfRange);
     }
     if !are_numbers_low(links) {
@@ -331,7 +331,7 @@ pub(crate) fn head_reason(checkpoint: &Checkpoint) -> Option<RestoreFault>
     if !did_retired_issue(links) {
         return Some(RestoreFault::RetiredWithoutItem);
     }
-    if !is_register(snapshots, checkpoint.opened()) {
+    if !is_register(snapshots, checkpoint.last_id()) {
         return Some(RestoreFault::SnapshotsNotRising);
     }
     let floor = floor_of(links, checkpoint.top());
@@ -346,11 +346,14 @@ pub(crate) fn head_reason(checkpoint: &Checkpoint) -> Option<RestoreFault>
 
 /// Returns whether there were 1 to 64 nodes at the start, and there are links of them and no more
 /// than node numbers.
-fn are_nodes(start: u16, links: &[Intake]) -> bool
-    ensures { IsTrue result ↔ HasNodes start links.now }
+fn are_nodes(initial_nodes: u16, links: &[Intake]) -> bool
+    ensures { IsTrue result ↔ HasNodes initial_nodes links.now }
 {
     let many = links.len();
-    start > 0 && start <= MAX_INITIAL_NODES && start as usize <= many && many <= MAX_NODES as usize
+    initial_nodes > 0
+        && initial_nodes <= MAX_INITIAL_NODES
+        && initial_nodes as usize <= many
+        && many <= MAX_NODES as usize
 }
 
 /// Returns whether no link's next number is above the word of its head.

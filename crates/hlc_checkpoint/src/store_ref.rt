@@ -21,7 +21,7 @@ use std::marker::Model;
 /// The state of a store, lent. In contracts it is the state, whose top is the greatest head.
 #[derive(Debug, Drop)]
 pub struct StoreRef<'a> {
-    start: u16,
+    initial_nodes: u16,
     links: &'a [Intake],
     registry: &'a Registry,
     horizon: Stamp,
@@ -34,11 +34,11 @@ impl<'a> Model for StoreRef<'a> {
     ghost Value = { StoreView };
 
     ghost view = { λ store. record {
-      start = store.start;
+      initial_nodes = store.initial_nodes;
       links = store.links.now;
       top = greatest_head store.links.now;
       snapshots = store.registry.now.snapshots;
-      opened = store.registry.now.opened;
+      last_id = store.registry.now.last_id;
       horizon = store.horizon;
       rows = store.table.now;
     } };
@@ -47,18 +47,18 @@ impl<'a> Model for StoreRef<'a> {
 impl<'a> StoreRef<'a> {
     /// Lends the parts of a store. They are not checked.
     pub fn of(
-        start: u16,
+        initial_nodes: u16,
         links: &'a [Intake],
         registry: &'a Registry,
         horizon: Stamp,
         table: &'a Table,
     ) -> StoreRef<'a>
         ensures value { result ≡ record {
-          start = start;
+          initial_nodes = initial_nodes;
           links = links.now;
           top = greatest_head links.now;
           snapshots = registry.now.snapshots;
-          opened = registry.now.opened;
+          last_id = registry.now.last_id;
           horizon = horizon;
           rows = table.now;
         } }
@@ -67,7 +67,7 @@ impl<'a> StoreRef<'a> {
         // The proof needs that the registry's ids rise.
         let _snapshots = registry.snapshots();
         StoreRef {
-            start,
+            initial_nodes,
             links,
             registry,
             horizon,
@@ -76,10 +76,10 @@ impl<'a> StoreRef<'a> {
     }
 
     /// Returns the number of nodes at the start.
-    pub fn start(&self) -> u16
-        ensures { result ≡ self.now.start }
+    pub fn initial_nodes(&self) -> u16
+        ensures { result ≡ self.now.initial_nodes }
     {
-        self.start
+        self.initial_nodes
     }
 
     /// Returns the progress of each link, by node.
@@ -96,11 +96,11 @@ impl<'a> StoreRef<'a> {
         self.registry.snapshots()
     }
 
-    /// Returns the number of snapshots that were ever opened.
-    pub fn opened(&self) -> u64
-        ensures { result ≡ self.now.opened }
+    /// Returns the last id of a snapshot that was assigned, 0 if none.
+    pub fn last_id(&self) -> u64
+        ensures { result ≡ self.now.last_id }
     {
-        self.registry.opened()
+        self.registry.last_id()
     }
 
     /// Returns the stamp of the last vacuum, or part of one, 0.0 before the first.
@@ -147,8 +147,8 @@ impl<'a> StoreRef<'a> {
     {
         let links = Vec::from_slice(alloc, self.links)?;
         let snapshots = Vec::from_slice(alloc, self.registry.snapshots())?;
-        let opened = self.registry.opened();
-        Ok(Checkpoint::of(self.start, links, snapshots, opened, self.horizon, rows))
+        let (nodes, last_id) = (self.initial_nodes, self.registry.last_id());
+        Ok(Checkpoint::of(nodes, links, snapshots, last_id, self.horizon, rows))
     }
 }
 

@@ -22,7 +22,7 @@ use Rattle.hlc_witness.specs.Cost.{IsInLimits}
 use Rattle.hlc_core.specs.Past.{Step, initial_nodes, Started, Took, Opened, Closed, Vacuumed, PartVacuumed, Joined}
 use Rattle.hlc_core.specs.Past.{numbered, count, head}
 use Rattle.hlc_core.specs.Past.{retired}
-use Rattle.hlc_core.specs.Past.{top, floor, horizon, opened, open_snapshots, of_room}
+use Rattle.hlc_core.specs.Past.{top, floor, horizon, last_id, open_snapshots, of_room}
 use Rattle.hlc_events.specs.Faults.{of_registry}
 use Rattle.hlc_core.specs.Past.{IsLegal, writes, greatest_accepted}
 use Rattle.hlc_events.specs.declared.fault.CoreFault.TheVariants.{Join}
@@ -163,20 +163,20 @@ of_room-none None h = refl
 of_room-none (Some fault) h = absurd (let g : Some (of_registry fault) ≡ None = h in cc)
 
 register-open : (register : RegistryView) (stamp : ℕ) → IsRegister register
-    → room_in (length register.snapshots) register.opened ≡ None → IsRegister (opened_at register stamp)
+    → room_in (length register.snapshots) register.last_id ≡ None → IsRegister (opened_at register stamp)
 register-open register stamp h none =
-    let room : (length register.snapshots < MAX_OPEN_SNAPSHOTS) × (register.opened < 18446744073709551614) =
+    let room : (length register.snapshots < MAX_OPEN_SNAPSHOTS) × (register.last_id < 18446744073709551614) =
     grind (arith, nat_tests) in
     let few : length register.snapshots < MAX_OPEN_SNAPSHOTS = room.0 in
-    let spare : register.opened < 18446744073709551614 = room.1 in
-    let new : Snapshot = record { id = register.opened + 1; stamp = stamp } in
+    let spare : register.last_id < 18446744073709551614 = room.1 in
+    let new : Snapshot = record { id = register.last_id + 1; stamp = stamp } in
     let l : length (register.snapshots ++ new ∷ []) ≡ length register.snapshots + 1 =
     length-append register.snapshots (new ∷ []) in
     record {
       rising = all_pairs_push (λ older newer. older.id < newer.id) register.snapshots new h.rising
-          (λ k d lt. (let g : (get_or register.snapshots k d).id ≤ register.opened = (h.bounded k d lt).1 in
+          (λ k d lt. (let g : (get_or register.snapshots k d).id ≤ register.last_id = (h.bounded k d lt).1 in
           omega arith));
-      bounded = All-push (λ snapshot. (0 < snapshot.id) × (snapshot.id ≤ register.opened + 1)) register.snapshots new
+      bounded = All-push (λ snapshot. (0 < snapshot.id) × (snapshot.id ≤ register.last_id + 1)) register.snapshots new
           (λ k d lt. ((h.bounded k d lt).0, (let g = (h.bounded k d lt).1 in omega (arith, g))))
           (omega arith, omega arith);
       few = omega arith;
@@ -184,7 +184,7 @@ register-open register stamp h none =
     }
 
 pub register-of : (past : List Step) → IsLegal past
-    → IsRegister (record { snapshots = open_snapshots past; opened = opened past })
+    → IsRegister (record { snapshots = open_snapshots past; last_id = last_id past })
 register-of [] legal =
     record {
       rising = λ i j d less within. absurd (omega arith);
@@ -198,10 +198,10 @@ register-of (PartVacuumed at dropped ∷ past) legal = register-of past legal.1
 register-of (Joined node start ∷ past) legal = register-of past legal.3
 register-of (Started nodes ∷ past) legal = register-of past legal.1
 register-of (Closed id ∷ past) legal =
-    closed-is_register (record { snapshots = open_snapshots past; opened = opened past }) id
+    closed-is_register (record { snapshots = open_snapshots past; last_id = last_id past }) id
     (register-of past legal.1)
 register-of (Opened stamp ∷ past) legal =
-    register-open (record { snapshots = open_snapshots past; opened = opened past }) stamp
+    register-open (record { snapshots = open_snapshots past; last_id = last_id past }) stamp
     (register-of past legal.1)
     (of_room-none _ (sym (open-room past stamp (open-below past stamp legal.0)
     (open-above past stamp legal.0)) ∙ legal.0))
@@ -260,7 +260,7 @@ link-is : (kept : StoreView) (past : List Step) → Represents kept past → (k 
     → get_or kept.links k d ≡ record { next = count k past; head = head k past; retired = retired k past }
 link-is kept past h k d lt =
     get_or_from_slice_get kept.links k (record { next = count k past; head = head k past; retired = retired k past }) d
-    (h.links k lt)
+    (h.links.each k lt)
 
 link-head : (kept : StoreView) (past : List Step) → Represents kept past → (k : ℕ) (d : IntakeView)
     → k < length kept.links
@@ -271,23 +271,23 @@ link-head kept past h k d lt = ap (λ (link : IntakeView). link.head) (link-is k
 pub floor-in : (kept : StoreView) (past : List Step) → Represents kept past → floor_in kept ≡ floor past
 floor-in kept past h =
     low-same (λ k. (link_at kept.links k).head) (λ k. head k past) (λ k. (link_at kept.links k).retired)
-    (λ k. retired k past) (length kept.links) (numbered past) kept.top (top past) h.many h.top
+    (λ k. retired k past) (length kept.links) (numbered past) kept.top (top past) h.links.many h.top
     (λ k within.
-    let is = link-is kept past h k no_link (let many = h.many in omega (arith, within, many)) in
+    let is = link-is kept past h k no_link (let many = h.links.many in omega (arith, within, many)) in
     (ap (λ (link : IntakeView). link.head) is, ap (λ (link : IntakeView). link.retired) is))
 
-pub checkpoint-sound : (kept : StoreView) (past : List Step) → Represents kept past → 0 < kept.start
-    → kept.start ≤ MAX_INITIAL_NODES → RowsAscend kept.rows → IsCheckpoint kept
+pub checkpoint-sound : (kept : StoreView) (past : List Step) → Represents kept past → 0 < kept.initial_nodes
+    → kept.initial_nodes ≤ MAX_INITIAL_NODES → RowsAscend kept.rows → IsCheckpoint kept
 checkpoint-sound kept past h some few ascend =
-    let many : length kept.links ≡ numbered past = h.many in
+    let many : length kept.links ≡ numbered past = h.links.many in
     let from = numbered-from past in
-    let some' : 0 < initial_nodes past = rw (← h.start) some in
-    let bounded = numbered-few past (rw (← h.start) few) h.legal in
-    let has : HasNodes kept.start kept.links =
+    let some' : 0 < initial_nodes past = rw (← h.initial_nodes) some in
+    let bounded = numbered-few past (rw (← h.initial_nodes) few) h.legal in
+    let has : HasNodes kept.initial_nodes kept.links =
     record {
       some = some;
       few = few;
-      linked = (let start = h.start in omega (arith, from, start));
+      linked = (let start = h.initial_nodes in omega (arith, from, start));
       bounded = omega (arith, bounded);
     } in
     let at : floor_in kept ≡ floor past = floor-in kept past h in
@@ -310,8 +310,8 @@ checkpoint-sound kept past h some few ascend =
           let g = heads-low past h.legal k in omega (arith, f, g))) in
           omega arith);
       register = subst IsRegister
-          (ap (λ xs. record { snapshots = xs; opened = opened past }) (sym h.snapshots)
-          ∙ ap (λ n. record { snapshots = kept.snapshots; opened = n }) (sym h.opened))
+          (ap (λ xs. record { snapshots = xs; last_id = last_id past }) (sym h.snapshots)
+          ∙ ap (λ n. record { snapshots = kept.snapshots; last_id = n }) (sym h.last_id))
           (register-of past h.legal);
       opened = subst (λ xs. All (λ (s : Snapshot). s.stamp ≤ floor_in kept) xs) (sym h.snapshots)
           (subst (λ f. All (λ (s : Snapshot). s.stamp ≤ f) (open_snapshots past)) (sym at)
@@ -323,7 +323,7 @@ checkpoint-sound kept past h some few ascend =
           (λ row m.
           let all' : Contains (writes past) row = h.rows.within row m in
           let node : row.node < numbered past = inside-row past h.legal row all' in
-          subst (λ o. MatchOption o ⊥ (λ link. row.stamp ≤ link.head)) (sym (h.links row.node (omega arith)))
+          subst (λ o. MatchOption o ⊥ (λ link. row.stamp ≤ link.head)) (sym (h.links.each row.node (omega arith)))
           (below_head past h.legal row all'))
           kept.rows (All-contains_itself kept.rows);
       limits = All-weaker (Contains kept.rows) IsInLimits

@@ -31,11 +31,11 @@ pub all-closed : (snapshots : List Snapshot) (kept : StoreView) (past : List Ste
     → Represents kept past → Represents (without_snapshots kept) (closed_all snapshots past)
 all-closed [] kept past are h =
     subst (λ (xs : List Snapshot). Represents (record {
-      start = kept.start;
+      initial_nodes = kept.initial_nodes;
       links = kept.links;
       top = kept.top;
       snapshots = xs;
-      opened = kept.opened;
+      last_id = kept.last_id;
       horizon = kept.horizon;
       rows = kept.rows;
     }) past) are h

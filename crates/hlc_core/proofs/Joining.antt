@@ -22,11 +22,11 @@ use Rattle.hlc_core.proofs.Links.{get-append_left, get-push}
 
 abbrev pub with_link : StoreView → ℕ → StoreView
 with_link kept start = record {
-  start = kept.start;
+  initial_nodes = kept.initial_nodes;
   links = kept.links ++ a_link 0 start false ∷ [];
   top = max kept.top start;
   snapshots = kept.snapshots;
-  opened = kept.opened;
+  last_id = kept.last_id;
   horizon = kept.horizon;
   rows = kept.rows;
 }
@@ -38,31 +38,34 @@ pub joins : (kept : StoreView) (past : List Step) (node start : ℕ) → Represe
 joins kept past node start h none is up =
     let link : IntakeView = a_link 0 start false in
     let l : length (kept.links ++ link ∷ []) ≡ length kept.links + 1 = length-append kept.links (link ∷ []) in
+    let many : length kept.links ≡ numbered past = h.links.many in
     record {
       legal = (none, is, up, h.legal);
-      start = h.start;
-      many = l ∙ ap (λ n. n + 1) h.many;
-      links = λ n lt.
-          elim (cases_eq n (length kept.links)) [
-            | inl last ↦
-                let own : node ≡ n = is ∙ sym h.many ∙ sym last in
-                let none' = fresh past n h.legal (let m = h.many in omega (arith, m)) in
-                ap (λ k. slice_get (kept.links ++ link ∷ []) k) last
-                ∙ get-push kept.links link
-                ∙ sym (ap (λ k. Some (a_link k (head n (Joined node start ∷ past)) (retired n past))) none'.0
-                ∙ ap (λ k. Some (a_link 0 k (retired n past))) (head-joined n node start past own)
-                ∙ ap (λ k. Some (a_link 0 start k)) none'.1)
-            | inr earlier ↦
-                let within : n < length kept.links = omega (arith, lt, l) in
-                let other : node ≡ n → ⊥ = λ e. (let m = h.many in omega (arith, is, m)) in
-                get-append_left kept.links (link ∷ []) n within
-                ∙ h.links n within
-                ∙ sym (ap (λ k. Some (a_link (count n past) k (retired n past)))
-                (head-joined_other n node start past other))
-          ];
+      initial_nodes = h.initial_nodes;
+      links = record {
+        many = l ∙ ap (λ n. n + 1) many;
+        each = λ n lt.
+            elim (cases_eq n (length kept.links)) [
+              | inl last ↦
+                  let own : node ≡ n = is ∙ sym many ∙ sym last in
+                  let none' = fresh past n h.legal (omega (arith, many)) in
+                  ap (λ k. slice_get (kept.links ++ link ∷ []) k) last
+                  ∙ get-push kept.links link
+                  ∙ sym (ap (λ k. Some (a_link k (head n (Joined node start ∷ past)) (retired n past))) none'.0
+                  ∙ ap (λ k. Some (a_link 0 k (retired n past))) (head-joined n node start past own)
+                  ∙ ap (λ k. Some (a_link 0 start k)) none'.1)
+              | inr earlier ↦
+                  let within : n < length kept.links = omega (arith, lt, l) in
+                  let other : node ≡ n → ⊥ = λ e. omega (arith, is, many) in
+                  get-append_left kept.links (link ∷ []) n within
+                  ∙ h.links.each n within
+                  ∙ sym (ap (λ k. Some (a_link (count n past) k (retired n past)))
+                  (head-joined_other n node start past other))
+            ];
+      };
       top = ap (λ t. max t start) h.top;
       snapshots = h.snapshots;
-      opened = h.opened;
+      last_id = h.last_id;
       rows = h.rows;
       stored = h.stored;
       horizon = h.horizon;

@@ -98,8 +98,8 @@ pub admitted-expected : (kept : StoreView) (past : List Step) (item : Item) {don
     → LooksUp (slice_get kept.links item.node) item (Ok done) → item_refusal past item ≡ None
 admitted-expected kept past item {done} h looked =
     let within : item.node < length kept.links = (admitted kept.links item looked).within in
-    let found = subst (λ o. LooksUp o item (Ok done)) (h.links item.node within) looked in
-    on_link past item (let m = h.many in omega (arith, m)) ∙ found
+    let found = subst (λ o. LooksUp o item (Ok done)) (h.links.each item.node within) looked in
+    on_link past item (let m = h.links.many in omega (arith, m)) ∙ found
 
 -- and the fault is the expected refusal there
 pub fault-expected : (kept : StoreView) (past : List Step) (item : Item) (fault : CoreFault) → Represents kept past
@@ -108,12 +108,12 @@ fault-expected kept past item fault h looked =
     elim (cases_lt item.node (length kept.links)) [
       | inl below ↦
           let found : LooksUp (Some (link_of item.node past)) item (Err fault) =
-          subst (λ o. LooksUp o item (Err fault)) (h.links item.node below) looked in
-          on_link past item (let m = h.many in omega (arith, m)) ∙ found
+          subst (λ o. LooksUp o item (Err fault)) (h.links.each item.node below) looked in
+          on_link past item (let m = h.links.many in omega (arith, m)) ∙ found
       | inr outside ↦
           let missed : ◌≡◌ {A = Result Unit CoreFault} (Err fault) (Err NoNode) =
           subst (λ o. LooksUp o item (Err fault)) (slice_get_past kept.links item.node outside) looked in
-          cond-true _ _ _ (le-leb (numbered past) item.node (let m = h.many in omega (arith, m)))
+          cond-true _ _ _ (le-leb (numbered past) item.node (let m = h.links.many in omega (arith, m)))
           ∙ (let same : NoNode ≡ fault = cc in ap Some same)
     ]
 
@@ -155,11 +155,11 @@ links-took links past item number next within h n lt =
 
 abbrev pub after_item : StoreView → Item → StoreView
 after_item kept item = record {
-  start = kept.start;
+  initial_nodes = kept.initial_nodes;
   links = slice_set kept.links item.node (a_link (item.number + 1) item.stamp (retires item.body));
   top = max kept.top item.stamp;
   snapshots = kept.snapshots;
-  opened = kept.opened;
+  last_id = kept.last_id;
   horizon = kept.horizon;
   rows = kept.rows ++ item_rows item;
 }

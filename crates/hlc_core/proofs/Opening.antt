@@ -8,7 +8,7 @@ use Rattle.std.proofs.lemmas.List.{map-append}
 use Rattle.hlc_values.proofs.MemberLemmas.{Contains-first, Contains-rest, Contains-cons_cases}
 use Rattle.hlc_rows.specs.declared.row.Row.{Row}
 use Rattle.hlc_core.specs.Past.{Step, Opened, Closed, horizon}
-use Rattle.hlc_core.specs.Past.{opened, writes, open_snapshots}
+use Rattle.hlc_core.specs.Past.{last_id, writes, open_snapshots}
 use Rattle.hlc_core.specs.Past.{of_room, room_refusal, open_refusal}
 use Rattle.hlc_events.specs.Faults.{of_registry}
 use Rattle.hlc_core.specs.Past.{stamp_of}
@@ -25,12 +25,12 @@ use Rattle.hlc_core.proofs.PastLemmas.{open-above}
 
 -- the remaining room is that of the past
 pub room-expected : (kept : StoreView) (past : List Step) → Represents kept past
-    → of_room (room_in (length kept.snapshots) kept.opened) ≡ room_refusal past
-room-expected kept past h = rw (h.snapshots, h.opened) refl
+    → of_room (room_in (length kept.snapshots) kept.last_id) ≡ room_refusal past
+room-expected kept past h = rw (h.snapshots, h.last_id) refl
 
 -- a registry's refusal is that of the past, which comes last
 pub room-fault : (kept : StoreView) (past : List Step) (fault : SnapshotFault)
-    → Represents kept past → IsRoomRefusal (room_in (length kept.snapshots) kept.opened) fault
+    → Represents kept past → IsRoomRefusal (room_in (length kept.snapshots) kept.last_id) fault
     → IsRefusal (room_refusal past) ⊤ (of_registry fault)
 room-fault kept past fault h (inl expected) = inl (sym (room-expected kept past h) ∙ ap of_room expected)
 room-fault kept past fault h (inr lost) =
@@ -38,11 +38,11 @@ room-fault kept past fault h (inr lost) =
 
 abbrev pub with_snapshot : StoreView → ℕ → StoreView
 with_snapshot kept stamp = record {
-  start = kept.start;
+  initial_nodes = kept.initial_nodes;
   links = kept.links;
   top = kept.top;
-  snapshots = kept.snapshots ++ record { id = kept.opened + 1; stamp = stamp } ∷ [];
-  opened = kept.opened + 1;
+  snapshots = kept.snapshots ++ record { id = kept.last_id + 1; stamp = stamp } ∷ [];
+  last_id = kept.last_id + 1;
   horizon = kept.horizon;
   rows = kept.rows;
 }
@@ -53,16 +53,15 @@ pub opens : (kept : StoreView) (past : List Step) (stamp : ℕ) → Represents k
 opens kept past stamp h none =
     record {
       legal = (none, h.legal);
-      start = h.start;
-      many = h.many;
+      initial_nodes = h.initial_nodes;
       links = h.links;
       top = h.top;
-      snapshots = ap (λ xs. xs ++ record { id = kept.opened + 1; stamp = stamp } ∷ []) h.snapshots
-          ∙ ap (λ n. open_snapshots past ++ record { id = n + 1; stamp = stamp } ∷ []) h.opened;
-      opened = ap (λ n. n + 1) h.opened;
+      snapshots = ap (λ xs. xs ++ record { id = kept.last_id + 1; stamp = stamp } ∷ []) h.snapshots
+          ∙ ap (λ n. open_snapshots past ++ record { id = n + 1; stamp = stamp } ∷ []) h.last_id;
+      last_id = ap (λ n. n + 1) h.last_id;
       rows = subst (λ opened. RowsRepresent kept.rows (writes past) (horizon past) opened)
           (sym (map-append (λ (snapshot : Snapshot). snapshot.stamp) (open_snapshots past)
-          (record { id = opened past + 1; stamp = stamp } ∷ [])))
+          (record { id = last_id past + 1; stamp = stamp } ∷ [])))
           (opens_keep_representing kept.rows (writes past) (horizon past) stamp
           (stamps (open_snapshots past)) h.rows (open-above past stamp none));
       stored = h.stored;
@@ -71,11 +70,11 @@ opens kept past stamp h none =
 
 abbrev pub less_snapshot : StoreView → ℕ → StoreView
 less_snapshot kept id = record {
-  start = kept.start;
+  initial_nodes = kept.initial_nodes;
   links = kept.links;
   top = kept.top;
   snapshots = without id kept.snapshots;
-  opened = kept.opened;
+  last_id = kept.last_id;
   horizon = kept.horizon;
   rows = kept.rows;
 }
@@ -115,12 +114,11 @@ closes kept past id stamp h there =
       is,
       record {
         legal = ((λ none. (let e : Some stamp ≡ None = sym is ∙ none in absurd (cc))), h.legal);
-        start = h.start;
-        many = h.many;
+        initial_nodes = h.initial_nodes;
         links = h.links;
         top = h.top;
         snapshots = ap (without id) h.snapshots;
-        opened = h.opened;
+        last_id = h.last_id;
         rows = fewer-open kept.rows (writes past) (horizon past) (stamps (open_snapshots past))
             (stamps (without id (open_snapshots past))) h.rows (λ stamp m. still-open id stamp (open_snapshots past) m);
         stored = h.stored;
@@ -130,10 +128,10 @@ closes kept past id stamp h there =
 
 -- the core with this register
 abbrev pub with_register : StoreView → RegistryView → StoreView
-with_register kept register = record kept { snapshots = register.snapshots; opened = register.opened }
+with_register kept register = record kept { snapshots = register.snapshots; last_id = register.last_id }
 
 abbrev pub register_of : StoreView → RegistryView
-register_of kept = record { snapshots = kept.snapshots; opened = kept.opened }
+register_of kept = record { snapshots = kept.snapshots; last_id = kept.last_id }
 
 -- the result of the registry for a closing is the result of the core
 pub closes-result : (kept : StoreView) (past : List Step) (id : ℕ) (new : RegistryView) (result : Result ℕ NoSnapshot)

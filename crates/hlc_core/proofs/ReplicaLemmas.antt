@@ -1,6 +1,6 @@
 -- A node's link follows from its items and its start, so it is alike in all replicas, as are the floor and the rows. Of
 -- replicas that lag both can go on until they are replicas, and no answer up to the floor of either changes on the way.
-use Rattle.std.proofs.Common.{◌≡◌, ℕ, ◌+◌, ◌<◌, ◌≤◌, List, [], ◌∷◌, length, Contains, None, Bool, false}
+use Rattle.std.proofs.Common.{◌≡◌, ℕ, ◌+◌, ◌<◌, ◌≤◌, List, [], ◌∷◌, length, Contains, None, false}
 use Rattle.std.proofs.Common.{◌⊎◌, ◌++◌, refl, ap, sym, ◌∙◌, subst, inl, inr, arith}
 use Rattle.std.specs.Prelude.{◌==◌, if◌then◌else◌, Option, Some, nat_le, nat_lt}
 use Rattle.std.proofs.lemmas.Bool.{cond-true, cond-false, eq-eqb, ne_eqb, cases_eq}
@@ -8,7 +8,6 @@ use Rattle.std.proofs.lemmas.List.Elements.{Contains-append_left, Contains-appen
 use Rattle.hlc_values.proofs.MemberLemmas.{Contains-first, Contains-rest, Contains-cons_cases, Contains-none}
 use Rattle.hlc_rows.specs.declared.row.Row.{Row}
 use Rattle.hlc_node.specs.declared.item.Item.{Item}
-use Rattle.hlc_node.specs.Items.{retires}
 use Rattle.hlc_rows.specs.Rows.{answer}
 use Rattle.hlc_heads.proofs.LowLemmas.{low-same}
 use Rattle.hlc_snapshot.specs.RegistryView.{stamps}
@@ -23,17 +22,17 @@ use Rattle.hlc_core.specs.Past.{retired}
 use Rattle.hlc_core.specs.Past.{top, floor, horizon, writes, item_rows, item_refusal, join_at_refusal, IsLegal}
 use Rattle.hlc_core.specs.Past.{open_snapshots}
 use Rattle.hlc_core.specs.StoreView.{StoreView, Represents}
-use Rattle.hlc_core.specs.Replicas.{items_of, joins_of, AreReplicas, CanMeet}
+use Rattle.hlc_core.specs.Replicas.{items_of, have_ended, joins_of, AreReplicas, CanMeet}
 use Rattle.hlc_core.proofs.PastLemmas.{inside, head-same, head-other, head-joined, head-joined_other}
 use Rattle.hlc_core.proofs.PastLemmas.{retired-same, retired-other, count-other, body_rows-are, writes-row_set}
 use Rattle.hlc_core.proofs.CheckpointLemmas.{heads-low, top-at}
 use Rattle.hlc_core.proofs.StayLemmas.{answers-stay}
 
-items-same : (n : ℕ) (item : Item) (past : List Step) → item.node ≡ n
+pub items-same : (n : ℕ) (item : Item) (past : List Step) → item.node ≡ n
     → items_of n (Took item ∷ past) ≡ item ∷ items_of n past
 items-same n item past e = cond-true _ _ _ (eq-eqb _ _ e)
 
-items-other : (n : ℕ) (item : Item) (past : List Step) → (item.node ≡ n → ⊥)
+pub items-other : (n : ℕ) (item : Item) (past : List Step) → (item.node ≡ n → ⊥)
     → items_of n (Took item ∷ past) ≡ items_of n past
 items-other n item past e = cond-false _ _ _ (ne_eqb _ _ e)
 
@@ -59,14 +58,10 @@ abbrev start_in : ℕ → List (ℕ × ℕ) → ℕ
 start_in n [] = 0
 start_in n (join ∷ joins) = if join.0 == n then join.1 else start_in n joins
 
--- the head and the retirement of a node, from its items and the joins
+-- the head of a node, from its items and the joins
 abbrev last_head : ℕ → List Item → List (ℕ × ℕ) → ℕ
 last_head n [] joins = start_in n joins
 last_head n (item ∷ items) joins = item.stamp
-
-abbrev last_retires : List Item → Bool
-last_retires [] = false
-last_retires (item ∷ items) = retires item.body
 
 head-skips : (n node start : ℕ) (items : List Item) (joins : List (ℕ × ℕ)) → (node ≡ n → ⊥)
     → last_head n items ((node, start) ∷ joins) ≡ last_head n items joins
@@ -101,7 +96,8 @@ head-by (Took item ∷ past) n legal =
           ∙ sym (ap (λ items. last_head n items (joins_of past)) (items-other n item past other))
     ]
 
-retired-by : (past : List Step) (n : ℕ) → retired n past ≡ last_retires (items_of n past)
+-- a node retired if its last accepted item is its last one
+pub retired-by : (past : List Step) (n : ℕ) → retired n past ≡ have_ended (items_of n past)
 retired-by [] n = refl
 retired-by (Opened stamp ∷ past) n = retired-by past n
 retired-by (Started nodes ∷ past) n = retired-by past n
@@ -111,12 +107,12 @@ retired-by (PartVacuumed at dropped ∷ past) n = retired-by past n
 retired-by (Joined node start ∷ past) n = retired-by past n
 retired-by (Took item ∷ past) n =
     elim (cases_eq item.node n) [
-      | inl same ↦ retired-same n item past same ∙ sym (ap last_retires (items-same n item past same))
+      | inl same ↦ retired-same n item past same ∙ sym (ap have_ended (items-same n item past same))
       | inr other ↦ retired-other n item past other ∙ retired-by past n
-          ∙ sym (ap last_retires (items-other n item past other))
+          ∙ sym (ap have_ended (items-other n item past other))
     ]
 
-count-by : (past : List Step) (n : ℕ) → count n past ≡ length (items_of n past)
+pub count-by : (past : List Step) (n : ℕ) → count n past ≡ length (items_of n past)
 count-by [] n = refl
 count-by (Opened stamp ∷ past) n = count-by past n
 count-by (Started nodes ∷ past) n = count-by past n
@@ -145,9 +141,9 @@ numbered-by (Joined node start ∷ past) legal = (let h = numbered-by past legal
 
 numbered-same : (past other : List Step) → IsLegal past → IsLegal other → initial_nodes past ≡ initial_nodes other
     → joins_of past ≡ joins_of other → numbered past ≡ numbered other
-numbered-same past other legal legal' start joins =
+numbered-same past other legal legal' nodes joins =
     numbered-by past legal ∙ ap (λ js. initial_nodes past + length js) joins
-    ∙ ap (λ nodes. nodes + length (joins_of other)) start ∙ sym (numbered-by other legal')
+    ∙ ap (λ many. many + length (joins_of other)) nodes ∙ sym (numbered-by other legal')
 
 head-agrees : (past other : List Step) (n : ℕ) → IsLegal past → IsLegal other
     → joins_of past ≡ joins_of other → items_of n past ≡ items_of n other → head n past ≡ head n other
@@ -157,7 +153,7 @@ head-agrees past other n legal legal' joins items =
 
 retired-agrees : (past other : List Step) (n : ℕ) → items_of n past ≡ items_of n other
     → retired n past ≡ retired n other
-retired-agrees past other n items = retired-by past n ∙ ap last_retires items ∙ sym (retired-by other n)
+retired-agrees past other n items = retired-by past n ∙ ap have_ended items ∙ sym (retired-by other n)
 
 count-agrees : (past other : List Step) (n : ℕ) → items_of n past ≡ items_of n other → count n past ≡ count n other
 count-agrees past other n items = count-by past n ∙ ap length items ∙ sym (count-by other n)
@@ -167,9 +163,9 @@ pub refusals-agree : (past other : List Step) (item : Item) → IsLegal past →
     → initial_nodes past ≡ initial_nodes other → joins_of past ≡ joins_of other
     → items_of item.node past ≡ items_of item.node other
     → item_refusal past item ≡ item_refusal other item
-refusals-agree past other item legal legal' start joins items =
+refusals-agree past other item legal legal' nodes joins items =
     rw (
-      numbered-same past other legal legal' start joins,
+      numbered-same past other legal legal' nodes joins,
       retired-agrees past other item.node items,
       count-agrees past other item.node items,
       head-agrees past other item.node legal legal' joins items,
@@ -190,10 +186,11 @@ floors-agree past other some legal legal' are =
     let heads : (n : ℕ) → head n past ≡ head n other =
     λ n. head-agrees past other n legal legal' are.joins (are.items n) in
     let a : top past ≤ top other = top-le past other some legal legal' heads in
-    let b : top other ≤ top past = top-le other past (rw (← are.start) some) legal' legal (λ n. sym (heads n)) in
+    let b : top other ≤ top past =
+    top-le other past (rw (← are.initial_nodes) some) legal' legal (λ n. sym (heads n)) in
     let tops : top past ≡ top other = omega arith in
     low-same (λ k. head k past) (λ k. head k other) (λ k. retired k past) (λ k. retired k other) (numbered past)
-    (numbered other) (top past) (top other) (numbered-same past other legal legal' are.start are.joins) tops
+    (numbered other) (top past) (top other) (numbered-same past other legal legal' are.initial_nodes are.joins) tops
     (λ k within. (heads k, retired-agrees past other k (are.items k)))
 
 -- why no node joins at a start, from the number of assigned node numbers and the floor
@@ -207,7 +204,7 @@ pub joins-agree : (past other : List Step) (start : ℕ) → 0 < initial_nodes p
     → IsLegal other → AreReplicas past other
     → join_at_refusal past start ≡ join_at_refusal other start
 joins-agree past other start some legal legal' are =
-    ap (λ many. refusal_of many (floor past) start) (numbered-same past other legal legal' are.start are.joins)
+    ap (λ many. refusal_of many (floor past) start) (numbered-same past other legal legal' are.initial_nodes are.joins)
     ∙ ap (λ low. refusal_of (numbered other) low start) (floors-agree past other some legal legal' are)
 
 -- each accepted write is that of an item of its node

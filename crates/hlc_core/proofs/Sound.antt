@@ -61,27 +61,27 @@ all-new P zero link one k d lt = absurd (omega arith)
 all-new P (suc n) link one zero d lt = one
 all-new P (suc n) link one (suc k) d lt = all-new P n link one k d (omega arith)
 
-pub sound-new : (start : ℕ) → 0 < start → start ≤ MAX_INITIAL_NODES
-    → IsSound start (replicate start (a_link 0 0 false)) 0 0 []
-sound-new start some few =
-    let l : length (replicate start (a_link 0 0 false)) ≡ start = length-replicate start (a_link 0 0 false) in
+pub sound-new : (nodes : ℕ) → 0 < nodes → nodes ≤ MAX_INITIAL_NODES
+    → IsSound nodes (replicate nodes (a_link 0 0 false)) 0 0 []
+sound-new nodes some few =
+    let l : length (replicate nodes (a_link 0 0 false)) ≡ nodes = length-replicate nodes (a_link 0 0 false) in
     record {
       nodes = record { some = some; few = few; linked = omega arith; bounded = omega arith };
-      stamps = all-new HasStamps start (a_link 0 0 false) (omega arith);
-      last = all-new HasLastItem start (a_link 0 0 false) (λ has_retired. absurd cc);
-      top = sym (greatest-new start);
+      stamps = all-new HasStamps nodes (a_link 0 0 false) (omega arith);
+      last = all-new HasLastItem nodes (a_link 0 0 false) (λ has_retired. absurd cc);
+      top = sym (greatest-new nodes);
       horizon = omega arith;
       limits = All-nil _;
     }
 
 -- an item above its node's head is accepted
-pub sound-accept : (start : ℕ) (marks : HeadsView) (horizon : ℕ) (rows : List Row) (node number stamp : ℕ) (body : Body)
-    (last : Bool) → IsSound start marks.links marks.top horizon rows → node < length marks.links
+pub sound-accept : (nodes : ℕ) (marks : HeadsView) (horizon : ℕ) (rows : List Row) (node number stamp : ℕ) (body : Body)
+    (last : Bool) → IsSound nodes marks.links marks.top horizon rows → node < length marks.links
     → (link_at marks.links node).retired ≡ false → number ≡ (link_at marks.links node).next
     → (link_at marks.links node).head < stamp → body_refusal body ≡ None
-    → IsSound start (slice_set marks.links node (a_link (number + 1) stamp last)) (max marks.top stamp) horizon
+    → IsSound nodes (slice_set marks.links node (a_link (number + 1) stamp last)) (max marks.top stamp) horizon
     (rows ++ body_rows node stamp body)
-sound-accept start marks horizon rows node number stamp body last h within here next up limits =
+sound-accept nodes marks horizon rows node number stamp body last h within here next up limits =
     let links : List IntakeView = marks.links in
     let link : IntakeView = a_link (number + 1) stamp last in
     let low : (link_at links node).next ≤ (link_at links node).head = h.stamps node no_link within in
@@ -104,9 +104,9 @@ sound-accept start marks horizon rows node number stamp body last h within here 
     }
 
 -- its rows are put into another order
-pub sound-moved : (start : ℕ) (links : List IntakeView) (top horizon : ℕ) (rows moved : List Row)
-    → IsSound start links top horizon rows → IsPermutation rows moved → IsSound start links top horizon moved
-sound-moved start links top horizon rows moved h moves = record {
+pub sound-moved : (nodes : ℕ) (links : List IntakeView) (top horizon : ℕ) (rows moved : List Row)
+    → IsSound nodes links top horizon rows → IsPermutation rows moved → IsSound nodes links top horizon moved
+sound-moved nodes links top horizon rows moved h moves = record {
   nodes = h.nodes;
   stamps = h.stamps;
   last = h.last;
@@ -116,10 +116,10 @@ sound-moved start links top horizon rows moved h moves = record {
 }
 
 -- a node joins, not below the floor
-pub sound-joined : (start : ℕ) (marks : HeadsView) (horizon at : ℕ) (rows : List Row)
-    → IsSound start marks.links marks.top horizon rows → length marks.links < MAX_NODES → floor_of marks ≤ at
-    → IsSound start (marks.links ++ a_link 0 at false ∷ []) (max marks.top at) horizon rows
-sound-joined start marks horizon at rows h few up =
+pub sound-joined : (nodes : ℕ) (marks : HeadsView) (horizon at : ℕ) (rows : List Row)
+    → IsSound nodes marks.links marks.top horizon rows → length marks.links < MAX_NODES → floor_of marks ≤ at
+    → IsSound nodes (marks.links ++ a_link 0 at false ∷ []) (max marks.top at) horizon rows
+sound-joined nodes marks horizon at rows h few up =
     let links : List IntakeView = marks.links in
     let link : IntakeView = a_link 0 at false in
     let l : length (links ++ link ∷ []) ≡ length links + 1 = length-append links (link ∷ []) in
@@ -140,10 +140,10 @@ sound-joined start marks horizon at rows h few up =
     }
 
 -- rows are dropped up to a stamp that is not above the floor
-pub sound-vacuum : (start : ℕ) (links : List IntakeView) (top horizon at : ℕ) (rows fewer : List Row)
-    → IsSound start links top horizon rows → at ≤ floor_of (marks_of links top)
-    → ((row : Row) → Contains fewer row → Contains rows row) → IsSound start links top at fewer
-sound-vacuum start links top horizon at rows fewer h low within =
+pub sound-vacuum : (nodes : ℕ) (links : List IntakeView) (top horizon at : ℕ) (rows fewer : List Row)
+    → IsSound nodes links top horizon rows → at ≤ floor_of (marks_of links top)
+    → ((row : Row) → Contains fewer row → Contains rows row) → IsSound nodes links top at fewer
+sound-vacuum nodes links top horizon at rows fewer h low within =
     record {
       nodes = h.nodes;
       stamps = h.stamps;

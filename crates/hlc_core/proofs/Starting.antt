@@ -13,11 +13,11 @@ use Rattle.hlc_core.specs.Calls.{new_refusal}
 
 abbrev pub new_core : ℕ → StoreView
 new_core many = record {
-  start = many;
+  initial_nodes = many;
   links = replicate many (a_link 0 0 false);
   top = 0;
   snapshots = [];
-  opened = 0;
+  last_id = 0;
   horizon = 0;
   rows = [];
 }
@@ -36,12 +36,14 @@ pub starts : (many : ℕ) → Represents (new_core many) (Started many ∷ [])
 starts many =
     let l : length (replicate many (a_link 0 0 false)) ≡ many = replicate-length many (a_link 0 0 false) in record {
       legal = (refl, tt);
-      start = refl;
-      many = omega (arith, l);
-      links = λ n lt. get-replicate many n (a_link 0 0 false) (omega arith);
+      initial_nodes = refl;
+      links = record {
+        many = omega (arith, l);
+        each = λ n lt. get-replicate many n (a_link 0 0 false) (omega arith);
+      };
       top = refl;
       snapshots = refl;
-      opened = refl;
+      last_id = refl;
       rows = record {
         row_set = tt;
         all_row_set = tt;

@@ -14,7 +14,7 @@ use Rattle.hlc_snapshot.proofs.RegisterLemmas.{open_before, stamp_in-push_cases,
 use Rattle.hlc_snapshot.proofs.RegisterLemmas.{stamp_in-without_itself, stamp_in-without_other}
 use Rattle.hlc_vacuum_draft.specs.Vacuumed.{rows_to}
 use Rattle.hlc_vacuum_draft.proofs.PartLemmas.{answer-rows_to}
-use Rattle.hlc_core.specs.Past.{Step, Started, Took, Opened, Closed, Vacuumed, PartVacuumed, Joined, floor, opened}
+use Rattle.hlc_core.specs.Past.{Step, Started, Took, Opened, Closed, Vacuumed, PartVacuumed, Joined, floor, last_id}
 use Rattle.hlc_core.specs.Past.{open_snapshots}
 use Rattle.hlc_core.specs.Past.{stamp_of, writes, body_rows, IsLegal}
 use Rattle.hlc_core.proofs.PastLemmas.{writes-row_set, above_floor, floor-grows, floor-joins, open-low, body_rows-are}
@@ -99,7 +99,7 @@ answers-stay past (Took item ∷ more) legal key stamp low =
 
 -- the register of a past
 abbrev register : List Step → RegistryView
-register past = record { snapshots = open_snapshots past; opened = opened past }
+register past = record { snapshots = open_snapshots past; last_id = last_id past }
 
 -- later steps only open and close snapshots
 follows : (past more : List Step) → Follows (register past) (register (more ++ past))
@@ -112,13 +112,13 @@ follows past (Vacuumed at ∷ more) = follows past more
 follows past (PartVacuumed at dropped ∷ more) = follows past more
 follows past (Joined node start ∷ more) = follows past more
 
--- no open snapshot has an id above the number of those that were opened
-id-low : (past : List Step) (id stamp : ℕ) → stamp_of id past ≡ Some stamp → id ≤ opened past
+-- no open snapshot has an id above the last id
+id-low : (past : List Step) (id stamp : ℕ) → stamp_of id past ≡ Some stamp → id ≤ last_id past
 id-low [] id stamp is = absurd (cc)
 id-low (Opened at ∷ past) id stamp is =
-    elim (stamp_in-push_cases id stamp (record { id = opened past + 1; stamp = at }) (open_snapshots past) is) [
+    elim (stamp_in-push_cases id stamp (record { id = last_id past + 1; stamp = at }) (open_snapshots past) is) [
       | inl before ↦ (let low = id-low past id stamp before in omega (arith, low))
-      | inr last ↦ (let same : opened past + 1 ≡ id = last.0 in omega (arith, same))
+      | inr last ↦ (let same : last_id past + 1 ≡ id = last.0 in omega (arith, same))
     ]
 id-low (Started nodes ∷ past) id stamp is = id-low past id stamp is
 id-low (Closed other ∷ past) id stamp is =

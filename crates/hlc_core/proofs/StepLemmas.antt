@@ -1,7 +1,7 @@
 -- Part of a vacuum is a step of each history that the core represented, and so is a refusal, which is never that memory
 -- runs out.
 use Rattle.std.proofs.Common.{◌≡◌, ◌∙◌, ℕ, List, Option, Some, None, Bool, true, false, inl, inr}
-use Rattle.std.proofs.Common.{refl, sym, subst, ap}
+use Rattle.std.proofs.Common.{sym, subst, ap}
 use Rattle.std.specs.Prelude.{Ok, Err, ◌≢◌, Result, IfOk, OnErr, if◌then◌else◌}
 use Rattle.std.specs.declared.alloc.AllocError.{AllocError}
 use Rattle.hlc_node.specs.declared.item.Item.{Item}
@@ -26,7 +26,7 @@ use Rattle.hlc_core.specs.StoreView.{StoreView}
 use Rattle.hlc_core.specs.Parts.{VacuumsPart}
 use Rattle.hlc_core.specs.Calls.{IsRefusal}
 use Rattle.hlc_core.specs.Past.{Step, of_body, of_room, item_refusal, join_at_refusal, open_refusal}
-use Rattle.hlc_core.specs.History.{RepresentsHistory, IsStep, Steps, IsExpected, IsLegalHistory, MayRunOutOfMemory}
+use Rattle.hlc_core.specs.History.{RepresentsHistory, IsStep, Steps, IsExpected, MayRunOutOfMemory}
 use Rattle.hlc_core.specs.History.{past_of, expected_refusal}
 
 pub part_is_step : (nodes : ℕ) (old new : StoreView) (at : ℕ) (after : List ℕ) (most : ℕ)

@@ -14,7 +14,7 @@ use Rattle.hlc_node.specs.Items.{retires}
 use Rattle.hlc_rows.specs.Rows.{IsRowSet}
 use Rattle.hlc_intake.specs.IntakeView.{IntakeView}
 use Rattle.hlc_core.specs.Past.{Step, Took, numbered, count, head, retired, horizon, vacuumed, part_dropped}
-use Rattle.hlc_core.specs.Past.{opened, writes, body_rows, open_snapshots, item_refusal}
+use Rattle.hlc_core.specs.Past.{last_id, writes, body_rows, open_snapshots, item_refusal}
 use Rattle.hlc_core.specs.Past.{IsLegal}
 use Rattle.hlc_core.specs.StoreView.{StoreView, Represents}
 use Rattle.hlc_vacuum.specs.Representing.{RowsRepresent, count_above}
@@ -84,7 +84,7 @@ pub took : (kept : StoreView) (past : List Step) (item : Item) → Represents ke
     → item_refusal past item ≡ None → Represents (after_item kept item) (Took item ∷ past)
 took kept past item h none =
     let inside' : item.node < numbered past = inside past item none in
-    let within : item.node < length kept.links = (let m = h.many in omega (arith, m)) in
+    let within : item.node < length kept.links = (let m = h.links.many in omega (arith, m)) in
     let next : item.number ≡ count item.node past =
     (admissible (retired item.node past) (count item.node past) (head item.node past) item
     (sym (on_link past item inside') ∙ none)).number in
@@ -96,12 +96,14 @@ took kept past item h none =
     let low : vacuumed past ≤ horizon past = vacuumed-low past h.legal in
     record {
       legal = legal;
-      start = h.start;
-      many = same ∙ h.many;
-      links = λ n lt. links-took kept.links past item item.number next within h.links n (rw same at lt);
+      initial_nodes = h.initial_nodes;
+      links = record {
+        many = same ∙ h.links.many;
+        each = λ n lt. links-took kept.links past item item.number next within h.links.each n (rw same at lt);
+      };
       top = ap (λ t. max t item.stamp) h.top;
       snapshots = h.snapshots;
-      opened = h.opened;
+      last_id = h.last_id;
       rows = rows-body kept.rows (writes past) (horizon past) (stamps (open_snapshots past)) item.node
           item.stamp item.body h.rows up (writes-row_set (Took item ∷ past) legal);
       stored = (

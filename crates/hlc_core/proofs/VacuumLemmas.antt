@@ -114,7 +114,7 @@ pub vacuums : (kept : StoreView) (at : ℕ) (past : List Step) (rows : List Row)
     → IsVacuumOf kept.rows report.points report.witnesses rows → report.floor ≡ at
     → report.kept ≡ length report.witnesses → report.dropped + length rows ≡ length kept.rows
     → report.bytes ≡ rows_cost (rows_to report.floor rows)
-    → Vacuums kept (with_rows_left kept rows at) at past report
+    → Vacuums (with_rows_left kept rows at) at past report
 vacuums kept at past rows report h none are made at_stamp number dropped bytes =
     let high : horizon past ≤ at = vacuum-above past at none in
     let after : RepresentsAfterVacuum rows (writes past) at (stamps_to at (open_snapshots past)) report.points
@@ -122,12 +122,11 @@ vacuums kept at past rows report h none are made at_stamp number dropped bytes =
     let now : length rows ≡ length report.witnesses + count_above at (writes past) = after.stored_count in
     let represents : Represents (with_rows_left kept rows at) (Vacuumed at ∷ past) = record {
       legal = (none, h.legal);
-      start = h.start;
-      many = h.many;
+      initial_nodes = h.initial_nodes;
       links = h.links;
       top = h.top;
       snapshots = h.snapshots;
-      opened = h.opened;
+      last_id = h.last_id;
       rows = more-open rows (writes past) at (open_snapshots past) after.represents;
       stored = (
         report.witnesses,

@@ -16,7 +16,7 @@ use Rattle.hlc_vacuum_draft.specs.declared.report.Numbers.{Numbers}
 use Rattle.hlc_vacuum_draft.specs.declared.report.Report.{Report as AReport}
 use Rattle.hlc_vacuum_draft.specs.Report.{numbers_of}
 use Rattle.hlc_core.specs.Listing.{IsListing}
-use Rattle.hlc_core.specs.Past.{Step, Started, Took, Opened, Closed, Vacuumed, Joined, numbered, count, floor, opened}
+use Rattle.hlc_core.specs.Past.{Step, Started, Took, Opened, Closed, Vacuumed, Joined, numbered, count, floor, last_id}
 use Rattle.hlc_core.specs.Past.{stamp_of}
 use Rattle.hlc_core.specs.Past.{writes, item_refusal, join_refusal, join_at_refusal, room_refusal, open_refusal}
 use Rattle.hlc_core.specs.Past.{vacuum_refusal}
@@ -86,16 +86,16 @@ JoinsAt new start past (Ok node) =
     × Represents new (Joined node start ∷ past)
 JoinsAt new start past (Err fault) = IsRefusal (join_at_refusal past start) ⊤ fault
 
--- a snapshot was opened at the stamp, with an id one above the number of those opened before, or refused
+-- a snapshot was opened at the stamp, with an id one above the last id, or refused
 abbrev pub Opens : StoreView → ℕ → List Step → Result ℕ CoreFault → Type 0
 Opens new stamp past (Ok id) =
-    (open_refusal past stamp ≡ None) × (id ≡ opened past + 1) × Represents new (Opened stamp ∷ past)
+    (open_refusal past stamp ≡ None) × (id ≡ last_id past + 1) × Represents new (Opened stamp ∷ past)
 Opens new stamp past (Err fault) = IsRefusal (open_refusal past stamp) ⊤ fault
 
--- a snapshot was opened at the floor, with an id one above the number of those opened before, or refused
+-- a snapshot was opened at the floor, with an id one above the last id, or refused
 abbrev pub OpensAtFloor : StoreView → List Step → Result (ℕ × ℕ) CoreFault → Type 0
 OpensAtFloor new past (Ok opening) =
-    (room_refusal past ≡ None) × (opening ≡ (opened past + 1, floor past))
+    (room_refusal past ≡ None) × (opening ≡ (last_id past + 1, floor past))
     × Represents new (Opened (floor past) ∷ past)
 OpensAtFloor new past (Err fault) = IsRefusal (room_refusal past) ⊤ fault
 
@@ -121,7 +121,7 @@ Lists id past (Err fault) = IsRefusal (list_refusal (stamp_of id past)) ⊤ faul
 
 -- a vacuum to a stamp took place: the core represents it, the report is the expected one, and the remaining rows are
 -- the fewest against all accepted writes
-pub record Vacuums (old new : StoreView) (at : ℕ) (past : List Step) (report : AReport) : Type 0 where
+pub record Vacuums (new : StoreView) (at : ℕ) (past : List Step) (report : AReport) : Type 0 where
   pub represents : Represents new (Vacuumed at ∷ past)
   pub expected : IsReport at past report
   pub fewest : LeavesFewest new.rows (writes past) report
@@ -133,19 +133,19 @@ ChecksVacuum at past result =
     (λ fault. vacuum_refusal past at ≡ Some fault)
 
 -- a vacuum to the stamp took place, or was refused
-abbrev pub VacuumsTo : StoreView → StoreView → ℕ → List Step → Result AReport CoreFault → Type 0
-VacuumsTo old new at past (Ok report) =
-    (vacuum_refusal past at ≡ None) × Vacuums old new at past report
-VacuumsTo old new at past (Err fault) = IsRefusal (vacuum_refusal past at) ⊤ fault
+abbrev pub VacuumsTo : StoreView → ℕ → List Step → Result AReport CoreFault → Type 0
+VacuumsTo new at past (Ok report) =
+    (vacuum_refusal past at ≡ None) × Vacuums new at past report
+VacuumsTo new at past (Err fault) = IsRefusal (vacuum_refusal past at) ⊤ fault
 
 -- a vacuum to a stamp took place, and these are the numbers of its report
-pub record VacuumsCounted (old new : StoreView) (at : ℕ) (past : List Step) (numbers : Numbers) : Type 0 where
+pub record VacuumsCounted (new : StoreView) (at : ℕ) (past : List Step) (numbers : Numbers) : Type 0 where
   pub report : AReport
-  pub vacuums : Vacuums old new at past report
+  pub vacuums : Vacuums new at past report
   pub are : numbers ≡ numbers_of report
 
 -- the same, or it was refused
-abbrev pub VacuumsToCounted : StoreView → StoreView → ℕ → List Step → Result Numbers CoreFault → Type 0
-VacuumsToCounted old new at past (Ok numbers) =
-    (vacuum_refusal past at ≡ None) × VacuumsCounted old new at past numbers
-VacuumsToCounted old new at past (Err fault) = IsRefusal (vacuum_refusal past at) ⊤ fault
+abbrev pub VacuumsToCounted : StoreView → ℕ → List Step → Result Numbers CoreFault → Type 0
+VacuumsToCounted new at past (Ok numbers) =
+    (vacuum_refusal past at ≡ None) × VacuumsCounted new at past numbers
+VacuumsToCounted new at past (Err fault) = IsRefusal (vacuum_refusal past at) ⊤ fault

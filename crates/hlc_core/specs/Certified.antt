@@ -16,7 +16,7 @@ use Rattle.hlc_core.specs.Calls.{IsRefusal, Vacuums}
 -- rows at or below the stamp are the fewest, and the cheapest, that answer as all accepted writes do at the snapshots
 -- open at or below it and at the stamp.
 pub record IsCertified (kept : StoreView) (at : ℕ) (past : List Step) (report : Report) : Type 0 where
-  pub vacuums : Vacuums kept (with_rows_left kept kept.rows at) at past report
+  pub vacuums : Vacuums (with_rows_left kept kept.rows at) at past report
   pub none_dropped : report.dropped ≡ 0
 
 -- a row set that answers as all accepted writes do at the points of a vacuum to the stamp has fewer rows than are

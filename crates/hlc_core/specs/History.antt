@@ -14,7 +14,7 @@ use Rattle.hlc_core.specs.declared.reply.CoreReply.{CoreReply}
 use Rattle.hlc_core.specs.declared.reply.CoreReply.TheVariants.{Accepted, Joined, Opened, Answer, Listing, Closed}
 use Rattle.hlc_core.specs.declared.reply.CoreReply.TheVariants.{Vacuumed, VacuumedPart, Refused}
 use Rattle.hlc_core.specs.Past.{Step, Started, Took, Joined as JoinedAt, Opened as OpenedAt, Closed as ClosedOf}
-use Rattle.hlc_core.specs.Past.{Vacuumed as VacuumedTo, PartVacuumed, numbered, floor, opened, stamp_of, writes}
+use Rattle.hlc_core.specs.Past.{Vacuumed as VacuumedTo, PartVacuumed, numbered, floor, last_id, stamp_of, writes}
 use Rattle.hlc_core.specs.Past.{item_refusal, join_refusal, join_at_refusal, room_refusal, open_refusal, vacuum_refusal}
 use Rattle.hlc_core.specs.Stored.{IsReport, LeavesFewest}
 use Rattle.hlc_core.specs.StoreView.{StoreView, Represents}
@@ -71,8 +71,8 @@ abbrev pub IsExpectedReply : List Step → CoreEvent → CoreReply → Type 0
 IsExpectedReply past (Accept item) (Accepted accepted) =
     accepted ≡ record { node = item.node; stamp = item.stamp; retires = retires item.body }
 IsExpectedReply past Join (Joined node start) = (node ≡ numbered past) × (start ≡ floor past)
-IsExpectedReply past (OpenAt at) (Opened id stamp) = (id ≡ opened past + 1) × (stamp ≡ at)
-IsExpectedReply past OpenFloor (Opened id stamp) = (id ≡ opened past + 1) × (stamp ≡ floor past)
+IsExpectedReply past (OpenAt at) (Opened id stamp) = (id ≡ last_id past + 1) × (stamp ≡ at)
+IsExpectedReply past OpenFloor (Opened id stamp) = (id ≡ last_id past + 1) × (stamp ≡ floor past)
 IsExpectedReply past (Read id key) (Answer value) = IsAnswer (stamp_of id past) (answer (writes past) key) value
 IsExpectedReply past (ListAll id) (Listing pairs) = IsListed (stamp_of id past) (writes past) pairs
 IsExpectedReply past (Close id) (Closed stamp) = stamp_of id past ≡ Some stamp

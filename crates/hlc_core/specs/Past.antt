@@ -124,16 +124,16 @@ writes [] = []
 writes (Took item ∷ past) = writes past ++ item_rows item
 writes (_ ∷ past) = writes past
 
--- the number of snapshots that were opened
-abbrev pub opened : List Step → ℕ
-opened [] = 0
-opened (Opened stamp ∷ past) = opened past + 1
-opened (_ ∷ past) = opened past
+-- the last id of a snapshot that was assigned, 0 if none: the number of those that were opened
+abbrev pub last_id : List Step → ℕ
+last_id [] = 0
+last_id (Opened stamp ∷ past) = last_id past + 1
+last_id (_ ∷ past) = last_id past
 
--- the open snapshots, the oldest first; each id is one above the number of those opened before
+-- the open snapshots, the oldest first; each id is one above the last id before
 abbrev pub open_snapshots : List Step → List Snapshot
 open_snapshots [] = []
-open_snapshots (Opened stamp ∷ past) = open_snapshots past ++ record { id = opened past + 1; stamp = stamp } ∷ []
+open_snapshots (Opened stamp ∷ past) = open_snapshots past ++ record { id = last_id past + 1; stamp = stamp } ∷ []
 open_snapshots (Closed id ∷ past) = without id (open_snapshots past)
 open_snapshots (_ ∷ past) = open_snapshots past
 
@@ -185,7 +185,7 @@ of_room (Some fault) = Some (of_registry fault)
 
 -- the first reason that no more snapshot can be opened, apart from memory
 abbrev pub room_refusal : List Step → Option CoreFault
-room_refusal past = of_room (room_in (length (open_snapshots past)) (opened past))
+room_refusal past = of_room (room_in (length (open_snapshots past)) (last_id past))
 
 -- a stamp is above the floor, or below the horizon; or else this other reason, if there is one
 abbrev pub open_after : ℕ → ℕ → Option CoreFault → ℕ → Option CoreFault

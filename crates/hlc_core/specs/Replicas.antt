@@ -1,7 +1,8 @@
 -- What replicas of one log have in common: the same items of each node, and the same nodes that joined at the same
 -- starts, in any order between the links, with any snapshots and vacuums between.
-use Rattle.std.specs.Prelude.{◌≡◌, ℕ, List, [], ◌∷◌, ◌++◌, ◌==◌, if◌then◌else◌}
+use Rattle.std.specs.Prelude.{◌≡◌, ℕ, Bool, false, List, [], ◌∷◌, ◌++◌, ◌==◌, if◌then◌else◌}
 use Rattle.hlc_node.specs.declared.item.Item.{Item}
+use Rattle.hlc_node.specs.Items.{retires}
 use Rattle.hlc_core.specs.Past.{Step, initial_nodes, Took, Joined, IsLegal}
 
 -- the accepted items of a node, the last one first
@@ -9,6 +10,11 @@ abbrev pub items_of : ℕ → List Step → List Item
 items_of n [] = []
 items_of n (Took item ∷ past) = if item.node == n then item ∷ items_of n past else items_of n past
 items_of n (_ ∷ past) = items_of n past
+
+-- the first of some items is its node's last one
+abbrev pub have_ended : List Item → Bool
+have_ended [] = false
+have_ended (item ∷ items) = retires item.body
 
 -- the nodes that joined, each with its start, the last one first
 abbrev pub joins_of : List Step → List (ℕ × ℕ)
@@ -19,7 +25,7 @@ joins_of (_ ∷ past) = joins_of past
 -- the same number of nodes at the start, the same nodes joined at the same starts, and the same items of each node were
 -- accepted
 pub record AreReplicas (past other : List Step) : Type 0 where
-  pub start : initial_nodes past ≡ initial_nodes other
+  pub initial_nodes : initial_nodes past ≡ initial_nodes other
   pub joins : joins_of past ≡ joins_of other
   pub items : (n : ℕ) → items_of n past ≡ items_of n other
 

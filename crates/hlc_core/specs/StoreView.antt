@@ -3,7 +3,7 @@ use Rattle.std.specs.Prelude.{◌≡◌, ℕ, ◌<◌, List, length, Some, slice
 use Rattle.hlc_intake.specs.IntakeView.{IntakeView}
 use Rattle.hlc_snapshot.specs.RegistryView.{stamps}
 use Rattle.hlc_vacuum.specs.Representing.{RowsRepresent}
-use Rattle.hlc_core.specs.Past.{Step, initial_nodes, numbered, count, head, retired, top, horizon, opened}
+use Rattle.hlc_core.specs.Past.{Step, initial_nodes, numbered, count, head, retired, top, horizon, last_id}
 use Rattle.hlc_core.specs.Past.{open_snapshots, writes}
 use Rattle.hlc_core.specs.Past.{IsLegal}
 use Rattle.hlc_core.specs.Stored.{IsStoredCount}
@@ -21,13 +21,11 @@ pub record AreLinks (past : List Step) (links : List IntakeView) : Type 0 where
 -- snapshot and from the horizon on, and their number is the expected one.
 pub record Represents (kept : StoreView) (past : List Step) : Type 0 where
   pub legal : IsLegal past
-  pub start : kept.start ≡ initial_nodes past
-  pub many : length kept.links ≡ numbered past
-  pub links : (n : ℕ) → n < length kept.links
-      → slice_get kept.links n ≡ Some (record { next = count n past; head = head n past; retired = retired n past })
+  pub initial_nodes : kept.initial_nodes ≡ initial_nodes past
+  pub links : AreLinks past kept.links
   pub top : kept.top ≡ top past
   pub snapshots : kept.snapshots ≡ open_snapshots past
-  pub opened : kept.opened ≡ opened past
+  pub last_id : kept.last_id ≡ last_id past
   pub rows : RowsRepresent kept.rows (writes past) (horizon past) (stamps (open_snapshots past))
   pub stored : IsStoredCount past (length kept.rows)
   pub horizon : kept.horizon ≡ horizon past

@@ -136,7 +136,8 @@ pub fn histories_are_faithful()
 /// `Core::restore` refuses it only if memory runs out.
 pub fn checkpoints_restore()
     ensures sound { (kept : StoreView) (past : List Step) → Represents kept past
-        → 0 < kept.start → kept.start ≤ MAX_INITIAL_NODES → RowsAscend kept.rows → IsCheckpoint kept }
+        → 0 < kept.initial_nodes → kept.initial_nodes ≤ MAX_INITIAL_NODES → RowsAscend kept.rows
+        → IsCheckpoint kept }
     ensures copies { (kept copy : StoreView) (past : List Step) → Represents kept past
         → IsCopyOf kept copy → Represents copy past }
     ensures refused { (kept : StoreView) (fault : AFault) → IsFirstReason kept fault → fault ≢ no_memory

@@ -22,7 +22,7 @@ impl Core {
     pub fn vacuum(&mut self) -> Result<Report, NoMemory>
         ensures ok { IfOk result
             (λ report. (past : List Step) → Represents self.old past
-            → Vacuums self.old self.new (floor past) past report) }
+            → Vacuums self.new (floor past) past report) }
         ensures unchanged { OnErr result (self.new ≡ self.old) }
     {
         let floor = self.floor();
@@ -34,7 +34,7 @@ impl Core {
     pub fn vacuum_parallel(&mut self, rt: &(impl Threads + Sync)) -> Result<Report, NoMemory>
         ensures ok { IfOk result
             (λ report. (past : List Step) → Represents self.old past
-            → Vacuums self.old self.new (floor past) past report) }
+            → Vacuums self.new (floor past) past report) }
         ensures unchanged { OnErr result (self.new ≡ self.old) }
     {
         let floor = self.floor();
@@ -46,7 +46,7 @@ impl Core {
     pub fn vacuum_pair(&mut self) -> Result<(Report, Report), NoMemory>
         ensures ok { IfOk result
             (λ reports. (past : List Step) → Represents self.old past
-            → Vacuums self.old self.new (floor past) past reports.0) }
+            → Vacuums self.new (floor past) past reports.0) }
         ensures alike { IfOk result (λ reports. reports.0 ≡ reports.1) }
         ensures unchanged { OnErr result (self.new ≡ self.old) }
     {
@@ -64,7 +64,7 @@ impl Core {
     ) -> Result<(Report, Report), NoMemory>
         ensures ok { IfOk result
             (λ reports. (past : List Step) → Represents self.old past
-            → Vacuums self.old self.new (floor past) past reports.0) }
+            → Vacuums self.new (floor past) past reports.0) }
         ensures alike { IfOk result (λ reports. reports.0 ≡ reports.1) }
         ensures unchanged { OnErr result (self.new ≡ self.old) }
     {
@@ -79,7 +79,7 @@ impl Core {
     pub fn vacuum_counted(&mut self) -> Result<Numbers, NoMemory>
         ensures ok { IfOk result
             (λ numbers. (past : List Step) → Represents self.old past
-            → VacuumsCounted self.old self.new (floor past) past numbers) }
+            → VacuumsCounted self.new (floor past) past numbers) }
         ensures unchanged { OnErr result (self.new ≡ self.old) }
     {
         let floor = self.floor();
@@ -95,7 +95,7 @@ impl Core {
     /// the core unchanged.
     pub fn vacuum_to(&mut self, at: Stamp) -> Result<Report, CoreFault>
         ensures represents { (past : List Step) → Represents self.old past
-            → VacuumsTo self.old self.new at past result }
+            → VacuumsTo self.new at past result }
         ensures unchanged { OnErr result (self.new ≡ self.old) }
     {
         self.check_vacuum(at)?;
@@ -106,7 +106,7 @@ impl Core {
     /// Vacuums as `vacuum_to` does, and returns the numbers of the report alone, as `vacuum_counted` does.
     pub fn vacuum_to_counted(&mut self, at: Stamp) -> Result<Numbers, CoreFault>
         ensures represents { (past : List Step) → Represents self.old past
-            → VacuumsToCounted self.old self.new at past result }
+            → VacuumsToCounted self.new at past result }
         ensures unchanged { OnErr result (self.new ≡ self.old) }
     {
         match self.check_vacuum(at) {
@@ -161,7 +161,7 @@ impl Core {
         requires high { self.old.horizon ≤ at }
         ensures ok { IfOk result
             (λ numbers. (past : List Step) → Represents self.old past
-            → VacuumsCounted self.old self.new at past numbers) }
+            → VacuumsCounted self.new at past numbers) }
         ensures unchanged { OnErr result (self.new ≡ self.old) }
     {
         let tally = self.tally(at)?;

@@ -1,5 +1,5 @@
 //! The calls that read a store.
-ghost use Rattle.std.specs.Prelude.{◌≡◌, ◌≢◌, List, length, true, false};
+ghost use Rattle.std.specs.Prelude.{◌≡◌, ◌≢◌, length, true, false};
 ghost use Rattle.hlc_core.specs.Past.{closed_all, floor, stamp_of, writes};
 ghost use Rattle.hlc_core.specs.StoreView.{Represents};
 ghost use Rattle.hlc_calls.specs.Answers.{ReturnsOpened, ReturnsOpenedAtFloor, ReturnsClosed, ReturnsRead};

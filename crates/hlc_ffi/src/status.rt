@@ -1,5 +1,5 @@
 //! What a store has: its horizon, its nodes and its open snapshots. No call takes memory.
-ghost use Rattle.std.specs.Prelude.{◌≡◌, List, false, slice_get};
+ghost use Rattle.std.specs.Prelude.{◌≡◌, false, slice_get};
 ghost use Rattle.hlc_core.specs.Past.{horizon, numbered, open_snapshots};
 ghost use Rattle.hlc_calls.specs.Status.{ReturnsLink, ReturnsHolder, ReturnsSnapshot};
 ghost use Rattle.hlc_ffi.specs.Handle.{OnReaderPast, IsGivenBack};

@@ -28,7 +28,7 @@ pub extern "C" fn hlc_store_vacuum(
     dropped: &mut u64,
 ) -> u32
     ensures answer { OnStore store.old.value store.new.value (result ≡ 100) (λ old new. result ≡ 0 → (past : List Step)
-        → Represents old past → ReturnsVacuumedAtFloor old new past floor.new kept.new bytes.new dropped.new) }
+        → Represents old past → ReturnsVacuumedAtFloor new past floor.new kept.new bytes.new dropped.new) }
     ensures shortage { OnStore store.old.value store.new.value (result ≡ 100) (λ old new. result ≢ 0 → result ≡ 15) }
     ensures nothing { result ≢ 0 → (floor.new ≡ 0) × (kept.new ≡ 0) × (bytes.new ≡ 0) × (dropped.new ≡ 0) }
     ensures unchanged { result ≢ 0 → store.new.value ≡ store.old.value }
@@ -68,7 +68,7 @@ pub extern "C" fn hlc_store_vacuum_to(
 ) -> u32
     ensures answer { OnStore store.old.value store.new.value
         ((result ≡ 100) × (word.new ≡ 0)) (λ old new. (past : List Step) → Represents old past
-        → ReturnsVacuumedTo old new at past result word.new kept.new bytes.new dropped.new) }
+        → ReturnsVacuumedTo new at past result word.new kept.new bytes.new dropped.new) }
     ensures nothing { result ≢ 0 → (kept.new ≡ 0) × (bytes.new ≡ 0) × (dropped.new ≡ 0) }
     ensures unchanged { result ≢ 0 → store.new.value ≡ store.old.value }
 {

@@ -32,7 +32,7 @@ use Rattle.hlc_checkpoint.specs.Sorted.{rows_above}
 use Rattle.hlc_checkpoint.proofs.CheckpointLemmas.{row_set-moved, sound-has_no_reason}
 use Rattle.hlc_core.specs.Past.{Step, Started, Took, Opened, Closed, Vacuumed, PartVacuumed, Joined, floor, horizon}
 use Rattle.hlc_core.specs.Past.{vacuumed}
-use Rattle.hlc_core.specs.Past.{initial_nodes, numbered, part_dropped, opened, open_snapshots, writes, item_rows}
+use Rattle.hlc_core.specs.Past.{initial_nodes, numbered, part_dropped, last_id, open_snapshots, writes, item_rows}
 use Rattle.hlc_core.specs.Past.{body_rows, IsLegal}
 use Rattle.hlc_core.specs.StoreView.{StoreView, with_rows_left, Represents}
 use Rattle.hlc_core.specs.Checkpoint.{IsCheckpoint, floor_in}
@@ -173,7 +173,8 @@ open-before : (past more : List Step) (stamp : ℕ) → IsLegal (more ++ past)
     → Contains (stamps (open_snapshots past)) stamp
 open-before past [] stamp legal m low = m
 open-before past (Opened at ∷ more) stamp legal m low =
-    elim (stamps-push (open_snapshots (more ++ past)) (record { id = opened (more ++ past) + 1; stamp = at }) stamp m) [
+    elim (stamps-push (open_snapshots (more ++ past)) (record { id = last_id (more ++ past) + 1; stamp = at }) stamp
+    m) [
       | inl old ↦ open-before past more stamp legal.1 old low
       | inr new ↦ absurd (let up : horizon (more ++ past) ≤ at = open-above (more ++ past) at legal.0 in
           let grown = horizon-grows past more legal.1 in
@@ -368,13 +369,15 @@ module _ (since : ℕ) (older newer : StoreView) (upper : List Row) (past more :
       let now : List Step = without_drops more ++ past in
       record {
         legal = drops-legal more past g.legal;
-        start = g.start ∙ sym are.starts;
-        many = g.many ∙ sym are.numbers;
-        links = λ n lt. g.links n lt ∙ rw (are.counts n, are.heads n, are.away n) refl;
-        top = g.top ∙ sym are.tops;
-        snapshots = g.snapshots ∙ sym are.snapshots;
-        opened = g.opened ∙ sym are.many;
-        rows = rw (are.rows, are.horizons, are.snapshots) joined-represent;
+        initial_nodes = g.initial_nodes ∙ sym are.alike.0;
+        links = record {
+          many = g.links.many ∙ sym are.alike.1;
+          each = λ n lt. let link = are.alike.2 n in g.links.each n lt ∙ rw (link.0, link.1, link.2) refl;
+        };
+        top = g.top ∙ sym are.alike.3;
+        snapshots = g.snapshots ∙ sym are.alike.5;
+        last_id = g.last_id ∙ sym are.alike.4;
+        rows = rw (are.rows, are.horizons, are.alike.5) joined-represent;
         stored = (
           h.stored.0,
           drops-last_changes more past h.stored.0 h.stored.1,
@@ -412,18 +415,18 @@ numbered-grows past (PartVacuumed at dropped ∷ more) = numbered-grows past mor
 numbered-grows past (Joined node start ∷ more) = (let h = numbered-grows past more in omega (arith, h))
 
 -- and so is the number of those at the start
-start-stays : (past more : List Step) → 0 < initial_nodes past → IsLegal (more ++ past)
+initial_nodes-stay : (past more : List Step) → 0 < initial_nodes past → IsLegal (more ++ past)
     → initial_nodes (more ++ past) ≡ initial_nodes past
-start-stays past [] some legal = refl
-start-stays past (Took item ∷ more) some legal = start-stays past more some legal.1
-start-stays past (Opened stamp ∷ more) some legal = start-stays past more some legal.1
-start-stays past (Started nodes ∷ more) some legal =
+initial_nodes-stay past [] some legal = refl
+initial_nodes-stay past (Took item ∷ more) some legal = initial_nodes-stay past more some legal.1
+initial_nodes-stay past (Opened stamp ∷ more) some legal = initial_nodes-stay past more some legal.1
+initial_nodes-stay past (Started nodes ∷ more) some legal =
     absurd (let none : initial_nodes (more ++ past) ≡ 0 = ap initial_nodes legal.0 in
-    let same = start-stays past more some legal.1 in omega (arith, some, none, same))
-start-stays past (Closed id ∷ more) some legal = start-stays past more some legal.1
-start-stays past (Vacuumed at ∷ more) some legal = start-stays past more some legal.1
-start-stays past (PartVacuumed at dropped ∷ more) some legal = start-stays past more some legal.1
-start-stays past (Joined node start ∷ more) some legal = start-stays past more some legal.3
+    let same = initial_nodes-stay past more some legal.1 in omega (arith, some, none, same))
+initial_nodes-stay past (Closed id ∷ more) some legal = initial_nodes-stay past more some legal.1
+initial_nodes-stay past (Vacuumed at ∷ more) some legal = initial_nodes-stay past more some legal.1
+initial_nodes-stay past (PartVacuumed at dropped ∷ more) some legal = initial_nodes-stay past more some legal.1
+initial_nodes-stay past (Joined node start ∷ more) some legal = initial_nodes-stay past more some legal.3
 
 -- the increment of a later state fits an older checkpoint, unless its stamp is above that one's floor
 pub fits-unless_above : (older newer : StoreView) (increment : IncrementView) (past more : List Step)
@@ -441,11 +444,11 @@ fits-unless_above older newer increment past more h is g of is' faults.NotLater 
     let at : increment.state.horizon ≡ newer.horizon = ap (λ (view : StoreView). view.horizon) state in
     let grown = numbered-grows past more in
     let rose = horizon-grows past more g.legal in
-    let some : 0 < initial_nodes past = rw (← h.start) is.nodes.some in
+    let some : 0 < initial_nodes past = rw (← h.initial_nodes) is.nodes.some in
     absurd (none (record {
-      start = h.start ∙ sym (start-stays past more some g.legal) ∙ sym g.start
-          ∙ sym (ap (λ (view : StoreView). view.start) state);
-      links = (let before = h.many in let after = g.many in omega (arith, before, grown, after, links));
+      initial_nodes = h.initial_nodes ∙ sym (initial_nodes-stay past more some g.legal) ∙ sym g.initial_nodes
+          ∙ sym (ap (λ (view : StoreView). view.initial_nodes) state);
+      links = (let before = h.links.many in let after = g.links.many in omega (arith, before, grown, after, links));
       horizon = (let before = h.horizon in let after = g.horizon in omega (arith, before, after, rose, at));
     }))
 fits-unless_above older newer increment past more h is g of is' (faults.AboveFloor f) reason =

@@ -44,7 +44,7 @@ without_drops (PartVacuumed at dropped ∷ past) = PartVacuumed at 0 ∷ without
 
 -- the state may be a later one of the same store: as many nodes at the start, no fewer links, and no lower horizon
 pub record MayBeLater (older newer : StoreView) : Type 0 where
-  pub start : older.start ≡ newer.start
+  pub initial_nodes : older.initial_nodes ≡ newer.initial_nodes
   pub links : length older.links ≤ length newer.links
   pub horizon : older.horizon ≤ newer.horizon
 

@@ -125,11 +125,11 @@ pub fn advance(older: Checkpoint, increment: Increment) -> Result<Checkpoint, Ad
         return Err(fault);
     }
     let (since, state) = increment.into_parts();
-    let (start, opened, horizon) = (state.start(), state.opened(), state.horizon());
+    let (nodes, last_id, horizon) = (state.initial_nodes(), state.last_id(), state.horizon());
     let (_, _, lower) = older.into_lists();
     let (links, snapshots, upper) = state.into_lists();
     let rows = merged(lower, since, upper)?;
-    Ok(Checkpoint::of(start, links, snapshots, opened, horizon, rows))
+    Ok(Checkpoint::of(nodes, links, snapshots, last_id, horizon, rows))
 }
 
 /// Returns the first reason against an increment of a checkpoint, or none; never out of memory.
@@ -166,7 +166,7 @@ fn reason_against(older: &Checkpoint, increment: &Increment) -> Option<AdvanceFa
 fn may_be_later(older: &Checkpoint, newer: &Checkpoint) -> bool
     ensures { IsTrue result ↔ MayBeLater older.now newer.now }
 {
-    older.start() == newer.start()
+    older.initial_nodes() == newer.initial_nodes()
         && older.links().len() <= newer.links().len()
         && older.horizon() <= newer.horizon()
 }

@@ -1,59 +1,16 @@
 -- What the accepted items of a node say of its link in a past.
-use Rattle.std.proofs.Common.{◌≡◌, ℕ, ◌+◌, List, [], ◌∷◌, length, refl, ap, sym}
-use Rattle.std.proofs.Common.{◌∙◌, subst, inl, inr, arith}
-use Rattle.std.specs.Prelude.{Contains, ◌==◌}
-use Rattle.std.proofs.lemmas.Bool.{cond-true, cond-false, eq-eqb, ne_eqb, cases_eq}
+use Rattle.std.proofs.Common.{ℕ, List, [], ◌∷◌}
+use Rattle.std.proofs.Common.{subst, inl, inr}
+use Rattle.std.specs.Prelude.{Contains}
+use Rattle.std.proofs.lemmas.Bool.{cases_eq}
 use Rattle.std.proofs.lemmas.List.Elements.{Contains-append_cases}
 use Rattle.hlc_values.proofs.MemberLemmas.{Contains-none, Contains-first, Contains-rest, Contains-cons_cases}
 use Rattle.hlc_rows.specs.declared.row.Row.{Row}
 use Rattle.hlc_node.specs.declared.item.Item.{Item}
-use Rattle.hlc_core.specs.Past.{Step, Started, Took, Opened, Closed, Vacuumed, PartVacuumed, Joined, count, retired}
+use Rattle.hlc_core.specs.Past.{Step, Started, Took, Opened, Closed, Vacuumed, PartVacuumed, Joined}
 use Rattle.hlc_core.specs.Past.{writes}
 use Rattle.hlc_core.specs.Past.{item_rows}
 use Rattle.hlc_core.specs.Replicas.{items_of}
-use Rattle.hlc_core.proofs.PastLemmas.{retired-same, retired-other, count-other}
-use Rattle.hlc_ranges.specs.Run.{have_ended}
-
-pub items-same : (n : ℕ) (item : Item) (past : List Step) → item.node ≡ n
-    → items_of n (Took item ∷ past) ≡ item ∷ items_of n past
-items-same n item past e = cond-true _ _ _ (eq-eqb _ _ e)
-
-pub items-other : (n : ℕ) (item : Item) (past : List Step) → (item.node ≡ n → ⊥)
-    → items_of n (Took item ∷ past) ≡ items_of n past
-items-other n item past e = cond-false _ _ _ (ne_eqb _ _ e)
-
--- a node retired if its last accepted item is its last one
-pub retired-by : (past : List Step) (n : ℕ) → retired n past ≡ have_ended (items_of n past)
-retired-by [] n = refl
-retired-by (Opened stamp ∷ past) n = retired-by past n
-retired-by (Started nodes ∷ past) n = retired-by past n
-retired-by (Closed id ∷ past) n = retired-by past n
-retired-by (Vacuumed at ∷ past) n = retired-by past n
-retired-by (PartVacuumed at dropped ∷ past) n = retired-by past n
-retired-by (Joined node start ∷ past) n = retired-by past n
-retired-by (Took item ∷ past) n =
-    elim (cases_eq item.node n) [
-      | inl same ↦ retired-same n item past same ∙ sym (ap have_ended (items-same n item past same))
-      | inr other ↦ retired-other n item past other ∙ retired-by past n
-          ∙ sym (ap have_ended (items-other n item past other))
-    ]
-
-pub count-by : (past : List Step) (n : ℕ) → count n past ≡ length (items_of n past)
-count-by [] n = refl
-count-by (Opened stamp ∷ past) n = count-by past n
-count-by (Started nodes ∷ past) n = count-by past n
-count-by (Closed id ∷ past) n = count-by past n
-count-by (Vacuumed at ∷ past) n = count-by past n
-count-by (PartVacuumed at dropped ∷ past) n = count-by past n
-count-by (Joined node start ∷ past) n = count-by past n
-count-by (Took item ∷ past) n =
-    elim (cases_eq item.node n) [
-      | inl same ↦
-          cond-true (item.node == n) (count n past + 1) (count n past) (eq-eqb _ _ same)
-          ∙ ap (λ k. k + 1) (count-by past n) ∙ sym (ap length (items-same n item past same) ∙ (omega arith))
-      | inr other ↦ count-other n item past other ∙ count-by past n
-          ∙ sym (ap length (items-other n item past other))
-    ]
 
 -- an item of a node was accepted
 pub items-accepted : (past : List Step) (n : ℕ) (item : Item) → Contains (items_of n past) item

@@ -1,13 +1,13 @@
 -- A run of several stores and of the machines that write to them: what took place, in order, and what it says of each
 -- store, each link and each clock.
-use Rattle.std.specs.Prelude.{◌≡◌, ℕ, Bool, false, ◌<◌, ◌≤◌, List, [], ◌∷◌, ◌++◌, length, max, Option, Some, None}
+use Rattle.std.specs.Prelude.{◌≡◌, ℕ, false, ◌<◌, ◌≤◌, List, [], ◌∷◌, ◌++◌, length, max, Option, Some, None}
 use Rattle.std.specs.Prelude.{◌==◌, if◌then◌else◌, ⊤, Contains, All}
 use Rattle.hlc_rows.specs.declared.row.Row.{Row}
 use Rattle.hlc_node.specs.declared.item.Item.{Item}
 use Rattle.hlc_node.specs.declared.item.Body.{Body}
 use Rattle.hlc_node.specs.declared.item.Body.TheVariants.{Write, Batch, Report, Retire}
-use Rattle.hlc_node.specs.Items.{retires}
 use Rattle.hlc_core.specs.Past.{Step, Started, Took, Joined, numbered, floor, item_rows, IsLegal as IsLegalPast}
+pub use Rattle.hlc_core.specs.Replicas.{have_ended}
 
 -- How nodes and keys are divided: the number of stores; the number of nodes at the start of each store; the machine of
 -- each node of each store, which may be a machine of several nodes; and the store of each key.
@@ -41,11 +41,6 @@ issued s n [] = []
 issued s n (Issued t item ∷ run) =
     if t == s then (if item.node == n then item ∷ issued s n run else issued s n run) else issued s n run
 issued s n (_ ∷ run) = issued s n run
-
--- the last of some items is its node's last one
-abbrev pub have_ended : List Item → Bool
-have_ended [] = false
-have_ended (item ∷ items) = retires item.body
 
 -- the machine and the stamp of an event
 abbrev pub stamping_of : Layout → Turn → Option (ℕ × ℕ)

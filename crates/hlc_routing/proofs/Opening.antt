@@ -3,7 +3,7 @@ use Rattle.std.proofs.Common.{◌≡◌, ℕ, ◌+◌, ◌<◌, ◌≤◌, List,
 use Rattle.std.proofs.Common.{refl, ap, sym, ◌∙◌, subst, inl, inr, arith, length-append}
 use Rattle.std.proofs.lemmas.Bool.{cases_eq}
 use Rattle.std.proofs.lemmas.List.{get_or_append_left, get_or_push}
-use Rattle.hlc_core.specs.Past.{Step, Opened, Closed, opened, open_snapshots, stamp_of, open_refusal, floor}
+use Rattle.hlc_core.specs.Past.{Step, Opened, Closed, last_id, open_snapshots, stamp_of, open_refusal, floor}
 use Rattle.hlc_core.specs.Past.{IsLegal as IsLegalPast}
 use Rattle.hlc_core.proofs.CheckpointLemmas.{register-of}
 use Rattle.hlc_core.proofs.PastLemmas.{open-below, open-low}
@@ -43,7 +43,7 @@ pub one-opened : (layout : Layout) (old new : RangesView) (stamp : ℕ) (run : L
 one-opened layout old new stamp run ids n id h opens =
     let many : length ids ≡ n = h.many in
     let id_is : id ≡ next_id layout run n =
-    opens.1 ∙ ap (λ past. opened past + 1) (past-after layout (opening stamp) n n run (omega arith)) in
+    opens.1 ∙ ap (λ past. last_id past + 1) (past-after layout (opening stamp) n n run (omega arith)) in
     record {
       many = length-append ids (id ∷ []) ∙ ap (λ k. k + 1) many;
       assigned = λ s below.
@@ -75,9 +75,9 @@ one-refused layout old new stamp run ids n (Store fault) inside h opens same = r
 
 -- a snapshot that was just opened is open, at its stamp
 pub just-opened : (past : List Step) (stamp : ℕ) → IsLegalPast past
-    → stamp_of (opened past + 1) (Opened stamp ∷ past) ≡ Some stamp
+    → stamp_of (last_id past + 1) (Opened stamp ∷ past) ≡ Some stamp
 just-opened past stamp legal =
-    opened-here (record { snapshots = open_snapshots past; opened = opened past }) stamp (register-of past legal)
+    opened-here (record { snapshots = open_snapshots past; last_id = last_id past }) stamp (register-of past legal)
 
 -- each of the first stores has its snapshot open
 pub opened-each : (layout : Layout) (old kept : RangesView) (stamp : ℕ) (run : List Turn) (ids : List ℕ) (n s : ℕ)

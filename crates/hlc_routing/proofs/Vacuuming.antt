@@ -26,7 +26,7 @@ vacuuming at s = Vacuumed at
 -- what a store's vacuum says of all stores
 pub vacuumed : (layout : Layout) (old : RangesView) (run : List Turn) (s at : ℕ) (store new : StoreView)
     (report : Report) → Represents layout old run → slice_get old.stores s ≡ Some store
-    → VacuumsTo store new at (past_of layout s run) (Ok report)
+    → VacuumsTo new at (past_of layout s run) (Ok report)
     → VacuumsIn layout old (with_store old s new) s at run (Ok report)
 vacuumed layout old run s at store new report h there vacuums =
     let within : s < length old.stores = slice_get_within old.stores s store there in (
@@ -42,7 +42,7 @@ vacuumed layout old run s at store new report h there vacuums =
 
 pub not-vacuumed : (layout : Layout) (old now : RangesView) (run : List Turn) (s at : ℕ) (store new : StoreView)
     (fault : CoreFault) → Represents layout old run → slice_get old.stores s ≡ Some store
-    → VacuumsTo store new at (past_of layout s run) (Err fault) → VacuumsIn layout old now s at run (Err (Store fault))
+    → VacuumsTo new at (past_of layout s run) (Err fault) → VacuumsIn layout old now s at run (Err (Store fault))
 not-vacuumed layout old now run s at store new fault h there vacuums =
     (slice_get_within old.stores s store there, vacuums)
 

@@ -6,7 +6,7 @@ use Rattle.hlc_events.specs.declared.fault.CoreFault.{CoreFault}
 use Rattle.hlc_events.specs.declared.fault.CoreFault.TheVariants.{NoMemory}
 use Rattle.hlc_vacuum_draft.specs.declared.report.Report.{Report}
 use Rattle.hlc_core.specs.Past.{Step, Opened, Closed, Vacuumed, Joined, open_refusal, vacuum_refusal, join_refusal}
-use Rattle.hlc_core.specs.Past.{opened, stamp_of, numbered, floor, writes}
+use Rattle.hlc_core.specs.Past.{last_id, stamp_of, numbered, floor, writes}
 use Rattle.hlc_core.specs.StoreView.{StoreView}
 use Rattle.hlc_core.specs.Stored.{IsReport, LeavesFewest}
 use Rattle.hlc_core.specs.Calls.{IsRefusal}
@@ -71,7 +71,7 @@ open_refusals layout run stamp s = open_refusal (past_of layout s run) stamp
 
 -- the id that the next snapshot of a store gets
 abbrev pub next_id : Layout → List Turn → ℕ → ℕ
-next_id layout run s = opened (past_of layout s run) + 1
+next_id layout run s = last_id (past_of layout s run) + 1
 
 -- Each store opened the snapshot at the stamp, with its next id.
 pub record HaveOpened (layout : Layout) (new : RangesView) (stamp : ℕ) (run : List Turn) (snapshot : SnapshotView)

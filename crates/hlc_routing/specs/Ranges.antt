@@ -3,7 +3,7 @@ use Rattle.std.specs.Prelude.{◌≡◌, ◌≢◌, ℕ, ◌<◌, ◌≤◌, ◌
 use Rattle.hlc_node.specs.declared.item.Body.{Body}
 use Rattle.hlc_node.specs.declared.item.Body.TheVariants.{Write, Batch, Report, Retire}
 use Rattle.hlc_node.specs.declared.item.Item.{Item}
-use Rattle.hlc_core.specs.Past.{Step, Took, Opened, Closed, item_refusal, open_refusal, opened, stamp_of}
+use Rattle.hlc_core.specs.Past.{Step, Took, Opened, Closed, item_refusal, open_refusal, last_id, stamp_of}
 use Rattle.hlc_core.specs.StoreView.{StoreView, Represents as CoreRepresents}
 use Rattle.hlc_core.specs.Checkpoint.{floor_in}
 use Rattle.hlc_core.specs.Calls.{IsRefusal, IsWrite}
@@ -60,10 +60,10 @@ pub record HasTaken (old new : RangesView) (s : ℕ) (item : Item) : Type 0 wher
       → (item_refusal past item ≡ None) × CoreRepresents made (Took item ∷ past)
   pub others : (other : ℕ) → other ≢ s → slice_get new.stores other ≡ slice_get old.stores other
 
--- a snapshot of one store was opened, with an id one above the number of those opened there before, or refused
+-- a snapshot of one store was opened, with an id one above the last id there, or refused
 abbrev pub OpensIn : Layout → RangesView → RangesView → ℕ → ℕ → List Turn → Result ℕ RangesFault → Type 0
 OpensIn layout old new s stamp run (Ok id) =
-    (open_refusal (past_of layout s run) stamp ≡ None) × (id ≡ opened (past_of layout s run) + 1)
+    (open_refusal (past_of layout s run) stamp ≡ None) × (id ≡ last_id (past_of layout s run) + 1)
     × Represents layout new (Stepped s (Opened stamp) ∷ run)
 OpensIn layout old new s stamp run (Err NoStore) = length old.stores ≤ s
 OpensIn layout old new s stamp run (Err WrongStore) = ⊥

@@ -1,14 +1,14 @@
 //! Calls of all stores.
-ghost use Rattle.std.specs.Prelude.{◌≡◌, ◌≤◌, ◌<◌, ◌↔◌, ℕ, List, [], Some, length, vec_len, vec_capacity, get_or};
-ghost use Rattle.std.specs.Prelude.{IsTrue, IfOk, IfErr, OnOk, OnErr, IsOkAnd, MatchResult, option_copied};
+ghost use Rattle.std.specs.Prelude.{◌≡◌, ◌≤◌, ◌<◌, ◌↔◌, ℕ, List, [], Some, length, vec_capacity};
+ghost use Rattle.std.specs.Prelude.{IsTrue, IfOk, IfErr, OnOk, OnErr, IsOkAnd, option_copied};
 ghost use Rattle.hlc_rows.specs.Rows.{answer};
 ghost use Rattle.hlc_core.specs.Past.{Vacuumed, stamp_of, writes};
 ghost use Rattle.hlc_ranges.specs.Run.{Layout, Turn, issued_writes, past_of};
 ghost use Rattle.hlc_ranges.specs.Cut.{IsConsistent};
-ghost use Rattle.hlc_routing.specs.Ranges.{RangesView, Represents, IsLeastFloor};
-ghost use Rattle.hlc_routing.specs.All.{each_stepped, IsOpenAll, OpensAll, ClosesAll, HaveStepped, HaveStopped};
-ghost use Rattle.hlc_routing.specs.All.{AreVacuumed, AreVacuumedSome, HaveJoined, HaveJoinedSome, next_id};
-ghost use Rattle.hlc_routing.specs.All.{open_refusals, vacuum_refusals, join_refusals, join_step, AreJoins, AreReports};
+ghost use Rattle.hlc_routing.specs.Ranges.{Represents, IsLeastFloor};
+ghost use Rattle.hlc_routing.specs.All.{IsOpenAll, OpensAll, ClosesAll, HaveStopped};
+ghost use Rattle.hlc_routing.specs.All.{AreVacuumed, AreVacuumedSome, HaveJoined, HaveJoinedSome};
+ghost use Rattle.hlc_routing.specs.All.{vacuum_refusals, join_refusals, join_step, AreJoins};
 ghost use Rattle.hlc_routing.specs.All.{HasOpenedTo, HasOpenedSome, AreCheckpoints, each_closed, closed_at};
 ghost use Rattle.hlc_routing.specs.All.{AreOpenTo, AreOpenIn, IsOpenIn, IsOpenAt};
 ghost use Rattle.hlc_routing.specs.Division.{store_of};

@@ -2,7 +2,6 @@
 ghost use Rattle.std.specs.Prelude.{◌≡◌, ◌<◌, ◌≤◌, ℕ, List, [], ◌∷◌, Some, None, Ok, Err, length, vec_capacity};
 ghost use Rattle.std.specs.Prelude.{IfOk, IfErr, OnErr, OnOk, MatchResult, ◌≢◌};
 ghost use Rattle.hlc_clock.specs.NextStamp.{expected_stamp};
-ghost use Rattle.hlc_node.specs.Node.{NodeView};
 ghost use Rattle.hlc_node.specs.declared.item.Body.TheVariants.{
   Write as a_write,
   Batch as a_batch,

@@ -2,7 +2,6 @@
 ghost use Rattle.std.specs.Prelude.{◌≡◌, ◌≢◌, ◌↔◌, ◌∷◌, ◌<◌, List, length, min, IsTrue, IfErr, OnOk, OnErr, IfOk};
 ghost use Rattle.std.specs.Prelude.{ℕ, Some, IfSome, IfNone, IsOkAnd, IsErr, MatchOption, option_copied, slice_get};
 ghost use Rattle.hlc_rows.specs.Rows.{answer};
-ghost use Rattle.hlc_node.specs.declared.item.Body.{Body as ABody};
 ghost use Rattle.hlc_node.specs.Items.{retires};
 ghost use Rattle.hlc_core.specs.Past.{Took, stamp_of, writes};
 ghost use Rattle.hlc_ranges.specs.Run.{Layout, Turn, Stepped, IsIssuedStep, past_of, issued_writes};

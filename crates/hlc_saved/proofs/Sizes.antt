@@ -52,7 +52,7 @@ pub preamble_takes : (p : Preamble) → length (preamble_bytes p) ≡ 30 + 17 * 
 preamble_takes p =
     let ls : List ℕ = flat_map link_bytes p.links in
     let ss : List ℕ = flat_map snapshot_bytes p.snapshots in
-    let numbers : List ℕ = to_be_bytes w64 p.opened ++ (to_be_bytes w64 p.horizon ++ to_be_bytes w64 p.count) in
+    let numbers : List ℕ = to_be_bytes w64 p.last_id ++ (to_be_bytes w64 p.horizon ++ to_be_bytes w64 p.count) in
     let later : List ℕ = list_bytes w16 snapshot_bytes p.snapshots ++ numbers in
     let a = links_take p.links in
     let b = snapshots_take p.snapshots in

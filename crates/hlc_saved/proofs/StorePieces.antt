@@ -156,10 +156,10 @@ sorted_whole word kept rows store fits moved ascend =
     } in
     let count : length kept.rows ≡ length rows = sym (length_permutation kept.rows rows moved) in
     let same : preamble_of kept ≡ preamble_of made = ap (λ (n : ℕ). record {
-      start = kept.start;
+      initial_nodes = kept.initial_nodes;
       links = kept.links;
       snapshots = kept.snapshots;
-      opened = kept.opened;
+      last_id = kept.last_id;
       horizon = kept.horizon;
       count = n;
     }) count in
@@ -187,11 +187,11 @@ sorted_whole word kept rows store fits moved ascend =
         length_fits = subst (λ (n : ℕ). n < 18446744073709551616) long fits.frame.length_fits;
       };
       checkpoint = record {
-        start = fits.checkpoint.start;
+        initial_nodes = fits.checkpoint.initial_nodes;
         links = fits.checkpoint.links;
         top = fits.checkpoint.top;
         snapshots = fits.checkpoint.snapshots;
-        opened = fits.checkpoint.opened;
+        last_id = fits.checkpoint.last_id;
         horizon = fits.checkpoint.horizon;
         rows = (
           subst (λ (n : ℕ). n < 18446744073709551616) count fits.checkpoint.rows.0,

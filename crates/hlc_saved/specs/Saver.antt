@@ -24,7 +24,7 @@ abbrev pub mark_of : StoreView → Mark
 mark_of kept = record {
   nodes = length kept.links;
   items = items_in kept.links;
-  opened = kept.opened;
+  last_id = kept.last_id;
   snapshots = length kept.snapshots;
   horizon = kept.horizon;
   rows = length kept.rows;

@@ -11,7 +11,7 @@ pub struct Mark {
     nodes: usize,
     // As far as 64 bits hold it.
     items: u64,
-    opened: u64,
+    last_id: u64,
     snapshots: usize,
     horizon: u64,
     rows: u128,
@@ -27,7 +27,7 @@ pub fn mark_of(store: &StoreRef<'_>) -> Mark
         items: links
             .iter()
             .fold(0, |items, link| u64::wrapping_add(items, link.next())),
-        opened: store.opened(),
+        last_id: store.last_id(),
         snapshots: store.snapshots().len(),
         horizon: store.horizon().bits(),
         rows: store.count(),

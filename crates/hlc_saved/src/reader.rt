@@ -1,5 +1,5 @@
 //! A checkpoint that is read in blocks of any size.
-ghost use Rattle.std.specs.Prelude.{◌≡◌, ◌++◌, [], List, ℕ, OnOk, OnErr};
+ghost use Rattle.std.specs.Prelude.{◌++◌, [], List, ℕ, OnOk, OnErr};
 ghost use Rattle.hlc_saved.specs.Saved.{Resumes};
 ghost use Rattle.hlc_saved.specs.Blocks.{HasRead};
 

@@ -46,8 +46,8 @@ fn preamble_size(preamble: &PreambleRef<'_>) -> u64
     ensures size { result ≡ length (preamble_bytes (seen preamble.now)) }
     ensures fits { PreambleFits (seen preamble.now) }
 {
-    let _start = preamble.start;
-    let _opened = preamble.opened;
+    let _initial_nodes = preamble.initial_nodes;
+    let _last_id = preamble.last_id;
     let _count = preamble.count;
     let _horizon = preamble.horizon.bits();
     26 + links_size(preamble.links) + snapshots_size(preamble.snapshots)

@@ -8,7 +8,7 @@ ghost use Rattle.hlc_core.specs.StoreView.{StoreView};
 ghost use Rattle.hlc_checkpoint.specs.Checkpoint.{IsCheckpoint, IsFirstReason};
 ghost use Rattle.hlc_frame.specs.Frame.{front_bytes};
 ghost use Rattle.hlc_frame.specs.Writing.{HasPut};
-ghost use Rattle.hlc_body.specs.Spelling.{row_bytes, preamble_bytes, checkpoint_bytes, saved_bytes, SavedFits};
+ghost use Rattle.hlc_body.specs.Spelling.{row_bytes, preamble_bytes, saved_bytes, SavedFits};
 ghost use Rattle.hlc_body.specs.Seen.{seen};
 ghost use Rattle.hlc_saved.specs.Writing.{HasWritten, begin_bytes, end_bytes};
 

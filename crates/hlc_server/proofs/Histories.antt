@@ -54,13 +54,14 @@ past-starts nodes (e ∷ history) legal =
 
 -- so a history that a core represents starts with as many nodes as the core did
 of_its_own : (nodes : ℕ) (core : StoreView) (history : List (CoreEvent × CoreReply))
-    → RepresentsHistory nodes core history → RepresentsHistory core.start core history
+    → RepresentsHistory nodes core history → RepresentsHistory core.initial_nodes core history
 of_its_own nodes core history h =
-    subst (λ n. RepresentsHistory n core history) (sym (h.core.start ∙ past-starts nodes history h.core.legal)) h
+    subst (λ n. RepresentsHistory n core history)
+    (sym (h.core.initial_nodes ∙ past-starts nodes history h.core.legal)) h
 
 -- a new core represents the history in which nothing took place
 pub at_start : (core : StoreView) (nodes : ℕ) → Represents core (Started nodes ∷ [])
-    → RepresentsHistory core.start core []
+    → RepresentsHistory core.initial_nodes core []
 at_start core nodes h = of_its_own nodes core [] (record { legal = tt; core = h; left = tt })
 
 -- One more call keeps the trail legal, the core representing it, and the count right.
@@ -77,11 +78,11 @@ audited_more old new (Some before) trail' caller event reply total total' audite
     let same : t ≡ before ++ entry caller event reply ∷ [] =
     (let both : Some t ≡ Some (before ++ entry caller event reply ∷ []) = sym some ∙ is in cc) in
     let was = audited before refl in
-    let goes = (represents old.start (history_of before) was.represents).1 in
+    let goes = (represents old.initial_nodes (history_of before) was.represents).1 in
     record {
-      represents = subst (λ h. RepresentsHistory new.start new h)
+      represents = subst (λ h. RepresentsHistory new.initial_nodes new h)
           (sym (ap history_of same ∙ history_of-push before (entry caller event reply)))
-          (of_its_own old.start new ((event, reply) ∷ history_of before) goes);
+          (of_its_own old.initial_nodes new ((event, reply) ∷ history_of before) goes);
       counted = ap length same ∙ omega (arith, length-append before (entry caller event reply ∷ []), was.counted, more);
     }
 
@@ -95,8 +96,8 @@ history_more old new event reply total total' had represents more =
     let n = had.counted in
     record {
       history = (event, reply) ∷ had.history;
-      represents = of_its_own old.start new ((event, reply) ∷ had.history)
-          (represents old.start had.history had.represents).1;
+      represents = of_its_own old.initial_nodes new ((event, reply) ∷ had.history)
+          (represents old.initial_nodes had.history had.represents).1;
       counted = omega (arith, n, more);
     }
 

@@ -43,7 +43,7 @@ pub record IsOneLockedCall (old new : GuardedView) (event : CoreEvent) (receipt 
   pub calls : new.calls ≡ old.calls + 1
   pub trail : new.trail ≡ with_entry old.trail (entry receipt.caller receipt.event receipt.reply)
   pub expected : ForSome old.trail
-      (λ trail. IsExpected (past_of old.core.start (history_of trail)) event receipt.reply)
+      (λ trail. IsExpected (past_of old.core.initial_nodes (history_of trail)) event receipt.reply)
   pub step : (nodes : ℕ) (history : List (CoreEvent × CoreReply)) → RepresentsHistory nodes old.core history
       → IsStep nodes old.core new.core event history receipt.reply
 

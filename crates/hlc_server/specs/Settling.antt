@@ -95,8 +95,8 @@ pub record Settles (lock : GuardedView) (claims : List Claim) (settled : Settled
   pub kept : lock.trail ≡ Some trail
   pub all : IsSettled trail claims
   pub returned : EachIsClaimed trail claims
-  pub represents : RepresentsHistory settled.core.start settled.core (history_of trail)
-  pub faithful : IsFaithful settled.core.start (history_of trail) settled.core.rows
+  pub represents : RepresentsHistory settled.core.initial_nodes settled.core (history_of trail)
+  pub faithful : IsFaithful settled.core.initial_nodes (history_of trail) settled.core.rows
   pub core : settled.core ≡ lock.core
   pub entries : settled.entries ≡ length trail
 

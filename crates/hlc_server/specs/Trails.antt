@@ -29,13 +29,13 @@ history_of trail = history_after [] trail
 
 -- the trail is a legal history, the core represents it, and its length is the number of calls
 pub record IsAudited (core : StoreView) (trail : List Entry) (calls : ℕ) : Type 0 where
-  pub represents : RepresentsHistory core.start core (history_of trail)
+  pub represents : RepresentsHistory core.initial_nodes core (history_of trail)
   pub counted : length trail ≡ calls
 
 -- the core represents a history of this many calls
 pub record HasHistory (core : StoreView) (calls : ℕ) : Type 0 where
   pub history : List (CoreEvent × CoreReply)
-  pub represents : RepresentsHistory core.start core history
+  pub represents : RepresentsHistory core.initial_nodes core history
   pub counted : length history ≡ calls
 
 -- the trail with one more entry, where there is one

@@ -1,5 +1,5 @@
--- A register is a map from ids to stamps. Its ids ascend and none is above the number ever opened, so a new one is
--- above all others; an opening or a closing changes the look-up of one id alone.
+-- A register is a map from ids to stamps. Its ids ascend and none is above the last id, so a new one is above all
+-- others; an opening or a closing changes the look-up of one id alone.
 use Rattle.std.proofs.Common.{◌⊎◌, subst, ◌≡◌, ◌≢◌, ℕ, ◌+◌, ◌<◌, ◌≤◌, List, [], ◌∷◌, ◌++◌, Some, None, refl, ap, sym}
 use Rattle.std.proofs.Common.{◌∙◌, inl, inr, arith}
 use Rattle.std.specs.Prelude.{All, true, ◌==◌, not, find, if◌then◌else◌, nat_le}
@@ -84,33 +84,34 @@ stamp_in-without_other id other (x ∷ xs) differs =
 
 -- the next id is above all ids of a register
 pub next_id-above : (register : RegistryView) → IsRegister register
-    → All (λ snapshot. snapshot.id < register.opened + 1) register.snapshots
+    → All (λ snapshot. snapshot.id < register.last_id + 1) register.snapshots
 next_id-above register h =
-    All-weaker (λ snapshot. (0 < snapshot.id) × (snapshot.id ≤ register.opened))
-    (λ snapshot. snapshot.id < register.opened + 1) (λ x bounded. omega (arith, bounded.1)) register.snapshots h.bounded
+    All-weaker (λ snapshot. (0 < snapshot.id) × (snapshot.id ≤ register.last_id))
+    (λ snapshot. snapshot.id < register.last_id + 1) (λ x bounded. omega (arith, bounded.1)) register.snapshots
+    h.bounded
 
 pub next_id-fresh : (register : RegistryView) → IsRegister register
-    → stamp_in (register.opened + 1) register.snapshots ≡ None
+    → stamp_in (register.last_id + 1) register.snapshots ≡ None
 next_id-fresh register h = stamp_in-above _ register.snapshots (next_id-above register h)
 
 pub opened-here : (register : RegistryView) (stamp : ℕ) → IsRegister register
-    → stamp_in (register.opened + 1) (opened_at register stamp).snapshots ≡ Some stamp
+    → stamp_in (register.last_id + 1) (opened_at register stamp).snapshots ≡ Some stamp
 opened-here register stamp h =
-    stamp_in-push_here (record { id = register.opened + 1; stamp = stamp }) register.snapshots
+    stamp_in-push_here (record { id = register.last_id + 1; stamp = stamp }) register.snapshots
     (next_id-above register h)
 
-pub opened-other : (register : RegistryView) (stamp id : ℕ) → id ≢ register.opened + 1
+pub opened-other : (register : RegistryView) (stamp id : ℕ) → id ≢ register.last_id + 1
     → stamp_in id (opened_at register stamp).snapshots ≡ stamp_in id register.snapshots
 opened-other register stamp id other =
-    stamp_in-push_other id (record { id = register.opened + 1; stamp = stamp }) register.snapshots
+    stamp_in-push_other id (record { id = register.last_id + 1; stamp = stamp }) register.snapshots
     (λ same. other (sym same))
 
 -- both in one: the map after an opening
 pub opened-map : (register : RegistryView) (stamp id : ℕ) → IsRegister register
     → stamp_in id (opened_at register stamp).snapshots
-    ≡ (if id == register.opened + 1 then Some stamp else stamp_in id register.snapshots)
+    ≡ (if id == register.last_id + 1 then Some stamp else stamp_in id register.snapshots)
 opened-map register stamp id h =
-    elim (cases_eq id (register.opened + 1)) [
+    elim (cases_eq id (register.last_id + 1)) [
       | inl same ↦ ap (λ k. stamp_in k (opened_at register stamp).snapshots) same ∙ opened-here register stamp h
           ∙ sym (cond-true _ _ _ (eq-eqb _ _ same))
       | inr other ↦ opened-other register stamp id other ∙ sym (cond-false _ _ _ (ne_eqb _ _ other))
@@ -140,20 +141,20 @@ closed-is_register register id h = record {
       (λ snapshot. not (snapshot.id == id)) register.snapshots h.rising;
   bounded =
       All-filter (λ snapshot. not (snapshot.id == id))
-      (λ snapshot. (0 < snapshot.id) × (snapshot.id ≤ register.opened)) register.snapshots h.bounded;
+      (λ snapshot. (0 < snapshot.id) × (snapshot.id ≤ register.last_id)) register.snapshots h.bounded;
   few =
       (let both = length-filter_both (λ snapshot. not (snapshot.id == id)) (λ snapshot. not (not (snapshot.id == id)))
       (λ _. refl) register.snapshots in omega (arith, both, h.few));
   in_range = h.in_range;
 }
 
-opened-rises : {older newer : RegistryView} → Follows older newer → older.opened ≤ newer.opened
+opened-rises : {older newer : RegistryView} → Follows older newer → older.last_id ≤ newer.last_id
 opened-rises at_once = omega arith
 opened-rises (opening stamp follows) = (let rises = opened-rises follows in omega (arith, rises))
 opened-rises (closing id follows) = opened-rises follows
 
 -- a snapshot that is open with an old id was open before, with the same stamp
-pub open_before : {older newer : RegistryView} (id stamp : ℕ) → Follows older newer → id ≤ older.opened
+pub open_before : {older newer : RegistryView} (id stamp : ℕ) → Follows older newer → id ≤ older.last_id
     → stamp_in id newer.snapshots ≡ Some stamp → stamp_in id older.snapshots ≡ Some stamp
 open_before id stamp at_once old found = found
 open_before id stamp (opening {newer = between} at follows) old found =

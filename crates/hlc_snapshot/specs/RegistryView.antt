@@ -8,10 +8,10 @@ use Rattle.hlc_snapshot.specs.declared.registry.TheConstants.{MAX_OPEN_SNAPSHOTS
 use Rattle.hlc_snapshot.specs.declared.fault.SnapshotFault.{SnapshotFault}
 use Rattle.hlc_snapshot.specs.declared.fault.SnapshotFault.TheVariants.{TooManySnapshots, NumbersSpent, NoMemory}
 
--- the state of a registry: the open snapshots, the oldest first; and the number ever opened
+-- the state of a registry: the open snapshots, the oldest first; and the last id that was assigned, 0 if none
 pub record RegistryView : Type 0 where
   pub snapshots : List Snapshot
-  pub opened : ℕ
+  pub last_id : ℕ
 
 -- the stamp of the snapshot with this id
 abbrev pub stamp_in : ℕ → List Snapshot → Option ℕ
@@ -29,35 +29,35 @@ stamps_to bound snapshots = filter (λ stamp. nat_le stamp bound) (stamps snapsh
 abbrev pub without : ℕ → List Snapshot → List Snapshot
 without id snapshots = filter (λ snapshot. not (snapshot.id == id)) snapshots
 
--- the first reason to refuse an opening, except memory, from the number of open snapshots and the number ever opened
-abbrev pub room_refusal : (open_now opened : ℕ) → Option SnapshotFault
-room_refusal open_now opened =
+-- the first reason to refuse an opening, except memory, from the number of open snapshots and the last id
+abbrev pub room_refusal : (open_now last_id : ℕ) → Option SnapshotFault
+room_refusal open_now last_id =
     if nat_le MAX_OPEN_SNAPSHOTS open_now then Some TooManySnapshots
-    else if nat_le 18446744073709551614 opened then Some NumbersSpent
+    else if nat_le 18446744073709551614 last_id then Some NumbersSpent
     else None
 
 -- the fault of a refused call is the expected one, or, if none is expected, that memory runs out
 abbrev pub IsRefusal : Option SnapshotFault → SnapshotFault → Type 0
 IsRefusal expected fault = (expected ≡ Some fault) ⊎ ((expected ≡ None) × (fault ≡ NoMemory))
 
--- the register after one more snapshot was opened at this stamp; its id is one above the number of those opened before
+-- the register after one more snapshot was opened at this stamp; its id is one above the last id
 abbrev pub opened_at : RegistryView → ℕ → RegistryView
 opened_at register stamp = record {
-  snapshots = register.snapshots ++ record { id = register.opened + 1; stamp = stamp } ∷ [];
-  opened = register.opened + 1;
+  snapshots = register.snapshots ++ record { id = register.last_id + 1; stamp = stamp } ∷ [];
+  last_id = register.last_id + 1;
 }
 
 -- the register after the snapshot with this id was closed
 abbrev pub closed : ℕ → RegistryView → RegistryView
-closed id register = record { snapshots = without id register.snapshots; opened = register.opened }
+closed id register = record { snapshots = without id register.snapshots; last_id = register.last_id }
 
--- the ids of the open snapshots ascend, from the oldest to the newest, and are between 1 and the number ever opened; no
--- more are open than may be, and no more were ever opened than there are ids
+-- the ids of the open snapshots ascend, from the oldest to the newest, and are between 1 and the last id; no more are
+-- open than may be, and the last id is one that there is
 pub record IsRegister (register : RegistryView) : Type 0 where
   pub rising : AllPairs (λ older newer. older.id < newer.id) register.snapshots
-  pub bounded : All (λ snapshot. (0 < snapshot.id) × (snapshot.id ≤ register.opened)) register.snapshots
+  pub bounded : All (λ snapshot. (0 < snapshot.id) × (snapshot.id ≤ register.last_id)) register.snapshots
   pub few : length register.snapshots ≤ MAX_OPEN_SNAPSHOTS
-  pub in_range : register.opened ≤ 18446744073709551614
+  pub in_range : register.last_id ≤ 18446744073709551614
 
 -- the newer register is the older one after some openings and closings
 pub data Follows : RegistryView → RegistryView → Type 0 where
@@ -65,7 +65,7 @@ pub data Follows : RegistryView → RegistryView → Type 0 where
   opening : {older newer : RegistryView} (stamp : ℕ) → Follows older newer → Follows older (opened_at newer stamp)
   closing : {older newer : RegistryView} (id : ℕ) → Follows older newer → Follows older (closed id newer)
 
--- A test of ids: they ascend and are above this one, and the last of them is not above the number ever opened.
-abbrev pub ids_rise : (last opened : ℕ) → List Snapshot → Bool
-ids_rise last opened [] = nat_le last opened
-ids_rise last opened (snapshot ∷ snapshots) = nat_lt last snapshot.id && ids_rise snapshot.id opened snapshots
+-- A test of ids: they ascend and are above this one, and none is above the second one.
+abbrev pub ids_rise : (last most : ℕ) → List Snapshot → Bool
+ids_rise last most [] = nat_le last most
+ids_rise last most (snapshot ∷ snapshots) = nat_lt last snapshot.id && ids_rise snapshot.id most snapshots

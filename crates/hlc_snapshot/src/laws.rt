@@ -13,12 +13,12 @@ pub fn max_open_snapshots_are_1024()
 /// A new snapshot has an id above all others, and its stamp; the others keep their stamps.
 pub fn opening_adds_one_snapshot()
     ensures above { (register : RegistryView) → IsRegister register
-        → All (λ snapshot. snapshot.id < register.opened + 1) register.snapshots }
+        → All (λ snapshot. snapshot.id < register.last_id + 1) register.snapshots }
     ensures fresh { (register : RegistryView) → IsRegister register
-        → stamp_in (register.opened + 1) register.snapshots ≡ None }
+        → stamp_in (register.last_id + 1) register.snapshots ≡ None }
     ensures here { (register : RegistryView) (stamp : ℕ) → IsRegister register
-        → stamp_in (register.opened + 1) (opened_at register stamp).snapshots ≡ Some stamp }
-    ensures others { (register : RegistryView) (stamp id : ℕ) → id ≢ register.opened + 1
+        → stamp_in (register.last_id + 1) (opened_at register stamp).snapshots ≡ Some stamp }
+    ensures others { (register : RegistryView) (stamp id : ℕ) → id ≢ register.last_id + 1
         → stamp_in id (opened_at register stamp).snapshots ≡ stamp_in id register.snapshots }
 {}
 
@@ -32,9 +32,9 @@ pub fn closing_takes_out_one_snapshot()
 
 /// A register is empty at first. Openings within its limits, and closings, make a register again.
 pub fn registers_stay_registers()
-    ensures empty { IsRegister (record { snapshots = []; opened = 0 }) }
+    ensures empty { IsRegister (record { snapshots = []; last_id = 0 }) }
     ensures opening { (register : RegistryView) (stamp : ℕ) → IsRegister register
-        → room_refusal (length register.snapshots) register.opened ≡ None
+        → room_refusal (length register.snapshots) register.last_id ≡ None
         → IsRegister (opened_at register stamp) }
     ensures closing { (register : RegistryView) (id : ℕ) → IsRegister register
         → IsRegister (closed id register) }
@@ -43,7 +43,7 @@ pub fn registers_stay_registers()
 /// If an id was assigned in an older register and is open in a newer one, it was open in the older
 /// one, at the same stamp: a closed snapshot is never open again.
 pub fn ids_are_never_used_again()
-    ensures { (older newer : RegistryView) (id stamp : ℕ) → Follows older newer → id ≤ older.opened
+    ensures { (older newer : RegistryView) (id stamp : ℕ) → Follows older newer → id ≤ older.last_id
         → stamp_in id newer.snapshots ≡ Some stamp → stamp_in id older.snapshots ≡ Some stamp }
 {}
 

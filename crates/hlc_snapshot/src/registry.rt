@@ -1,5 +1,5 @@
 //! The registry of open snapshots.
-ghost use Rattle.std.specs.Prelude.{◌≡◌, ℕ, ◌+◌, ◌<◌, ◌≤◌, ◌==◌, [], ◌∷◌, ◌++◌, ◌↔◌, IsTrue, length};
+ghost use Rattle.std.specs.Prelude.{◌≡◌, ℕ, ◌+◌, ◌<◌, ◌≤◌, ◌==◌, [], ◌∷◌, ◌↔◌, IsTrue, length};
 ghost use Rattle.std.specs.Prelude.{if◌then◌else◌, All, IfOk, IfErr, IfSome, OnErr};
 ghost use Rattle.hlc_snapshot.specs.RegistryView.{IsRegister, IsRefusal, closed, opened_at, room_refusal};
 ghost use Rattle.hlc_snapshot.specs.RegistryView.{ids_rise, stamp_in, stamps, stamps_to};
@@ -19,11 +19,11 @@ use std::marker::Model;
 pub const MAX_OPEN_SNAPSHOTS: usize = 1024;
 
 /// The open snapshots of a table. In contracts they are in the order in which they were opened,
-/// with the number of snapshots that were ever opened.
+/// with the last id that was assigned.
 #[derive(Debug, Drop)]
 pub struct Registry {
     snapshots: Vec<Snapshot>,
-    opened: u64,
+    last_id: u64,
 }
 
 impl Model for Registry {
@@ -32,30 +32,29 @@ impl Model for Registry {
     ghost Value = { RegistryView };
 
     ghost view = { λ registry.
-        record { snapshots = registry.snapshots.items; opened = registry.opened } };
+        record { snapshots = registry.snapshots.items; last_id = registry.last_id } };
 
     ghost invariant = { λ registry.
-        IsRegister (record { snapshots = registry.snapshots.items; opened = registry.opened }) };
+        IsRegister (record { snapshots = registry.snapshots.items; last_id = registry.last_id }) };
 }
 
 impl Registry {
     /// Returns a registry in which no snapshot was ever opened.
     pub fn new(alloc: Global) -> Registry
-        ensures { result ≡ record { snapshots = []; opened = 0 } }
+        ensures { result ≡ record { snapshots = []; last_id = 0 } }
     {
         Registry {
             snapshots: Vec::new(alloc),
-            opened: 0,
+            last_id: 0,
         }
     }
 
-    /// Returns a registry of these open snapshots, the oldest first, with this number of snapshots ever opened. It
-    /// needs no memory.
-    pub fn resuming(snapshots: Vec<Snapshot>, opened: u64) -> Registry
-        requires { IsRegister (record { snapshots = snapshots.items; opened = opened }) }
-        ensures { result ≡ record { snapshots = snapshots.items; opened = opened } }
+    /// Returns a registry of these open snapshots, the oldest first, and of this last id. It needs no memory.
+    pub fn resuming(snapshots: Vec<Snapshot>, last_id: u64) -> Registry
+        requires { IsRegister (record { snapshots = snapshots.items; last_id = last_id }) }
+        ensures { result ≡ record { snapshots = snapshots.items; last_id = last_id } }
     {
-        Registry { snapshots, opened }
+        Registry { snapshots, last_id }
     }
 
     /// Returns the open snapshots, the oldest first.
@@ -66,12 +65,11 @@ impl Registry {
         self.snapshots.as_slice()
     }
 
-    /// Returns the number of snapshots that were ever opened, which is also the greatest assigned
-    /// id.
-    pub fn opened(&self) -> u64
-        ensures { result ≡ self.now.opened }
+    /// Returns the last id that was assigned, 0 if none. It is the greatest, and the number of snapshots ever opened.
+    pub fn last_id(&self) -> u64
+        ensures { result ≡ self.now.last_id }
     {
-        self.opened
+        self.last_id
     }
 
     /// Opens a snapshot at a stamp and returns its id. Ids are 1, 2, 3 and so on, and are never
@@ -80,10 +78,10 @@ impl Registry {
     /// Refused, in this order: 1,024 snapshots are open; no id is left; out of memory.
     pub fn open(&mut self, stamp: Stamp) -> Result<u64, SnapshotFault>
         ensures ok { IfOk result
-            (λ id. (room_refusal (length self.old.snapshots) self.old.opened ≡ None)
-            × (id ≡ self.old.opened + 1) × (self.new ≡ opened_at self.old stamp)) }
+            (λ id. (room_refusal (length self.old.snapshots) self.old.last_id ≡ None)
+            × (id ≡ self.old.last_id + 1) × (self.new ≡ opened_at self.old stamp)) }
         ensures err { IfErr result
-            (λ fault. IsRefusal (room_refusal (length self.old.snapshots) self.old.opened) fault
+            (λ fault. IsRefusal (room_refusal (length self.old.snapshots) self.old.last_id) fault
             × (self.new ≡ self.old)) }
 
         // As a map: the id had no stamp and is above all others; now it has this one, and nothing
@@ -94,14 +92,14 @@ impl Registry {
             ≡ (if other == id then Some stamp else stamp_in other self.old.snapshots)) }
         ensures register { IsRegister self.new }
     {
-        if let Some(fault) = room_fault(self.snapshots.len(), self.opened) {
+        if let Some(fault) = room_fault(self.snapshots.len(), self.last_id) {
             return Err(fault);
         }
-        let id = self.opened + 1;
+        let id = self.last_id + 1;
         if self.snapshots.push(Snapshot { id, stamp }).is_err() {
             return Err(SnapshotFault::NoMemory);
         }
-        self.opened = id;
+        self.last_id = id;
         Ok(id)
     }
 
@@ -145,7 +143,7 @@ impl Registry {
 
     /// Closes all open snapshots. It needs no memory.
     pub fn clear(&mut self)
-        ensures { self.new ≡ record { snapshots = []; opened = self.old.opened } }
+        ensures { self.new ≡ record { snapshots = []; last_id = self.old.last_id } }
     {
         self.snapshots.clear();
     }
@@ -180,16 +178,15 @@ impl Registry {
     }
 }
 
-/// Returns whether these may be the open snapshots of a registry in which `opened` snapshots were
-/// ever opened.
-pub fn is_register(snapshots: &[Snapshot], opened: u64) -> bool
+/// Returns whether these may be the open snapshots of a registry with this last id.
+pub fn is_register(snapshots: &[Snapshot], last_id: u64) -> bool
     ensures { IsTrue result
-        ↔ IsRegister (record { snapshots = snapshots.now; opened = opened }) }
+        ↔ IsRegister (record { snapshots = snapshots.now; last_id = last_id }) }
 {
-    if snapshots.len() > MAX_OPEN_SNAPSHOTS || opened > u64::MAX - 1 {
+    if snapshots.len() > MAX_OPEN_SNAPSHOTS || last_id > u64::MAX - 1 {
         return false;
     }
-    do_ids_rise(snapshots, opened)
+    do_ids_rise(snapshots, last_id)
 }
 
 /// Returns the position of a snapshot, assuming that no snapshot from the oldest open one to this one was closed: ids
@@ -226,9 +223,9 @@ fn count_below(snapshots: &[Snapshot], id: u64) -> usize
     snapshots.partition_point(|snapshot| snapshot.id < id)
 }
 
-/// Returns whether the ids ascend and are between 1 and `opened`.
-fn do_ids_rise(snapshots: &[Snapshot], opened: u64) -> bool
-    ensures { result ≡ ids_rise 0 opened snapshots.now }
+/// Returns whether the ids ascend and are between 1 and `most`.
+fn do_ids_rise(snapshots: &[Snapshot], most: u64) -> bool
+    ensures { result ≡ ids_rise 0 most snapshots.now }
 {
     let mut last = 0;
     for snapshot in snapshots {
@@ -237,18 +234,17 @@ fn do_ids_rise(snapshots: &[Snapshot], opened: u64) -> bool
         }
         last = snapshot.id;
     }
-    last <= opened
+    last <= most
 }
 
-/// Returns the first reason that no snapshot can be opened, from the number of open snapshots and
-/// the number ever opened; or none.
-fn room_fault(open_now: usize, opened: u64) -> Option<SnapshotFault>
-    ensures { result ≡ room_refusal open_now opened }
+/// Returns the first reason that no snapshot can be opened, from the number of open snapshots and the last id; or none.
+fn room_fault(open_now: usize, last_id: u64) -> Option<SnapshotFault>
+    ensures { result ≡ room_refusal open_now last_id }
 {
     if open_now >= MAX_OPEN_SNAPSHOTS {
         return Some(SnapshotFault::TooManySnapshots);
     }
-    if opened >= u64::MAX - 1 {
+    if last_id >= u64::MAX - 1 {
         return Some(SnapshotFault::NumbersSpent);
     }
     None

@@ -32,7 +32,8 @@ sorted-filter c p (x ∷ xs) h =
     ]
 
 pub part-restores : (kept : StoreView) (past : List Step) (is_of : List ℕ → Bool) → Represents kept past
-    → 0 < kept.start → kept.start ≤ MAX_INITIAL_NODES → RowsAscend kept.rows → IsCheckpoint (part_of is_of kept)
+    → 0 < kept.initial_nodes → kept.initial_nodes ≤ MAX_INITIAL_NODES → RowsAscend kept.rows
+    → IsCheckpoint (part_of is_of kept)
 part-restores kept past is_of h some few up =
     checkpoint-sound (part_of is_of kept) _ (represents-part kept past is_of h).represents some few
     (sorted-filter row_cmp (λ (row : Row). is_of row.key) kept.rows up)

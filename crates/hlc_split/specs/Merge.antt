@@ -9,11 +9,11 @@ use Rattle.hlc_split.specs.declared.joining.MergeFault.TheVariants.{KeysOverlap,
 
 -- both have as many nodes at the start, and the same progress of each link
 abbrev pub HaveSameLinks : StoreView → StoreView → Type 0
-HaveSameLinks left right = (left.start ≡ right.start) × (left.links ≡ right.links)
+HaveSameLinks left right = (left.initial_nodes ≡ right.initial_nodes) × (left.links ≡ right.links)
 
--- both have the same open snapshots, of as many that were ever opened
+-- both have the same open snapshots, and the same last id
 abbrev pub HaveSameSnapshots : StoreView → StoreView → Type 0
-HaveSameSnapshots left right = (left.opened ≡ right.opened) × (left.snapshots ≡ right.snapshots)
+HaveSameSnapshots left right = (left.last_id ≡ right.last_id) × (left.snapshots ≡ right.snapshots)
 
 -- the keys of the one list are below the first key of the other, and no key of the other is
 abbrev pub AreDivided : List Row → List Row → Type 0

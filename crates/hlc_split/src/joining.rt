@@ -1,6 +1,6 @@
 //! Two checkpoints joined into one.
-ghost use Rattle.std.specs.Prelude.{◌≡◌, ◌++◌, ◌∷◌, ◌↔◌, ⊤, not, true, All, IfOk, IfErr, IsTrue, List};
-ghost use Rattle.std.specs.Prelude.{ℕ, Bool, MatchOption};
+ghost use Rattle.std.specs.Prelude.{◌≡◌, ◌++◌, ◌∷◌, ◌↔◌, not, true, All, IfOk, IfErr, IsTrue, List};
+ghost use Rattle.std.specs.Prelude.{ℕ, Bool};
 ghost use Rattle.hlc_core.specs.Past.{Step, PartVacuumed, IsLegal};
 ghost use Rattle.hlc_core.specs.StoreView.{with_rows_left, Represents};
 ghost use Rattle.hlc_split.specs.Split.{RepresentsPart, is_under, is_from};
@@ -22,7 +22,7 @@ use std::fmt;
 pub enum MergeFault {
     /// The numbers of nodes at the start differ, or the links do: one has taken items that the other has not.
     LinksDiffer,
-    /// The open snapshots differ, or the numbers of those ever opened.
+    /// The open snapshots differ, or the last ids.
     SnapshotsDiffer,
     /// The horizons differ.
     HorizonsDiffer,
@@ -109,25 +109,25 @@ pub fn merge(left: Checkpoint, right: Checkpoint) -> Result<Checkpoint, MergeFau
     if !are_divided(left.rows(), right.rows()) {
         return Err(MergeFault::KeysOverlap);
     }
-    let (start, opened, horizon) = (left.start(), left.opened(), left.horizon());
+    let (nodes, last_id, horizon) = (left.initial_nodes(), left.last_id(), left.horizon());
     let (links, snapshots, lower) = left.into_lists();
     let (_, _, upper) = right.into_lists();
     let rows = joined(lower, upper)?;
-    Ok(Checkpoint::of(start, links, snapshots, opened, horizon, rows))
+    Ok(Checkpoint::of(nodes, links, snapshots, last_id, horizon, rows))
 }
 
 /// Returns whether both have as many nodes at the start, and the same progress of each link.
 fn have_same_links(left: &Checkpoint, right: &Checkpoint) -> bool
     ensures { IsTrue result ↔ HaveSameLinks left.now right.now }
 {
-    left.start() == right.start() && are_same_links(left.links(), right.links())
+    left.initial_nodes() == right.initial_nodes() && are_same_links(left.links(), right.links())
 }
 
-/// Returns whether both have the same open snapshots, of as many that were ever opened.
+/// Returns whether both have the same open snapshots, and the same last id.
 fn have_same_snapshots(left: &Checkpoint, right: &Checkpoint) -> bool
     ensures { IsTrue result ↔ HaveSameSnapshots left.now right.now }
 {
-    left.opened() == right.opened() && are_same_snapshots(left.snapshots(), right.snapshots())
+    left.last_id() == right.last_id() && are_same_snapshots(left.snapshots(), right.snapshots())
 }
 
 /// Returns whether both lists have the same links.

@@ -38,7 +38,8 @@ pub fn ranges_answer_alike()
 /// A part of a checkpoint is a checkpoint, so `Core::restore` refuses it only if memory runs out.
 pub fn parts_restore()
     ensures { (kept : StoreView) (past : List Step) (is_of : List ℕ → Bool) → Represents kept past
-        → 0 < kept.start → kept.start ≤ MAX_INITIAL_NODES → RowsAscend kept.rows → IsCheckpoint (part_of is_of kept) }
+        → 0 < kept.initial_nodes → kept.initial_nodes ≤ MAX_INITIAL_NODES → RowsAscend kept.rows
+        → IsCheckpoint (part_of is_of kept) }
 {}
 
 /// The stores of the keys of a kind and of the others, of one past, are together a store of all keys: one with the rows

@@ -5,11 +5,11 @@ use Rattle.std.proofs.lemmas.List.Elements.{All-head, All-tail, All-weaker, All-
 use Rattle.hlc_snapshot.specs.declared.snapshot.Snapshot.{Snapshot}
 use Rattle.hlc_snapshot.specs.RegistryView.{stamp_in}
 use Rattle.hlc_snapshot.proofs.RegisterLemmas.{stamp_in-hit, stamp_in-miss}
-use Rattle.hlc_core.specs.Past.{Step, Started, Took, Opened, Closed, Vacuumed, PartVacuumed, Joined, opened}
+use Rattle.hlc_core.specs.Past.{Step, Started, Took, Opened, Closed, Vacuumed, PartVacuumed, Joined, last_id}
 use Rattle.hlc_core.specs.Past.{open_snapshots, stamp_of}
 
--- the ids of the open snapshots are no greater than the number of those opened
-ids_low : (past : List Step) → All (λ (s : Snapshot). s.id ≤ opened past) (open_snapshots past)
+-- the ids of the open snapshots are no greater than the last id
+ids_low : (past : List Step) → All (λ (s : Snapshot). s.id ≤ last_id past) (open_snapshots past)
 ids_low [] = All-nil (λ (s : Snapshot). s.id ≤ 0)
 ids_low (Started nodes ∷ past) = ids_low past
 ids_low (Took item ∷ past) = ids_low past
@@ -17,13 +17,13 @@ ids_low (Vacuumed at ∷ past) = ids_low past
 ids_low (PartVacuumed at dropped ∷ past) = ids_low past
 ids_low (Joined node start ∷ past) = ids_low past
 ids_low (Closed id ∷ past) =
-    All-filter (λ (s : Snapshot). not (s.id == id)) (λ (s : Snapshot). s.id ≤ opened past)
+    All-filter (λ (s : Snapshot). not (s.id == id)) (λ (s : Snapshot). s.id ≤ last_id past)
     (open_snapshots past) (ids_low past)
 ids_low (Opened stamp ∷ past) =
-    let before = All-weaker (λ (s : Snapshot). s.id ≤ opened past) (λ (s : Snapshot). s.id ≤ opened past + 1)
+    let before = All-weaker (λ (s : Snapshot). s.id ≤ last_id past) (λ (s : Snapshot). s.id ≤ last_id past + 1)
     (λ s low. omega (arith, low)) (open_snapshots past) (ids_low past) in
-    All-push (λ (s : Snapshot). s.id ≤ opened past + 1) (open_snapshots past)
-    (record { id = opened past + 1; stamp = stamp })
+    All-push (λ (s : Snapshot). s.id ≤ last_id past + 1) (open_snapshots past)
+    (record { id = last_id past + 1; stamp = stamp })
     before (omega arith)
 
 last_found : (y : Snapshot) (xs : List Snapshot) → All (λ (s : Snapshot). s.id < y.id) xs
@@ -34,9 +34,9 @@ last_found y (x ∷ xs) below =
     stamp_in-miss y.id x (xs ++ y ∷ []) (λ same. omega arith)
     ∙ last_found y xs (All-tail (λ (s : Snapshot). s.id < y.id) x xs below)
 
-pub just_opened : (past : List Step) (stamp : ℕ) → stamp_of (opened past + 1) (Opened stamp ∷ past) ≡ Some stamp
+pub just_opened : (past : List Step) (stamp : ℕ) → stamp_of (last_id past + 1) (Opened stamp ∷ past) ≡ Some stamp
 just_opened past stamp =
-    last_found (record { id = opened past + 1; stamp = stamp }) (open_snapshots past)
-    (All-weaker (λ (s : Snapshot). s.id ≤ opened past) (λ (s : Snapshot). s.id < opened past + 1)
+    last_found (record { id = last_id past + 1; stamp = stamp }) (open_snapshots past)
+    (All-weaker (λ (s : Snapshot). s.id ≤ last_id past) (λ (s : Snapshot). s.id < last_id past + 1)
     (λ s low. omega (arith, low))
     (open_snapshots past) (ids_low past))

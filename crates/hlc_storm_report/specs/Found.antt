@@ -4,7 +4,7 @@ use Rattle.std.specs.List.{range_with_len}
 use Rattle.hlc_vacuum_draft.specs.declared.report.Report.{Report}
 use Rattle.hlc_events.specs.declared.event.CoreEvent.{CoreEvent}
 use Rattle.hlc_core.specs.declared.reply.CoreReply.{CoreReply}
-use Rattle.hlc_core.specs.Past.{Step, Opened, Closed, count, floor, opened, writes}
+use Rattle.hlc_core.specs.Past.{Step, Opened, Closed, count, floor, last_id, writes}
 use Rattle.hlc_core.specs.Stored.{IsReport}
 use Rattle.hlc_core.specs.Listing.{IsListing}
 use Rattle.hlc_core.specs.History.{IsLegalHistory, past_of}
@@ -23,7 +23,7 @@ pub record IsFoundIn (plan : StormPlan) (past : List Step) (report : StormReport
   pub floor : report.floor ≡ floor past
   pub pairs : IsListing (writes past) report.floor report.pairs
   pub vacuum : Report
-  pub expected : IsReport report.floor (Closed (opened past + 1) ∷ Opened report.floor ∷ past) vacuum
+  pub expected : IsReport report.floor (Closed (last_id past + 1) ∷ Opened report.floor ∷ past) vacuum
   pub kept : report.kept ≡ vacuum.kept
 
 -- why a storm may have no report: never because of a worker that was done, and never because there is no trail, since

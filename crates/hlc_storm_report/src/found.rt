@@ -2,7 +2,7 @@
 ghost use Rattle.std.specs.Prelude.{◌≡◌, ◌+◌, ◌∷◌, List, map, IfOk, IfErr};
 ghost use Rattle.std.specs.List.{range_with_len};
 ghost use Rattle.hlc_vacuum_draft.specs.declared.report.Report.{Report as AReport};
-ghost use Rattle.hlc_core.specs.Past.{Step, Opened, Closed, count, floor, opened, writes};
+ghost use Rattle.hlc_core.specs.Past.{Step, Opened, Closed, count, floor, last_id, writes};
 ghost use Rattle.hlc_core.specs.Listing.{IsListing};
 ghost use Rattle.hlc_core.specs.Stored.{IsReport};
 ghost use Rattle.hlc_core.specs.StoreView.{Represents};
@@ -46,7 +46,7 @@ fn listed_at_floor(core: &mut Core) -> Result<(Stamp, Listing), StormFault>
     ensures found { IfOk result
         (λ found. (past : List Step) → Represents core.old past
         → (found.0 ≡ floor past) × IsListing (writes past) found.0 found.1
-        × Represents core.new (Closed (opened past + 1) ∷ Opened found.0 ∷ past)) }
+        × Represents core.new (Closed (last_id past + 1) ∷ Opened found.0 ∷ past)) }
     ensures memory { IfErr result (λ fault. fault ≡ StormFault.NoMemory) }
 {
     let Ok(opening) = core.open_floor() else {

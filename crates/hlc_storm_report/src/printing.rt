@@ -1,5 +1,5 @@
 //! The printed output of a storm.
-ghost use Rattle.std.specs.Prelude.{map, ◌≡◌, ◌++◌, false};
+ghost use Rattle.std.specs.Prelude.{map, ◌≡◌};
 ghost use Rattle.std.specs.List.{flat_map};
 ghost use Rattle.hlc_text.specs.Text.{printed};
 ghost use Rattle.hlc_text.specs.Watched.{has_failed};

@@ -150,12 +150,11 @@ one-step : (new : StoreView) (past : List Step) (at first rest : ℕ)
     → Represents new (PartVacuumed at (first + rest) ∷ past)
 one-step new past at first rest h = record {
   legal = h.legal.1;
-  start = h.start;
-  many = h.many;
+  initial_nodes = h.initial_nodes;
   links = h.links;
   top = h.top;
   snapshots = h.snapshots;
-  opened = h.opened;
+  last_id = h.last_id;
   rows = h.rows;
   stored = (
     h.stored.0,
@@ -247,7 +246,7 @@ keys-above (row ∷ rows) in' =
 
 pub parts-are-a-vacuum : (old : StoreView) (at : ℕ) (past : List Step) (part : Part) (parts : List Part)
     → Represents old past → ArePass old at [] past part parts
-    → Vacuums old (left_by part parts) at past (report_of part parts)
+    → Vacuums (left_by part parts) at past (report_of part parts)
 parts-are-a-vacuum old at past part parts h pass =
     let new : StoreView = left_by part parts in
     let report : Report = report_of part parts in
@@ -268,12 +267,11 @@ parts-are-a-vacuum old at past part parts h pass =
     let number : length new.rows + 0 ≡ length report.witnesses + count_above at all' = omega arith in
     let represents : Represents new (Vacuumed at ∷ past) = record {
       legal = p.represents.legal;
-      start = p.represents.start;
-      many = p.represents.many;
+      initial_nodes = p.represents.initial_nodes;
       links = p.represents.links;
       top = p.represents.top;
       snapshots = p.represents.snapshots;
-      opened = p.represents.opened;
+      last_id = p.represents.last_id;
       rows = p.represents.rows;
       stored = (report.witnesses, (report.points, p.expected.points, witnesses), number);
       horizon = p.represents.horizon;

@@ -33,7 +33,7 @@ pub fn vacuums_keep_representing()
         → report.floor ≡ at
         → report.kept ≡ length report.witnesses → report.dropped + length rows ≡ length kept.rows
         → report.bytes ≡ rows_cost (rows_to report.floor rows)
-        → Vacuums kept (with_rows_left kept rows at) at past report }
+        → Vacuums (with_rows_left kept rows at) at past report }
 {}
 
 /// After a part of a vacuum up to a stamp, of the stored rows of the keys of one kind, at the points of the past, the

@@ -20,5 +20,5 @@ pub use laws::{
 pub fn parts_are_a_vacuum()
     ensures { (old : StoreView) (at : ℕ) (past : List Step) (part : Part) (parts : List Part)
         → Represents old past → ArePass old at [] past part parts
-        → Vacuums old (left_by part parts) at past (report_of part parts) }
+        → Vacuums (left_by part parts) at past (report_of part parts) }
 {}

@@ -1,5 +1,5 @@
--- Snapshots keep their stamps: an id is one above the number of those opened before, so it is assigned once, and an
--- observation sees the stamp of the opening.
+-- Snapshots keep their stamps: an id is one above the last id before, so it is assigned once, and an observation sees
+-- the stamp of the opening.
 use Rattle.std.proofs.Common.{◌≡◌, ℕ, ◌+◌, ◌<◌, ◌≤◌, List, [], ◌∷◌, Some, None, Option, refl, ap, sym, ◌∙◌, subst, inl}
 use Rattle.std.proofs.Common.{inr, arith}
 use Rattle.std.specs.Prelude.{◌==◌, if◌then◌else◌}
@@ -11,7 +11,7 @@ use Rattle.hlc_core.specs.declared.reply.CoreReply.{CoreReply}
 use Rattle.hlc_core.specs.History.{step_of, with_step, past_of}
 use Rattle.hlc_core.specs.Past.{Step, Started, Took, Opened, Closed as ClosedOf, Vacuumed as VacuumedOf}
 use Rattle.hlc_core.specs.Past.{PartVacuumed as PartVacuumedOf}
-use Rattle.hlc_core.specs.Past.{Joined as JoinedOf, opened, open_snapshots, stamp_of}
+use Rattle.hlc_core.specs.Past.{Joined as JoinedOf, last_id, open_snapshots, stamp_of}
 use Rattle.hlc_world.specs.Schedule.{Event}
 use Rattle.hlc_world.specs.declared.event.Event.TheVariants.{OpenAt, OpenFloor, Observe}
 use Rattle.hlc_world.specs.declared.reply.Reply.{Reply}
@@ -25,10 +25,10 @@ use Rattle.hlc_world.proofs.Entries.{entry-cases}
 -- the stamp at which the snapshot of this id was opened, whether it is still open or closed
 abbrev pub opening : ℕ → List Step → Option ℕ
 opening id [] = None
-opening id (Opened stamp ∷ past) = if opened past + 1 == id then Some stamp else opening id past
+opening id (Opened stamp ∷ past) = if last_id past + 1 == id then Some stamp else opening id past
 opening id (_ ∷ past) = opening id past
 
-opening-low : (past : List Step) (id stamp : ℕ) → opening id past ≡ Some stamp → id ≤ opened past
+opening-low : (past : List Step) (id stamp : ℕ) → opening id past ≡ Some stamp → id ≤ last_id past
 opening-low [] id stamp is = absurd (cc)
 opening-low (Took item ∷ past) id stamp is = opening-low past id stamp is
 opening-low (Started nodes ∷ past) id stamp is = opening-low past id stamp is
@@ -37,10 +37,10 @@ opening-low (VacuumedOf at ∷ past) id stamp is = opening-low past id stamp is
 opening-low (PartVacuumedOf at dropped ∷ past) id stamp is = opening-low past id stamp is
 opening-low (JoinedOf node start ∷ past) id stamp is = opening-low past id stamp is
 opening-low (Opened at ∷ past) id stamp is =
-    elim (cases_eq (opened past + 1) id) [
+    elim (cases_eq (last_id past + 1) id) [
       | inl same ↦ omega arith
       | inr other ↦
-          (let low : id ≤ opened past = opening-low past id stamp (sym (cond-false _ _ _ (ne_eqb _ _ other)) ∙ is) in
+          (let low : id ≤ last_id past = opening-low past id stamp (sym (cond-false _ _ _ (ne_eqb _ _ other)) ∙ is) in
           omega arith)
     ]
 
@@ -53,8 +53,8 @@ opening-stays (VacuumedOf at) past id stamp is = is
 opening-stays (PartVacuumedOf at dropped) past id stamp is = is
 opening-stays (JoinedOf node start) past id stamp is = is
 opening-stays (Opened at) past id stamp is =
-    cond-false _ _ _ (ne_eqb (opened past + 1) id
-    (λ e. let low : id ≤ opened past = opening-low past id stamp is in omega arith)) ∙ is
+    cond-false _ _ _ (ne_eqb (last_id past + 1) id
+    (λ e. let low : id ≤ last_id past = opening-low past id stamp is in omega arith)) ∙ is
 
 opening-step : (o : Option Step) (past : List Step) (id stamp : ℕ) → opening id past ≡ Some stamp
     → opening id (with_step o past) ≡ Some stamp
@@ -67,7 +67,7 @@ opening-later nodes None h id stamp is = is
 opening-later nodes (Some entry) h id stamp is =
     opening-step (step_of entry.0 entry.1) (past_of nodes h) id stamp is
 
-opening-here : (past : List Step) (id stamp : ℕ) → id ≡ opened past + 1 → opening id (Opened stamp ∷ past) ≡ Some stamp
+opening-here : (past : List Step) (id stamp : ℕ) → id ≡ last_id past + 1 → opening id (Opened stamp ∷ past) ≡ Some stamp
 opening-here past id stamp is = cond-true _ _ _ (eq-eqb _ _ (sym is))
 
 -- an open snapshot has the stamp of its opening
@@ -79,7 +79,7 @@ open-opening (VacuumedOf at ∷ past) id stamp is = open-opening past id stamp i
 open-opening (PartVacuumedOf at dropped ∷ past) id stamp is = open-opening past id stamp is
 open-opening (JoinedOf node start ∷ past) id stamp is = open-opening past id stamp is
 open-opening (Opened at ∷ past) id stamp is =
-    elim (stamp_in-push_cases id stamp (record { id = opened past + 1; stamp = at }) (open_snapshots past) is) [
+    elim (stamp_in-push_cases id stamp (record { id = last_id past + 1; stamp = at }) (open_snapshots past) is) [
       | inl before ↦ opening-stays (Opened at) past id stamp (open-opening past id stamp before)
       | inr last ↦ opening-here past id at (sym last.0) ∙ ap Some last.1
     ]

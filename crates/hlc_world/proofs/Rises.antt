@@ -14,7 +14,7 @@ use Rattle.hlc_node.specs.declared.node.NodeFault.TheVariants as node_fault
 use Rattle.hlc_node.specs.Node.{expected_issue}
 use Rattle.hlc_heads.specs.declared.heads.TheConstants.{MAX_NODES}
 use Rattle.hlc_core.specs.Calls.{list_refusal}
-use Rattle.hlc_core.specs.Past.{Step, numbered, retired, count, floor, horizon, opened, stamp_of, open_snapshots}
+use Rattle.hlc_core.specs.Past.{Step, numbered, retired, count, floor, horizon, last_id, stamp_of, open_snapshots}
 use Rattle.hlc_core.specs.Past.{join_refusal, of_room, open_refusal}
 use Rattle.hlc_snapshot.specs.declared.fault.SnapshotFault.{SnapshotFault}
 use Rattle.hlc_snapshot.specs.declared.fault.SnapshotFault.TheVariants as snapshot_fault
@@ -91,7 +91,7 @@ open-rise past stamp head e =
           elim (cases_Bool (nat_lt stamp (horizon past))) [
             | inl below ↦ absurd (let g : Some (Store (BelowHorizon (horizon past))) ≡ Some (StampNotRising head) =
                 ap core_refusal (sym (cond-true _ _ _ below)) ∙ e1 in cc)
-            | inr high ↦ room-rise (room_in (length (open_snapshots past)) (opened past)) head
+            | inr high ↦ room-rise (room_in (length (open_snapshots past)) (last_id past)) head
                 (ap core_refusal (sym (cond-false _ _ _ high)) ∙ e1)
           ]
     ]
@@ -151,7 +151,7 @@ expected-rise nodes s (Observe p reading id) numbers =
     inside-rise nodes s p _ (observe-rise (stamp_of id (core_past nodes s)) (last_stamp p s) reading)
 expected-rise nodes s (OpenAt stamp) numbers = open-rise (core_past nodes s) stamp
 expected-rise nodes s OpenFloor numbers = room-rise
-    (room_in (length (open_snapshots (core_past nodes s))) (opened (core_past nodes s)))
+    (room_in (length (open_snapshots (core_past nodes s))) (last_id (core_past nodes s)))
 expected-rise nodes s (Read id key) numbers = snapshot-rise (stamp_of id (core_past nodes s))
 expected-rise nodes s (ListAll id) numbers = snapshot-rise (stamp_of id (core_past nodes s))
 expected-rise nodes s (Close id) numbers = snapshot-rise (stamp_of id (core_past nodes s))

@@ -4,7 +4,7 @@ use Rattle.std.proofs.Common.{inl, inr}
 use Rattle.std.proofs.lemmas.Bool.{cond-true, eq-eqb, cases_eq}
 use Rattle.hlc_node.specs.declared.item.Item.{Item}
 use Rattle.hlc_snapshot.proofs.RegisterLemmas.{stamp_in-push_cases, stamp_in-without_itself, stamp_in-without_other}
-use Rattle.hlc_core.specs.Past.{Opened as OpenedAt, Closed as ClosedOf, opened, open_snapshots, stamp_of}
+use Rattle.hlc_core.specs.Past.{Opened as OpenedAt, Closed as ClosedOf, last_id, open_snapshots, stamp_of}
 use Rattle.hlc_core.specs.History.{past_of as past_by}
 use Rattle.hlc_world.specs.declared.event.Event.TheVariants.{Join, Deliver, OpenAt, OpenFloor, Read, List as ListAll}
 use Rattle.hlc_world.specs.declared.event.Event.TheVariants.{Close, Vacuum}
@@ -23,12 +23,12 @@ earlier entry s id stamp h =
     record { turn = h.turn; event = h.event; at = entry-keeps entry s h.turn (h.event, Snapshot id stamp) h.at }
 
 opens : (nodes : ℕ) (s : List (Event × Reply)) (event : Event) (given st id stamp : ℕ)
-    → given ≡ opened (core_past nodes s) + 1
+    → given ≡ last_id (core_past nodes s) + 1
     → stamp_of id (OpenedAt st ∷ core_past nodes s) ≡ Some stamp
     → (stamp_of id (core_past nodes s) ≡ Some stamp → IsOpenedAt s id stamp)
     → IsOpenedAt ((event, Snapshot given st) ∷ s) id stamp
 opens nodes s event given st id stamp next is before =
-    elim (stamp_in-push_cases id stamp (record { id = opened (core_past nodes s) + 1; stamp = st })
+    elim (stamp_in-push_cases id stamp (record { id = last_id (core_past nodes s) + 1; stamp = st })
     (open_snapshots (core_past nodes s)) is) [
       | inl old ↦ earlier (event, Snapshot given st) s id stamp (before old)
       | inr last ↦ record {

@@ -1,7 +1,7 @@
 -- The contract of each call says what it did to the past that the core represented before: the listing at the floor,
 -- and then the vacuum.
 use Rattle.std.proofs.Common.{◌+◌, ◌∷◌, sym, subst}
-use Rattle.hlc_core.specs.Past.{Opened, Closed, opened}
+use Rattle.hlc_core.specs.Past.{Opened, Closed, last_id}
 use Rattle.hlc_core.specs.Stored.{IsReport}
 use Rattle.hlc_storm_report.proofs.found.found_in.Goals as goal
 
@@ -14,7 +14,7 @@ returns-clause-found c past represents =
       floor = listed.0;
       pairs = listed.1;
       vacuum = made.0;
-      expected = subst (λ at. IsReport at (Closed (opened past + 1) ∷ Opened c.in_ok-listed.listed.0 ∷ past) made.0)
+      expected = subst (λ at. IsReport at (Closed (last_id past + 1) ∷ Opened c.in_ok-listed.listed.0 ∷ past) made.0)
           (sym listed.0) made.1;
       kept = made.2;
     }

@@ -1,7 +1,7 @@
 -- The contract of each call says what it did to the past that the core represented before: the snapshot is opened at
 -- the floor, listed and closed.
 use Rattle.std.proofs.Common.{◌+◌, ◌∷◌, ◌∙◌, ap, subst, sym}
-use Rattle.hlc_core.specs.Past.{Opened, Closed, floor, opened, stamp_of, writes}
+use Rattle.hlc_core.specs.Past.{Opened, Closed, floor, last_id, stamp_of, writes}
 use Rattle.hlc_core.specs.Calls.{IsListed}
 use Rattle.hlc_core.specs.Listing.{IsListing}
 use Rattle.hlc_core.specs.StoreView.{Represents}
@@ -21,5 +21,5 @@ returns-clause-found c past represents =
     let same = subst (λ i. Represents c.close.new.self (Closed i ∷ then)) id closed in (
       at,
       subst (λ s. IsListing (writes past) s c.in-Ok-list.pairs) (sym at) listed,
-      subst (λ s. Represents c.close.new.self (Closed (opened past + 1) ∷ Opened s ∷ past)) (sym at) same,
+      subst (λ s. Represents c.close.new.self (Closed (last_id past + 1) ∷ Opened s ∷ past)) (sym at) same,
     )

@@ -22,9 +22,9 @@ pub returns-clause-represents : goal.returns-clause-represents
 returns-clause-represents c = λ past h.
     let h' = rw (← c.self.view_is) at h in
     let made = c.in_ok-join.ensures in
-    let is = made.1 ∙ h'.many in
+    let is = made.1 ∙ h'.links.many in
     let at = floor-is _ _ made.2 ∙ floor-in _ past h' in
-    let none = joins-none past _ made.0 h'.many in
+    let none = joins-none past _ made.0 h'.links.many in
     rw made.3 (
       none,
       both c.in_ok-join.field-0 _ _ is at,

@@ -21,15 +21,15 @@ returns-in_err-join_at-clause-represents c = λ past h.
     let h' = rw (← c.self.view_is) at h in
     let p = err_from_is_err_and c.from_residual.result c.from_residual.ensures.1 in
     rw (p.1, p.2)
-    (refused past _ c.join_at.new.self c.args.start c.in_err-join_at.field-0.0 h'.many (floor-in _ past h')
+    (refused past _ c.join_at.new.self c.args.start c.in_err-join_at.field-0.0 h'.links.many (floor-in _ past h')
     c.in_err-join_at.ensures)
 
 pub returns-clause-represents : goal.returns-clause-represents
 returns-clause-represents c = λ past h.
     let h' = rw (← c.self.view_is) at h in
     let made = c.in_ok-join_at.ensures in
-    let is = made.2 ∙ h'.many in
-    let none = joins-none past _ made.0 h'.many in
+    let is = made.2 ∙ h'.links.many in
+    let none = joins-none past _ made.0 h'.links.many in
     let at = floor-in _ past h' in
     let low = made.1 in
     let up : floor past ≤ c.args.start = omega (arith, low, at) in

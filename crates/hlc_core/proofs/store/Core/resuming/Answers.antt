@@ -16,7 +16,7 @@ resuming-requires c =
 pub resuming-requires-2 : goal.resuming-requires-2
 resuming-requires-2 c =
     let sound = c.into_parts-head.ensures.sound in
-    rw (c.into_lists-links.ensures.snapshots, c.opened-opened.ensures)
+    rw (c.into_lists-links.ensures.snapshots, c.last_id-last_id.ensures)
     (copied-register sound.0 (with_rows c.into_parts-head.result.0 c.into_parts-head.result.1) sound.1
     (subst (IsCopyOf sound.0) (sym c.into_parts-head.ensures.same) sound.2))
 
@@ -30,7 +30,7 @@ invariant_of-result c =
       c.into_lists-links.ensures.links,
       c.into_lists-links.ensures.snapshots,
       c.horizon-horizon.ensures,
-      c.start-start.ensures,
+      c.initial_nodes-initial_nodes.ensures,
     )
     (copied sound.0 (with_rows c.into_parts-head.result.0 c.into_parts-head.result.1) sound.1
     (subst (IsCopyOf sound.0) (sym c.into_parts-head.ensures.same) sound.2))
@@ -43,7 +43,7 @@ returns c =
       c.resuming-2.ensures,
       c.into_lists-links.ensures.links,
       c.into_lists-links.ensures.snapshots,
-      c.opened-opened.ensures,
+      c.last_id-last_id.ensures,
       c.horizon-horizon.ensures,
-      c.start-start.ensures,
+      c.initial_nodes-initial_nodes.ensures,
     ) c.into_parts-head.ensures.same

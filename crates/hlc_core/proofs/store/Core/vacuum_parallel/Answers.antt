@@ -5,5 +5,5 @@ use Rattle.hlc_core.proofs.store.Core.vacuum_parallel.Goals as goal
 
 pub returns-clause-ok : goal.returns-clause-ok
 returns-clause-ok g c = λ past h.
-    subst (λ at. Vacuums c.args.self.now c.carry_out.new.self at past c.carry_out.result)
+    subst (λ at. Vacuums c.carry_out.new.self at past c.carry_out.result)
     (c.floor-floor.ensures.represents past h) (c.carry_out.ensures.vacuums past h)

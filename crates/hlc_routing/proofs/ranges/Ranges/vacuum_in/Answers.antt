@@ -19,10 +19,10 @@ returns-clause-represents c = λ layout run h.
     elim c.match-vacuum_to.branch [
       | in-Ok w ↦ rw w.result-is (vacuumed layout view run c.args.store c.args.at c.in-Some.core.now
           c.vacuum_to.new.self _ h' at
-          (subst (λ r. VacuumsTo c.in-Some.core.now c.vacuum_to.new.self c.args.at (past_of layout c.args.store run) r)
+          (subst (λ r. VacuumsTo c.vacuum_to.new.self c.args.at (past_of layout c.args.store run) r)
           w.in-Ok.is vacuums))
       | in-Err w ↦ rw (w.result-is, ← c.self.view_is) (not-vacuumed layout view view run c.args.store c.args.at
           c.in-Some.core.now c.vacuum_to.new.self _ h' at
-          (subst (λ r. VacuumsTo c.in-Some.core.now c.vacuum_to.new.self c.args.at (past_of layout c.args.store run) r)
+          (subst (λ r. VacuumsTo c.vacuum_to.new.self c.args.at (past_of layout c.args.store run) r)
           w.in-Err.is vacuums))
     ]

@@ -18,7 +18,7 @@ returns-clause-ok c = (sym c.stamp_of.ensures.value ∙ c.in-Some.is, rw (← c.
 
 pub returns-clause-map : goal.returns-clause-map
 returns-clause-map c = λ other. rw (← c.self.view_is, kept c)
-    (closed-map (record { snapshots = c.self.inside.snapshots.items; opened = c.self.inside.opened }) c.args.id other)
+    (closed-map (record { snapshots = c.self.inside.snapshots.items; last_id = c.self.inside.last_id }) c.args.id other)
 
 pub returns-clause-register : goal.returns-clause-register
 returns-clause-register c = rw (kept c) (closed-is_register _ c.args.id c.self.invariant)

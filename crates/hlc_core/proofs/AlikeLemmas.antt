@@ -8,14 +8,14 @@ use Rattle.hlc_node.specs.Items.{an_item, retires}
 use Rattle.hlc_heads.proofs.LowLemmas.{low-same}
 use Rattle.hlc_snapshot.specs.RegistryView.{without}
 use Rattle.hlc_core.specs.Past.{Step, Started, Took, Opened, Closed, Joined, initial_nodes, numbered, count, head}
-use Rattle.hlc_core.specs.Past.{retired, top, floor, opened, open_snapshots}
+use Rattle.hlc_core.specs.Past.{retired, top, floor, last_id, open_snapshots}
 
 -- No vacuum, and no part of one, changes anything of this.
 abbrev pub AreAlike : List Step → List Step → Type 0
 AreAlike past other =
     (initial_nodes past ≡ initial_nodes other) × (numbered past ≡ numbered other)
     × ((n : ℕ) → (count n past ≡ count n other) × (head n past ≡ head n other) × (retired n past ≡ retired n other))
-    × (top past ≡ top other) × (opened past ≡ opened other) × (open_snapshots past ≡ open_snapshots other)
+    × (top past ≡ top other) × (last_id past ≡ last_id other) × (open_snapshots past ≡ open_snapshots other)
 
 pub alike-itself : (past : List Step) → AreAlike past past
 alike-itself past = (refl, refl, λ n. (refl, refl, refl), refl, refl, refl)
