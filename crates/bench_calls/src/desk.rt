@@ -229,7 +229,7 @@ fn run_on_board<L: Ledger + Send + Sync, R: Threads + Wait + Sync + Clock>(
 ) -> (u64, u64)
     requires { readers ≤ 64 }
 {
-    let Ok((board, feeders, passes)) = Board::new(alloc, NODES, usize::from(readers)) else {
+    let Ok(Ok((board, feeders, passes))) = Board::new(alloc, NODES, usize::from(readers)) else {
         return (0, 0);
     };
     let looking = looking_all(alloc, &board, passes);

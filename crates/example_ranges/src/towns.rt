@@ -41,7 +41,7 @@ pub(crate) fn restored(
 ) -> Result<Ranges, Stopped> {
     let mut stores = Vec::new(alloc);
     for checkpoint in checkpoints {
-        stores.push(Core::restore(alloc, checkpoint)?)?;
+        stores.push(Core::restore(alloc, checkpoint)??)?;
     }
     of_stores(division, stores)
 }

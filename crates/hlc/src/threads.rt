@@ -1,7 +1,7 @@
 //! A store that threads share, the links that bring it items, the board that shows the floor (closed timestamp) to
 //! readers without a lock, and the loops of threads that feed, read and vacuum.
 
-pub use hlc_floor::{Board, BoardFault, Feeder, FloorPass};
+pub use hlc_floor::{Board, Feeder, FloorPass, NodesOutOfRange};
 pub use hlc_link::{LinkClosed, LinkReceiver, LinkSender, Parcel, PutFault, link};
 pub use hlc_server::{
     CallResult, Called, Caller, Entry, NotDone, Receipt, SettleFault, Settled, Shared, Trail,

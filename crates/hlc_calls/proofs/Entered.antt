@@ -13,7 +13,7 @@ use Rattle.hlc_intake.specs.Faults.{link_code}
 use Rattle.hlc_intake.specs.declared.intake.LinkFault.{LinkFault}
 use Rattle.hlc_intake.specs.declared.intake.LinkFault.TheVariants.{Retired, NotNext, NumbersSpent, StampNotRising}
 use Rattle.hlc_heads.specs.declared.heads.JoinFault.{JoinFault}
-use Rattle.hlc_heads.specs.declared.heads.JoinFault.TheVariants.{TooManyNodes, BelowFloor, NoMemory as NoRoom}
+use Rattle.hlc_heads.specs.declared.heads.JoinFault.TheVariants.{TooManyNodes, BelowFloor}
 use Rattle.hlc_snapshot.specs.Faults.{snapshot_code}
 use Rattle.hlc_snapshot.specs.declared.fault.SnapshotFault.{SnapshotFault}
 use Rattle.hlc_snapshot.specs.declared.fault.SnapshotFault.TheVariants as snapshot_fault
@@ -41,7 +41,6 @@ body_above KeyTwice = lit< tt
 join_above : (fault : JoinFault) → 0 < answer_code (Join fault)
 join_above TooManyNodes = lit< tt
 join_above (BelowFloor floor) = lit< tt
-join_above NoRoom = lit< tt
 
 snapshot_above : (fault : SnapshotFault) → 0 < snapshot_code fault
 snapshot_above snapshot_fault.TooManySnapshots = lit< tt

@@ -1,6 +1,6 @@
 -- The parts that are made from a checkpoint are consistent, as those of a core are, and the state of a core, with its
 -- rows in order, is a checkpoint.
-use Rattle.std.proofs.Common.{◌≡◌, ◌≢◌, ℕ, suc, ◌<◌, ◌≤◌, List, [], ◌∷◌, length}
+use Rattle.std.proofs.Common.{◌≡◌, ℕ, suc, ◌<◌, ◌≤◌, List, [], ◌∷◌, length}
 use Rattle.std.proofs.Common.{refl, sym, subst, inl, inr, arith, IsPermutation, ltb}
 use Rattle.std.specs.Prelude.{MatchOption}
 use Rattle.std.proofs.lemmas.Option.{slice_get-get_or, slice_get_past}
@@ -170,17 +170,15 @@ listed-above since kept store made rows of same is above = record {
   rows = subst (AreRowsAbove kept.rows since) (sym is) above;
 }
 
--- there is no reason against a checkpoint but memory
-pub sound-has_no_reason : (kept : StoreView) (fault : RestoreFault) → IsCheckpoint kept → IsFirstReason kept fault
-    → fault ≢ reasons.NoMemory → ⊥
-sound-has_no_reason kept reasons.NodesOutOfRange is reason other = reason is.nodes
-sound-has_no_reason kept reasons.NumberAboveHead is reason other = reason.1 is.stamps
-sound-has_no_reason kept reasons.RetiredWithoutItem is reason other = reason.2 is.last
-sound-has_no_reason kept reasons.SnapshotsNotRising is reason other = reason.1 is.register
-sound-has_no_reason kept reasons.SnapshotAboveFloor is reason other = reason.2 is.opened
-sound-has_no_reason kept reasons.HorizonAboveFloor is reason other =
+-- there is no reason against a checkpoint
+pub sound-has_no_reason : (kept : StoreView) (fault : RestoreFault) → IsCheckpoint kept → IsFirstReason kept fault → ⊥
+sound-has_no_reason kept reasons.NodesOutOfRange is reason = reason is.nodes
+sound-has_no_reason kept reasons.NumberAboveHead is reason = reason.1 is.stamps
+sound-has_no_reason kept reasons.RetiredWithoutItem is reason = reason.2 is.last
+sound-has_no_reason kept reasons.SnapshotsNotRising is reason = reason.1 is.register
+sound-has_no_reason kept reasons.SnapshotAboveFloor is reason = reason.2 is.opened
+sound-has_no_reason kept reasons.HorizonAboveFloor is reason =
     (let up : floor_in kept < kept.horizon = reason.3 in let low = is.horizon in omega (arith, up, low))
-sound-has_no_reason kept reasons.RowsNotAscending is reason other = reason.1 is.ascend
-sound-has_no_reason kept reasons.RowAboveHead is reason other = reason.2 is.under
-sound-has_no_reason kept reasons.RowOutOfLimits is reason other = reason.3 is.limits
-sound-has_no_reason kept reasons.NoMemory is reason other = other refl
+sound-has_no_reason kept reasons.RowsNotAscending is reason = reason.1 is.ascend
+sound-has_no_reason kept reasons.RowAboveHead is reason = reason.2 is.under
+sound-has_no_reason kept reasons.RowOutOfLimits is reason = reason.3 is.limits

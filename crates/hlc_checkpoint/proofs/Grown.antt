@@ -39,20 +39,6 @@ head-first kept rows reasons.HorizonAboveFloor is = is
 head-first kept rows reasons.RowsNotAscending is = absurd is
 head-first kept rows reasons.RowAboveHead is = absurd is
 head-first kept rows reasons.RowOutOfLimits is = absurd is
-head-first kept rows reasons.NoMemory is = absurd is
-
--- it is not out of memory
-pub head-other : (kept : StoreView) (fault : RestoreFault) → IsHeadReason kept fault → fault ≡ reasons.NoMemory → ⊥
-head-other kept reasons.NodesOutOfRange is same = cc
-head-other kept reasons.NumberAboveHead is same = cc
-head-other kept reasons.RetiredWithoutItem is same = cc
-head-other kept reasons.SnapshotsNotRising is same = cc
-head-other kept reasons.SnapshotAboveFloor is same = cc
-head-other kept reasons.HorizonAboveFloor is same = cc
-head-other kept reasons.RowsNotAscending is same = absurd is
-head-other kept reasons.RowAboveHead is same = absurd is
-head-other kept reasons.RowOutOfLimits is same = absurd is
-head-other kept reasons.NoMemory is same = absurd is
 
 -- the rows are the only difference
 all-else : (head : StoreView) (stored : List Row) (kept : StoreView) → with_rows head stored ≡ with_rows kept stored

@@ -15,7 +15,7 @@ use Rattle.hlc_checkpoint.specs.declared.checkpoint.RestoreFault.TheVariants.{No
 use Rattle.hlc_checkpoint.specs.declared.checkpoint.RestoreFault.TheVariants.{RetiredWithoutItem, SnapshotsNotRising}
 use Rattle.hlc_checkpoint.specs.declared.checkpoint.RestoreFault.TheVariants.{SnapshotAboveFloor, HorizonAboveFloor}
 use Rattle.hlc_checkpoint.specs.declared.checkpoint.RestoreFault.TheVariants.{RowsNotAscending, RowAboveHead}
-use Rattle.hlc_checkpoint.specs.declared.checkpoint.RestoreFault.TheVariants.{RowOutOfLimits, NoMemory}
+use Rattle.hlc_checkpoint.specs.declared.checkpoint.RestoreFault.TheVariants.{RowOutOfLimits}
 use Rattle.hlc_checkpoint.specs.StoreView.{StoreView, HasNodes, HasStamps, HasLastItem, greatest_head, marks_of}
 use Rattle.hlc_checkpoint.specs.StoreView.{with_rows_left}
 use Rattle.hlc_checkpoint.specs.Sorted.{AreRowsAbove}
@@ -73,7 +73,7 @@ abbrev pub IsSoundHead : StoreView → Type 0
 IsSoundHead kept =
     HasLinks kept × HasRegister kept × AreAtMost (floor_in kept) kept × (kept.horizon ≤ floor_in kept)
 
--- the first reason why this is no checkpoint; out of memory if it is one
+-- the first reason why this is no checkpoint
 abbrev pub IsFirstReason : StoreView → RestoreFault → Type 0
 IsFirstReason kept NodesOutOfRange = HasNodes kept.initial_nodes kept.links → ⊥
 IsFirstReason kept NumberAboveHead = HasNodes kept.initial_nodes kept.links × (All HasStamps kept.links → ⊥)
@@ -88,7 +88,6 @@ IsFirstReason kept RowAboveHead =
     IsSoundHead kept × RowsAscend kept.rows × (All (IsUnderHead kept.links) kept.rows → ⊥)
 IsFirstReason kept RowOutOfLimits =
     IsSoundHead kept × RowsAscend kept.rows × All (IsUnderHead kept.links) kept.rows × (AreInLimits kept.rows → ⊥)
-IsFirstReason kept NoMemory = IsCheckpoint kept
 
 -- the first reason, and one that needs no rows
 abbrev pub IsHeadReason : StoreView → RestoreFault → Type 0
@@ -101,7 +100,6 @@ IsHeadReason kept HorizonAboveFloor = IsFirstReason kept HorizonAboveFloor
 IsHeadReason kept RowsNotAscending = ⊥
 IsHeadReason kept RowAboveHead = ⊥
 IsHeadReason kept RowOutOfLimits = ⊥
-IsHeadReason kept NoMemory = ⊥
 
 -- the copy is the same state, with its rows in another order
 pub record IsCopyOf (kept copy : StoreView) : Type 0 where

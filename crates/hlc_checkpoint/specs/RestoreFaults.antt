@@ -5,7 +5,7 @@ use Rattle.hlc_checkpoint.specs.declared.checkpoint.RestoreFault.TheVariants.{No
 use Rattle.hlc_checkpoint.specs.declared.checkpoint.RestoreFault.TheVariants.{RetiredWithoutItem, SnapshotsNotRising}
 use Rattle.hlc_checkpoint.specs.declared.checkpoint.RestoreFault.TheVariants.{SnapshotAboveFloor, HorizonAboveFloor}
 use Rattle.hlc_checkpoint.specs.declared.checkpoint.RestoreFault.TheVariants.{RowsNotAscending, RowAboveHead}
-use Rattle.hlc_checkpoint.specs.declared.checkpoint.RestoreFault.TheVariants.{RowOutOfLimits, NoMemory}
+use Rattle.hlc_checkpoint.specs.declared.checkpoint.RestoreFault.TheVariants.{RowOutOfLimits}
 
 -- the number of a fault in outputs
 abbrev pub fault_code : RestoreFault → ℕ
@@ -18,7 +18,6 @@ fault_code HorizonAboveFloor = 6
 fault_code RowsNotAscending = 7
 fault_code RowAboveHead = 8
 fault_code RowOutOfLimits = 9
-fault_code NoMemory = 10
 
 -- the text of a fault
 abbrev pub fault_text : RestoreFault → List ℕ
@@ -31,4 +30,3 @@ fault_text HorizonAboveFloor = codes "the horizon is above the floor"
 fault_text RowsNotAscending = codes "the rows do not ascend by key, stamp and node"
 fault_text RowAboveHead = codes "a row is of no node, or above the head of its node"
 fault_text RowOutOfLimits = codes "a key or a value is out of the limits"
-fault_text NoMemory = codes "out of memory"

@@ -1,5 +1,5 @@
 //! A checkpoint that was checked, with its rows in a table.
-ghost use Rattle.std.specs.Prelude.{◌≡◌};
+ghost use Rattle.std.specs.Prelude.{◌≡◌, MatchResult};
 ghost use Rattle.hlc_checkpoint.specs.StoreView.{StoreView};
 ghost use Rattle.hlc_checkpoint.specs.Checkpoint.{IsCheckpoint, IsCopyOf, Restores};
 ghost use Rattle.hlc_checkpoint.specs.Growing.{with_rows};
@@ -7,6 +7,7 @@ ghost use Rattle.hlc_checkpoint.specs.Growing.{with_rows};
 use crate::checkpoint::{Checkpoint, RestoreFault};
 use crate::restoring::{table_of, table_of_moved};
 use hlc_columns::Table;
+use hlc_values::NoMemory;
 use std::alloc::Global;
 use std::marker::Model;
 
@@ -32,29 +33,35 @@ impl Model for Checked {
 }
 
 impl Checked {
-    /// Checks a checkpoint, and copies its parts and its rows. Refused for the first reason of `RestoreFault`; out of
-    /// memory is the last.
-    pub fn copy_of(alloc: Global, checkpoint: &Checkpoint) -> Result<Checked, RestoreFault>
-        ensures { Restores checkpoint.now result }
+    /// Checks a checkpoint, and copies its parts and its rows. Refused for the first reason of `RestoreFault`; memory
+    /// is needed only after the check.
+    pub fn copy_of(
+        alloc: Global,
+        checkpoint: &Checkpoint,
+    ) -> Result<Result<Checked, RestoreFault>, NoMemory>
+        ensures { MatchResult result (Restores checkpoint.now) (λ _. IsCheckpoint checkpoint.now) }
     {
         if let Some(fault) = checkpoint.fault() {
-            return Err(fault);
+            return Ok(Err(fault));
         }
         let head = checkpoint.copy_head(alloc)?;
         let table = table_of(alloc, checkpoint.rows())?;
-        Ok(Checked { head, table })
+        Ok(Ok(Checked { head, table }))
     }
 
     /// Checks a checkpoint as `copy_of` does, and moves its parts and its rows. A refused checkpoint is lost.
-    pub fn of(alloc: Global, checkpoint: Checkpoint) -> Result<Checked, RestoreFault>
-        ensures { Restores checkpoint result }
+    pub fn of(
+        alloc: Global,
+        checkpoint: Checkpoint,
+    ) -> Result<Result<Checked, RestoreFault>, NoMemory>
+        ensures { MatchResult result (Restores checkpoint) (λ _. IsCheckpoint checkpoint) }
     {
         if let Some(fault) = checkpoint.fault() {
-            return Err(fault);
+            return Ok(Err(fault));
         }
         let (head, rows) = checkpoint.split(alloc);
         let table = table_of_moved(alloc, rows)?;
-        Ok(Checked { head, table })
+        Ok(Ok(Checked { head, table }))
     }
 
     /// Returns the checkpoint of parts and a table that were checked.

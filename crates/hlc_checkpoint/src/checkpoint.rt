@@ -1,9 +1,8 @@
 //! A checkpoint of a store, and the first reason why some values are not one.
-ghost use Rattle.std.specs.Prelude.{◌≡◌, ◌≢◌, IfOk, IfSome, ◌↔◌, ◌≤◌, [], IsTrue, All, MatchOption};
+ghost use Rattle.std.specs.Prelude.{◌≡◌, IfOk, ◌↔◌, ◌≤◌, [], IsTrue, All, MatchOption};
 ghost use Rattle.hlc_heads.specs.Heads.{floor_of};
 ghost use Rattle.hlc_checkpoint.specs.StoreView.{HasNodes, HasStamps, HasLastItem, greatest_head, marks_of};
 ghost use Rattle.hlc_checkpoint.specs.RestoreFaults.{fault_code};
-ghost use Rattle.hlc_checkpoint.specs.declared.checkpoint.RestoreFault.TheVariants.{NoMemory as no_memory};
 ghost use Rattle.hlc_checkpoint.specs.Checkpoint.{IsCheckpoint, IsFirstReason, IsHeadReason, IsSoundHead};
 ghost use Rattle.hlc_checkpoint.specs.Checkpoint.{IsUnderHead, floor_in};
 ghost use Rattle.hlc_checkpoint.specs.Growing.{with_rows};
@@ -15,7 +14,7 @@ use hlc_rows::Row;
 use hlc_snapshot::{Snapshot, is_register};
 use hlc_values::NoMemory;
 use hlc_witness::{are_in_limits, do_rows_ascend};
-use std::alloc::{AllocFailed, Global};
+use std::alloc::Global;
 use std::error::Error;
 use std::fmt;
 use std::marker::Model;
@@ -44,12 +43,10 @@ pub enum RestoreFault {
     /// No item may write a row: its key does not have 1 to 255 bytes, or its value has more than
     /// 65,535.
     RowOutOfLimits,
-    /// Out of memory. The values are a checkpoint nevertheless.
-    NoMemory,
 }
 
 impl RestoreFault {
-    /// Returns the number of the fault in outputs: 1 to 10, in the order of the variants.
+    /// Returns the number of the fault in outputs: 1 to 9, in the order of the variants.
     pub fn code(self) -> u32
         ensures { result ≡ fault_code self }
     {
@@ -63,7 +60,6 @@ impl RestoreFault {
             RestoreFault::RowsNotAscending => 7,
             RestoreFault::RowAboveHead => 8,
             RestoreFault::RowOutOfLimits => 9,
-            RestoreFault::NoMemory => 10,
         }
     }
 }
@@ -86,32 +82,11 @@ impl fmt::Display for RestoreFault {
             RestoreFault::RowsNotAscending => "the rows do not ascend by key, stamp and node",
             RestoreFault::RowAboveHead => "a row is of no node, or above the head of its node",
             RestoreFault::RowOutOfLimits => "a key or a value is out of the limits",
-            RestoreFault::NoMemory => "out of memory",
         })
     }
 }
 
 impl Error for RestoreFault {}
-
-impl From<NoMemory> for RestoreFault {
-    ghost use Rattle.hlc_checkpoint.specs.declared.checkpoint.RestoreFault.TheVariants.{NoMemory as no_memory};
-
-    ghost from_gives = { λ _ fault. fault ≡ no_memory };
-
-    fn from(_fault: NoMemory) -> RestoreFault {
-        RestoreFault::NoMemory
-    }
-}
-
-impl<T: Drop> From<AllocFailed<T>> for RestoreFault {
-    ghost use Rattle.hlc_checkpoint.specs.declared.checkpoint.RestoreFault.TheVariants.{NoMemory as no_memory};
-
-    ghost from_gives = { λ _ fault. fault ≡ no_memory };
-
-    fn from(_fault: AllocFailed<T>) -> RestoreFault {
-        RestoreFault::NoMemory
-    }
-}
 
 /// The whole state of a store, as plain values: the number of nodes at the start; by node the
 /// progress of its link; the open snapshots, the oldest first, and the last id that was assigned; the
@@ -283,20 +258,18 @@ impl Checkpoint {
         )
     }
 
-    /// Returns the first reason why this is no checkpoint, with which `Core::restore` refuses it; never out of memory.
-    /// It needs no memory, and looks at each part once.
+    /// Returns the first reason why this is no checkpoint, with which `Core::restore` refuses it. It needs no memory,
+    /// and looks at each part once.
     pub fn fault(&self) -> Option<RestoreFault>
-        ensures first { MatchOption result (IsCheckpoint self.now) (IsFirstReason self.now) }
-        ensures other { IfSome result (λ fault. fault ≢ no_memory) }
+        ensures { MatchOption result (IsCheckpoint self.now) (IsFirstReason self.now) }
     {
         reason_against(self)
     }
 }
 
-/// Returns the first reason why this is no checkpoint, or none; never out of memory.
+/// Returns the first reason why this is no checkpoint, or none.
 fn reason_against(checkpoint: &Checkpoint) -> Option<RestoreFault>
-    ensures first { MatchOption result (IsCheckpoint checkpoint.now) (IsFirstReason checkpoint.now) }
-    ensures other { IfSome result (λ fault. fault ≢ no_memory) }
+    ensures { MatchOption result (IsCheckpoint checkpoint.now) (IsFirstReason checkpoint.now) }
 {
     if let Some(fault) = head_reason(checkpoint) {
         return Some(fault);

@@ -1,10 +1,9 @@
 //! A checkpoint whose rows come one by one: each is checked as it comes, and put into the table of a store.
-ghost use Rattle.std.specs.Prelude.{◌≡◌, ◌≢◌, ◌++◌, ◌∷◌, ◌↔◌, [], IfErr, IfNone, IfOk, IfSome, IsTrue};
+ghost use Rattle.std.specs.Prelude.{◌≡◌, ◌++◌, ◌∷◌, ◌↔◌, [], IfNone, IfOk, IsTrue};
 ghost use Rattle.std.specs.Prelude.{MatchOption, OnErr, OnOk};
 ghost use Rattle.std.specs.List.Sorted.{IsPermutation};
 ghost use Rattle.hlc_columns.specs.Table.{HasNoVersion};
 ghost use Rattle.hlc_witness.specs.Cost.{IsInLimits};
-ghost use Rattle.hlc_checkpoint.specs.declared.checkpoint.RestoreFault.TheVariants.{NoMemory as no_memory};
 ghost use Rattle.hlc_checkpoint.specs.StoreView.{StoreView};
 ghost use Rattle.hlc_checkpoint.specs.Checkpoint.{IsCheckpoint, IsFirstReason, IsUnderHead, Restores};
 ghost use Rattle.hlc_checkpoint.specs.Growing.{HasGrown, IsAfter, first_fault, with_row, with_rows, without_value};
@@ -92,14 +91,13 @@ impl Growing {
         Ok(())
     }
 
-    /// Returns the first reason why the parts and the rows are no checkpoint, as `Checkpoint::fault` does; never out of
-    /// memory. It looks at no row again.
+    /// Returns the first reason why the parts and the rows are no checkpoint, as `Checkpoint::fault` does. It looks at
+    /// no row again.
     pub fn fault(&self) -> Option<RestoreFault>
         ensures first { (kept : StoreView) → HasGrown self.now kept
             → MatchOption result (IsCheckpoint kept) (IsFirstReason kept) }
         ensures none { IfNone result
             ((kept : StoreView) × HasGrown self.now kept × IsCheckpoint kept) }
-        ensures other { IfSome result (λ fault. fault ≢ no_memory) }
     {
         match head_reason(&self.head) {
             Some(fault) => Some(fault),
@@ -107,11 +105,10 @@ impl Growing {
         }
     }
 
-    /// Returns what a store is made of, or the first reason why the parts and the rows are no checkpoint; never out of
+    /// Returns what a store is made of, or the first reason why the parts and the rows are no checkpoint. It needs no
     /// memory.
     pub fn finish(self) -> Result<Checked, RestoreFault>
-        ensures restores { (kept : StoreView) → HasGrown self kept → Restores kept result }
-        ensures other { IfErr result (λ fault. fault ≢ no_memory) }
+        ensures { (kept : StoreView) → HasGrown self kept → Restores kept result }
     {
         match self.fault() {
             Some(fault) => Err(fault),

@@ -2,21 +2,21 @@
 use Rattle.std.proofs.Common.{◌≡◌, ℕ, ◌+◌, ◌<◌, ◌≤◌, List, [], ◌∷◌, ◌++◌, length, max}
 use Rattle.std.proofs.Common.{false, Some, None, refl, ap, sym, ◌∙◌, inl, inr}
 use Rattle.std.proofs.Common.{arith, length-append}
-use Rattle.std.specs.Prelude.{slice_get, Err, ⊤}
+use Rattle.std.specs.Prelude.{slice_get, Ok, Err, ⊤}
 use Rattle.std.proofs.lemmas.Bool.{cond-true, cond-false, le-leb, lt-leb, le-ltb, lt-ltb, cases_lt}
 use Rattle.std.proofs.lemmas.Bool.{cases_eq}
 use Rattle.hlc_intake.specs.IntakeView.{IntakeView}
 use Rattle.hlc_heads.specs.declared.heads.TheConstants.{MAX_NODES}
-use Rattle.hlc_events.specs.declared.fault.CoreFault.TheVariants.{Join}
+use Rattle.hlc_events.specs.declared.fault.CoreFault.TheVariants.{Join, NoMemory}
+use Rattle.std.specs.declared.alloc.AllocError.{AllocError}
 use Rattle.hlc_heads.specs.declared.heads.JoinFault.{JoinFault}
-use Rattle.hlc_heads.specs.declared.heads.JoinFault.TheVariants.{TooManyNodes, BelowFloor, NoMemory as NoRoom}
+use Rattle.hlc_heads.specs.declared.heads.JoinFault.TheVariants.{TooManyNodes, BelowFloor}
 use Rattle.hlc_core.specs.Past.{Step, Joined, numbered, count, head, retired, floor}
 use Rattle.hlc_core.specs.Past.{join_refusal, join_at_refusal}
 use Rattle.hlc_core.specs.StoreView.{StoreView, Represents}
 use Rattle.hlc_core.proofs.PastLemmas.{fresh, head-joined}
 use Rattle.hlc_core.proofs.PastLemmas.{head-joined_other}
 use Rattle.hlc_heads.specs.Heads.{HeadsView, JoinsAt, a_link, floor_of}
-use Rattle.hlc_events.specs.Faults.{of_join}
 use Rattle.hlc_core.specs.Calls.{IsRefusal}
 use Rattle.hlc_core.proofs.Links.{get-append_left, get-push}
 
@@ -89,15 +89,20 @@ joins-at_none past start none up =
 
 -- and a refusal of the heads is the expected one
 pub refused : (past : List Step) (old new : HeadsView) (start : ℕ) (fault : JoinFault)
-    → length old.links ≡ numbered past → floor_of old ≡ floor past → JoinsAt old new start (Err fault)
-    → IsRefusal (join_at_refusal past start) ⊤ (of_join fault)
+    → length old.links ≡ numbered past → floor_of old ≡ floor past → JoinsAt old new start (Ok (Err fault))
+    → IsRefusal (join_at_refusal past start) ⊤ (Join fault)
 refused past old new start TooManyNodes many at h =
     inl (cond-true _ _ _ (le-leb MAX_NODES (numbered past) (omega (arith, many, h.0))))
 refused past old new start (BelowFloor low) many at h =
     inl (cond-false _ _ _ (lt-leb MAX_NODES (numbered past) (omega (arith, many, h.0)))
     ∙ cond-true _ _ _ (lt-ltb start (floor past) (omega (arith, at, h.1, h.2)))
     ∙ ap (λ f. Some (Join (BelowFloor f))) (sym (h.1 ∙ at)))
-refused past old new start NoRoom many at h = inr (
+
+-- or memory ran out where none is expected
+pub shortage : (past : List Step) (old new : HeadsView) (start : ℕ) (error : AllocError)
+    → length old.links ≡ numbered past → floor_of old ≡ floor past → JoinsAt old new start (Err error)
+    → IsRefusal (join_at_refusal past start) ⊤ NoMemory
+shortage past old new start error many at h = inr (
   joins-at_none past start (joins-none past (length old.links) h.0 many) (omega (arith, at, h.1)),
   refl,
   tt,

@@ -1,5 +1,5 @@
 //! What is true of every legal past, and of cores that represent one.
-ghost use Rattle.std.specs.Prelude.{◌≡◌, ◌≢◌, ◌+◌, ◌<◌, ◌≤◌, ◌⊎◌, true, false, ℕ, List, ◌∷◌, None, All, length};
+ghost use Rattle.std.specs.Prelude.{◌≡◌, ◌+◌, ◌<◌, ◌≤◌, ◌⊎◌, true, false, ℕ, List, ◌∷◌, None, All, length};
 ghost use Rattle.std.specs.Prelude.{◌++◌, Some};
 ghost use Rattle.hlc_rows.specs.Rows.{IsRowSet, answer};
 ghost use Rattle.hlc_core.specs.Past.{Step, Took, Joined, IsLegal, initial_nodes, numbered, retired, top, writes, head};
@@ -10,7 +10,6 @@ ghost use Rattle.hlc_core.specs.Checkpoint.{IsCheckpoint, IsCopyOf, IsFirstReaso
 ghost use Rattle.hlc_witness.specs.Certificate.{RowsAscend};
 ghost use Rattle.hlc_heads.specs.declared.heads.TheConstants.{MAX_INITIAL_NODES};
 ghost use Rattle.hlc_checkpoint.specs.declared.checkpoint.RestoreFault.{RestoreFault as AFault};
-ghost use Rattle.hlc_checkpoint.specs.declared.checkpoint.RestoreFault.TheVariants.{NoMemory as no_memory};
 ghost use Rattle.hlc_core.specs.Listing.{IsListing};
 ghost use Rattle.hlc_core.specs.Differences.{Difference, AreDifferences, patched};
 ghost use Rattle.hlc_core.specs.History.{RepresentsHistory};
@@ -140,6 +139,6 @@ pub fn checkpoints_restore()
         → IsCheckpoint kept }
     ensures copies { (kept copy : StoreView) (past : List Step) → Represents kept past
         → IsCopyOf kept copy → Represents copy past }
-    ensures refused { (kept : StoreView) (fault : AFault) → IsFirstReason kept fault → fault ≢ no_memory
+    ensures refused { (kept : StoreView) (fault : AFault) → IsFirstReason kept fault
         → IsCheckpoint kept → ⊥ }
 {}

@@ -3,8 +3,6 @@
 use Rattle.std.specs.Prelude.{ℕ, List, ◌++◌, codes}
 use Rattle.hlc_clock.specs.Stamp.{stamp_text}
 use Rattle.hlc_heads.specs.Faults.{join_code, join_word, join_text}
-use Rattle.hlc_heads.specs.declared.heads.JoinFault.{JoinFault}
-use Rattle.hlc_heads.specs.declared.heads.JoinFault.TheVariants as join_fault
 use Rattle.hlc_intake.specs.Faults.{link_code, link_word, link_text}
 use Rattle.hlc_rows.specs.Faults.{body_code, body_text}
 use Rattle.hlc_snapshot.specs.Faults.{snapshot_code, snapshot_text}
@@ -51,11 +49,6 @@ core_text (BelowHorizon horizon) = codes "the stamp is below that of the last va
 core_text (Snapshot fault) = snapshot_text fault
 core_text NoSnapshot = codes "no open snapshot has that id"
 core_text NoMemory = codes "out of memory"
-
--- why no node joins, as a fault of the core: out of memory is the core's own
-abbrev pub of_join : JoinFault → CoreFault
-of_join join_fault.NoMemory = NoMemory
-of_join fault = Join fault
 
 -- a registry's fault, as a fault of the core: out of memory is the core's own
 abbrev pub of_registry : SnapshotFault → CoreFault

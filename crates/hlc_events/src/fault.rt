@@ -106,15 +106,12 @@ impl From<LinkFault> for CoreFault {
 }
 
 impl From<JoinFault> for CoreFault {
-    ghost use Rattle.hlc_events.specs.Faults.{of_join};
+    ghost use Rattle.hlc_events.specs.declared.fault.CoreFault.TheVariants.{Join};
 
-    ghost from_gives = { λ fault core. core ≡ of_join fault };
+    ghost from_gives = { λ fault core. core ≡ Join fault };
 
     fn from(fault: JoinFault) -> CoreFault {
-        match fault {
-            JoinFault::NoMemory => CoreFault::NoMemory,
-            fault => CoreFault::Join(fault),
-        }
+        CoreFault::Join(fault)
     }
 }
 

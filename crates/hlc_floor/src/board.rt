@@ -1,5 +1,5 @@
 //! A board, with one word for each node. After it is made, no call on it waits or needs memory.
-ghost use Rattle.std.specs.Prelude.{◌≡◌, ℕ, ◌<◌, ◌≤◌, ◌↔◌, [], ◌∷◌, ◌++◌, slice_index, replicate, IfOk, IfErr};
+ghost use Rattle.std.specs.Prelude.{◌≡◌, ℕ, ◌<◌, ◌≤◌, [], ◌∷◌, ◌++◌, slice_index, replicate, IfOk, IfErr};
 ghost use Rattle.hlc_heads.specs.declared.heads.TheConstants.{MAX_INITIAL_NODES};
 ghost use Rattle.hlc_floor.specs.Views.{post, posts, word_of, blind, LooksAt, IsLeast};
 ghost use Rattle.hlc_floor.specs.Board.{uncut, found_at};
@@ -7,11 +7,9 @@ ghost use Rattle.hlc_floor.specs.Board.{uncut, found_at};
 use crate::rule::{CutFeeder, CutPass, Fresh, Look, Place, Raise};
 use atomic_table::{Seat, Table};
 use hlc_clock::Stamp;
-use hlc_heads::{Accepted, MAX_INITIAL_NODES};
+use hlc_heads::{Accepted, MAX_INITIAL_NODES, NodesOutOfRange};
 use hlc_values::NoMemory;
 use std::alloc::Global;
-use std::error::Error;
-use std::fmt;
 use std::marker::Model;
 
 /// The maximum number of words.
@@ -86,42 +84,6 @@ impl Model for FloorPass {
         (pass.seat.me ≡ (pass_place pass.seat.me.0.seen pass.seat.me.0.found, []))
         × (length pass.seat.me.0.seen ≡ pass.seat.table_id.words)
         × (length pass.seat.me.0.found ≡ pass.seat.table_id.words) };
-}
-
-/// Why no board is made.
-#[derive(Clone, Copy, PartialEq, Eq, Debug)]
-pub enum BoardFault {
-    /// The number of nodes is not 1 to 64.
-    NoNode,
-    /// Out of memory.
-    NoMemory,
-}
-
-impl fmt::Display for BoardFault {
-    ghost use Rattle.std.specs.Prelude.{Some};
-    ghost use Rattle.hlc_floor.specs.Faults.{board_text};
-
-    ghost output = { λ fault. Some (board_text fault) };
-
-    fn fmt<W: fmt::Write>(&self, f: &mut fmt::Formatter<W>) -> fmt::Result {
-        f.write_str(match self {
-            BoardFault::NoNode => "the count of nodes is not 1 to 64",
-            BoardFault::NoMemory => "out of memory",
-        })
-    }
-}
-
-impl Error for BoardFault {}
-
-impl From<NoMemory> for BoardFault {
-    ghost use Rattle.std.specs.Prelude.{◌≡◌};
-    ghost use Rattle.hlc_floor.specs.declared.board.BoardFault.{BoardFault};
-
-    ghost from_gives = { λ shortage fault. fault ≡ BoardFault.NoMemory };
-
-    fn from(_: NoMemory) -> BoardFault {
-        BoardFault::NoMemory
-    }
 }
 
 impl Feeder {
@@ -215,23 +177,26 @@ impl Board {
         alloc: Global,
         nodes: u16,
         passes: usize,
-    ) -> Result<(Board, Vec<Feeder>, Vec<FloorPass>), BoardFault>
+    ) -> Result<Result<(Board, Vec<Feeder>, Vec<FloorPass>), NodesOutOfRange>, NoMemory>
         requires { passes ≤ 64 }
-        ensures board { IfOk result (λ made. made.0.words ≡ nodes) }
-        ensures feeders { IfOk result (λ made. made.1.items ≡ posts made.0 nodes) }
-        ensures passes { IfOk result (λ made. made.2.items ≡ replicate passes (blind made.0)) }
-        ensures err { IfErr result
-            (λ fault. fault ≡ BoardFault.NoNode ↔ ((1 ≤ nodes) × (nodes ≤ MAX_INITIAL_NODES) → ⊥)) }
+        ensures board { IfOk result (λ made. IfOk made (λ parts. parts.0.words ≡ nodes)) }
+        ensures feeders { IfOk result
+            (λ made. IfOk made (λ parts. parts.1.items ≡ posts parts.0 nodes)) }
+        ensures passes { IfOk result
+            (λ made. IfOk made (λ parts. parts.2.items ≡ replicate passes (blind parts.0))) }
+        ensures err { IfOk result
+            (λ made. IfErr made (λ _. (1 ≤ nodes) × (nodes ≤ MAX_INITIAL_NODES) → ⊥)) }
+        ensures memory { IfErr result (λ _. (1 ≤ nodes) × (nodes ≤ MAX_INITIAL_NODES)) }
     {
         if nodes == 0 || nodes > MAX_INITIAL_NODES {
-            return Err(BoardFault::NoNode);
+            return Ok(Err(NodesOutOfRange));
         }
         let words = [0; WORDS];
         let about = u64::from(nodes);
         let (table, mut first) = Table::of_words(alloc, &words[..nodes as usize], &about)?;
         let feeders = cut_feeders(alloc, &table, &mut first, nodes)?;
         let all = cut_passes(alloc, &table, &mut first, nodes, passes)?;
-        Ok((Board { table, nodes }, feeders, all))
+        Ok(Ok((Board { table, nodes }, feeders, all)))
     }
 
     /// Stores the stamp of an accepted item in the word of the feeder's node, or the greatest word if the item was the

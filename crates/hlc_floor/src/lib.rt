@@ -2,13 +2,12 @@
 #![tactic(auto)]
 
 mod board;
-mod exact;
 mod laws;
 mod rule;
 
-pub use board::{Board, BoardFault, Feeder, FloorPass};
+pub use board::{Board, Feeder, FloorPass};
 pub use hlc_heads::{
-    Accepted, Heads, HeadsFault, JoinFault, MAX_INITIAL_NODES, MAX_NODES, Stamp,
+    Accepted, Heads, JoinFault, MAX_INITIAL_NODES, MAX_NODES, NodesOutOfRange, Stamp,
     max_initial_nodes_are_64, max_nodes_are_1024,
 };
 pub use laws::board_is_fresh;

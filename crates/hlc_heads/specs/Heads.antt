@@ -3,14 +3,14 @@ use Rattle.std.specs.Prelude.{◌≡◌, ℕ, ◌+◌, ◌==◌, ◌<◌, ◌≤
 use Rattle.std.specs.Prelude.{length}
 use Rattle.std.specs.Prelude.{max, replicate}
 use Rattle.std.specs.Prelude.{slice_set, slice_index_or, Result, Ok, Err}
+use Rattle.std.specs.declared.alloc.AllocError.{AllocError}
 use Rattle.hlc_intake.specs.IntakeView.{IntakeView}
 use Rattle.hlc_values.specs.declared.bounds.TheConstants.{NUMBER_BOUND}
 use Rattle.hlc_heads.specs.Low.{low}
 use Rattle.hlc_heads.specs.declared.heads.TheConstants.{MAX_INITIAL_NODES, MAX_NODES}
-use Rattle.hlc_heads.specs.declared.heads.HeadsFault.{HeadsFault}
-use Rattle.hlc_heads.specs.declared.heads.HeadsFault.TheVariants.{NoNode, NoMemory}
+use Rattle.hlc_heads.specs.declared.heads.NodesOutOfRange.{NodesOutOfRange}
 use Rattle.hlc_heads.specs.declared.heads.JoinFault.{JoinFault}
-use Rattle.hlc_heads.specs.declared.heads.JoinFault.TheVariants.{TooManyNodes, BelowFloor, NoMemory as NoRoom}
+use Rattle.hlc_heads.specs.declared.heads.JoinFault.TheVariants.{TooManyNodes, BelowFloor}
 
 -- the receipt of an accepted item: its node, its stamp, and whether it was the node's last one
 pub record AcceptedView : Type 0 where
@@ -78,29 +78,29 @@ floor_of marks =
     low (λ k. (link_at marks.links k).head) (λ k. (link_at marks.links k).retired) (length marks.links) marks.top
 
 -- this many links are made, each with the head 0; or the number is 0 or too large; or there is no memory
-abbrev pub Makes : ℕ → Result HeadsView HeadsFault → Type 0
-Makes count (Ok marks) =
+abbrev pub Makes : ℕ → Result (Result HeadsView NodesOutOfRange) AllocError → Type 0
+Makes count (Ok (Ok marks)) =
     (0 < count) × (count ≤ MAX_INITIAL_NODES)
     × (marks ≡ record { links = replicate count (a_link 0 0 false); top = 0 })
-Makes count (Err NoNode) = (count ≡ 0) ⊎ (MAX_INITIAL_NODES < count)
-Makes count (Err NoMemory) = (0 < count) × (count ≤ MAX_INITIAL_NODES)
+Makes count (Ok (Err fault)) = (count ≡ 0) ⊎ (MAX_INITIAL_NODES < count)
+Makes count (Err shortage) = (0 < count) × (count ≤ MAX_INITIAL_NODES)
 
 -- a node joined at the floor, with the next number; or no number is left; or there is no memory
-abbrev pub Joins : HeadsView → HeadsView → Result (ℕ × ℕ) JoinFault → Type 0
-Joins old new (Ok made) =
+abbrev pub Joins : HeadsView → HeadsView → Result (Result (ℕ × ℕ) JoinFault) AllocError → Type 0
+Joins old new (Ok (Ok made)) =
     (length old.links < MAX_NODES) × (made.0 ≡ length old.links) × IsFloor old made.1
     × (new ≡ joined old made.1)
-Joins old new (Err TooManyNodes) = (MAX_NODES ≤ length old.links) × (new ≡ old)
-Joins old new (Err (BelowFloor floor)) = ⊥
-Joins old new (Err NoRoom) = (length old.links < MAX_NODES) × (new ≡ old)
+Joins old new (Ok (Err TooManyNodes)) = (MAX_NODES ≤ length old.links) × (new ≡ old)
+Joins old new (Ok (Err (BelowFloor floor))) = ⊥
+Joins old new (Err shortage) = (length old.links < MAX_NODES) × (new ≡ old)
 
 -- a node joined at this start, with the next number; or no number is left; or the start is below the floor, which is
 -- returned; or there is no memory
-abbrev pub JoinsAt : HeadsView → HeadsView → ℕ → Result ℕ JoinFault → Type 0
-JoinsAt old new start (Ok node) =
+abbrev pub JoinsAt : HeadsView → HeadsView → ℕ → Result (Result ℕ JoinFault) AllocError → Type 0
+JoinsAt old new start (Ok (Ok node)) =
     (length old.links < MAX_NODES) × (floor_of old ≤ start) × (node ≡ length old.links)
     × (new ≡ joined old start)
-JoinsAt old new start (Err TooManyNodes) = (MAX_NODES ≤ length old.links) × (new ≡ old)
-JoinsAt old new start (Err (BelowFloor floor)) =
+JoinsAt old new start (Ok (Err TooManyNodes)) = (MAX_NODES ≤ length old.links) × (new ≡ old)
+JoinsAt old new start (Ok (Err (BelowFloor floor))) =
     (length old.links < MAX_NODES) × (floor ≡ floor_of old) × (start < floor) × (new ≡ old)
-JoinsAt old new start (Err NoRoom) = (length old.links < MAX_NODES) × (floor_of old ≤ start) × (new ≡ old)
+JoinsAt old new start (Err shortage) = (length old.links < MAX_NODES) × (floor_of old ≤ start) × (new ≡ old)

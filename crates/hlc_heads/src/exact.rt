@@ -3,7 +3,7 @@ ghost use Rattle.std.proofs.Common.{rules};
 ghost use Rattle.std.proofs.lemmas.Grind.{common_steps};
 
 use crate::accepted::Accepted;
-use crate::heads::{HeadsFault, JoinFault};
+use crate::heads::{JoinFault, NodesOutOfRange};
 use hlc_values::Exact;
 
 impl Exact for Accepted {
@@ -12,7 +12,7 @@ impl Exact for Accepted {
     ghost copied = { Prim.search rules };
 }
 
-impl Exact for HeadsFault {
+impl Exact for NodesOutOfRange {
     ghost equal = { Prim.search (rules, common_steps) };
 
     ghost copied = { Prim.search rules };

@@ -18,7 +18,7 @@ use crate::accepted::Accepted;
 use crate::groups::{GROUP, groups_of, least_of, lower, regroup};
 use hlc_clock::Stamp;
 use hlc_intake::Intake;
-use hlc_values::NUMBER_BOUND;
+use hlc_values::{NUMBER_BOUND, NoMemory};
 use std::alloc::Global;
 use std::error::Error;
 use std::fmt;
@@ -41,14 +41,9 @@ pub fn max_nodes_are_1024()
     ensures { MAX_NODES ≡ 1024 }
 {}
 
-/// Why no heads are made.
+/// The number of nodes at the start is not 1 to 64.
 #[derive(Clone, Copy, PartialEq, Eq, Debug)]
-pub enum HeadsFault {
-    /// The number of nodes is not 1 to 64.
-    NoNode,
-    /// Out of memory.
-    NoMemory,
-}
+pub struct NodesOutOfRange;
 
 /// Why no node joins.
 #[derive(Clone, Copy, PartialEq, Eq, Debug)]
@@ -57,35 +52,28 @@ pub enum JoinFault {
     TooManyNodes,
     /// The start is below the floor.
     BelowFloor { floor: Stamp },
-    /// Out of memory.
-    NoMemory,
 }
 
-impl fmt::Display for HeadsFault {
-    ghost use Rattle.std.specs.Prelude.{Some};
-    ghost use Rattle.hlc_heads.specs.Faults.{heads_text};
+impl fmt::Display for NodesOutOfRange {
+    ghost use Rattle.std.specs.Prelude.{Some, codes};
 
-    ghost output = { λ fault. Some (heads_text fault) };
+    ghost output = { λ _. Some (codes "the count of nodes is not 1 to 64") };
 
     fn fmt<W: fmt::Write>(&self, f: &mut fmt::Formatter<W>) -> fmt::Result {
-        match self {
-            HeadsFault::NoNode => f.write_str("the count of nodes is not 1 to 64"),
-            HeadsFault::NoMemory => f.write_str("out of memory"),
-        }
+        f.write_str("the count of nodes is not 1 to 64")
     }
 }
 
-impl Error for HeadsFault {}
+impl Error for NodesOutOfRange {}
 
 impl JoinFault {
-    /// Returns the number of this refusal: 9, 15 or 26.
+    /// Returns the number of this refusal: 9 or 26.
     pub fn code(self) -> u32
         ensures { result ≡ join_code self }
     {
         match self {
             JoinFault::TooManyNodes => 26,
             JoinFault::BelowFloor { .. } => 9,
-            JoinFault::NoMemory => 15,
         }
     }
 
@@ -95,7 +83,7 @@ impl JoinFault {
     {
         match self {
             JoinFault::BelowFloor { floor } => floor.bits(),
-            JoinFault::TooManyNodes | JoinFault::NoMemory => 0,
+            JoinFault::TooManyNodes => 0,
         }
     }
 }
@@ -110,7 +98,6 @@ impl fmt::Display for JoinFault {
         match self {
             JoinFault::TooManyNodes => f.write_str("all 1,024 node numbers are in use"),
             JoinFault::BelowFloor { floor } => write!(f, "the start is below the floor, {floor}"),
-            JoinFault::NoMemory => f.write_str("out of memory"),
         }
     }
 }
@@ -144,16 +131,14 @@ impl Model for Heads {
 impl Heads {
     /// Makes the links of this many nodes, 1 to 64, without any accepted item. Nodes are numbered from 0 and start at
     /// 0.0.
-    pub fn new(alloc: Global, nodes: u16) -> Result<Heads, HeadsFault>
+    pub fn new(alloc: Global, nodes: u16) -> Result<Result<Heads, NodesOutOfRange>, NoMemory>
         ensures { Makes nodes result }
     {
         if nodes == 0 || nodes > MAX_INITIAL_NODES {
-            return Err(HeadsFault::NoNode);
+            return Ok(Err(NodesOutOfRange));
         }
-        match vec![in alloc; Intake::new(); nodes as usize] {
-            Ok(links) => Ok(Heads::resuming(links, Stamp::ZERO)),
-            Err(_) => Err(HeadsFault::NoMemory),
-        }
+        let links = vec![in alloc; Intake::new(); nodes as usize]?;
+        Ok(Ok(Heads::resuming(links, Stamp::ZERO)))
     }
 
     /// Makes heads from the links of 1 to 1,024 nodes, by node, and the greatest stamp of an accepted item or of a
@@ -261,12 +246,14 @@ impl Heads {
     ///
     /// Refused, in this order: all 1,024 numbers are assigned; out of memory. A refusal leaves the
     /// heads unchanged.
-    pub fn join(&mut self) -> Result<(u16, Stamp), JoinFault>
+    pub fn join(&mut self) -> Result<Result<(u16, Stamp), JoinFault>, NoMemory>
         ensures { Joins self.old self.new result }
     {
         let start = self.floor;
-        let node = self.join_at(start)?;
-        Ok((node, start))
+        match self.join_at(start)? {
+            Ok(node) => Ok(Ok((node, start))),
+            Err(fault) => Ok(Err(fault)),
+        }
     }
 
     /// Adds a node, which is assigned the next number and starts at this stamp, its first head. The floor does not
@@ -274,24 +261,22 @@ impl Heads {
     ///
     /// Refused, in this order: all 1,024 numbers are assigned; the start is below the floor; out of memory. A refusal
     /// leaves the heads unchanged.
-    pub fn join_at(&mut self, start: Stamp) -> Result<u16, JoinFault>
+    pub fn join_at(&mut self, start: Stamp) -> Result<Result<u16, JoinFault>, NoMemory>
         ensures { JoinsAt self.old self.new start result }
     {
         let place = self.links.len();
         if place >= MAX_NODES as usize {
-            return Err(JoinFault::TooManyNodes);
+            return Ok(Err(JoinFault::TooManyNodes));
         }
         if start < self.floor {
-            return Err(JoinFault::BelowFloor { floor: self.floor });
+            return Ok(Err(JoinFault::BelowFloor { floor: self.floor }));
         }
-        let Ok(()) = self.links.push(Intake::starting_at(start)) else {
-            return Err(JoinFault::NoMemory);
-        };
+        self.links.push(Intake::starting_at(start))?;
         let group = place / GROUP;
         self.groups[group] = Some(lower(self.groups[group], start));
         self.top = greater(self.top, start);
         self.floor = least_of(&self.groups).unwrap_or(self.top);
-        Ok(place as u16)
+        Ok(Ok(place as u16))
     }
 
     /// Returns the floor: the least head of the nodes that have not retired, or the greatest stamp of an accepted item

@@ -9,7 +9,7 @@ mod heads;
 pub use accepted::Accepted;
 pub use groups::lower;
 pub use heads::{
-    Heads, HeadsFault, JoinFault, MAX_INITIAL_NODES, MAX_NODES, greater, max_initial_nodes_are_64,
+    Heads, JoinFault, MAX_INITIAL_NODES, MAX_NODES, NodesOutOfRange, greater, max_initial_nodes_are_64,
     max_nodes_are_1024,
 };
 pub use hlc_clock::Stamp;

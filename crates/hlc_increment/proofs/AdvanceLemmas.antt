@@ -434,9 +434,9 @@ pub fits-unless_above : (older newer : StoreView) (increment : IncrementView) (p
     → IsIncrementOf newer increment → IsCheckpoint increment.state → (fault : AdvanceFault)
     → IsReason older increment fault → (fault ≡ faults.NoMemory) ⊎ (floor past < increment.since)
 fits-unless_above older newer increment past more h is g of is' (faults.Parts fault) (inl none) =
-    absurd (sound-has_no_reason older fault is none.0 none.1)
+    absurd (sound-has_no_reason older fault is none)
 fits-unless_above older newer increment past more h is g of is' (faults.Parts fault) (inr none) =
-    absurd (sound-has_no_reason increment.state fault is' none.0 none.1)
+    absurd (sound-has_no_reason increment.state fault is' none)
 fits-unless_above older newer increment past more h is g of is' faults.NotLater none =
     let state : increment.state ≡ with_rows_left newer increment.state.rows newer.horizon = of.copy.same in
     let links : length increment.state.links ≡ length newer.links =

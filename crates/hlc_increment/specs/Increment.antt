@@ -1,13 +1,11 @@
 -- An increment of a store: its state without the rows at or below a stamp; and what an older checkpoint becomes by it.
-use Rattle.std.specs.Prelude.{◌≡◌, ◌≢◌, ℕ, ◌<◌, ◌≤◌, ◌⊎◌, List, [], ◌∷◌, ◌++◌, All, length, ⊤}
+use Rattle.std.specs.Prelude.{◌≡◌, ℕ, ◌<◌, ◌≤◌, ◌⊎◌, List, [], ◌∷◌, ◌++◌, All, length, ⊤}
 use Rattle.std.specs.List.Sorted.{IsPermutation}
 use Rattle.hlc_table_column.specs.Rows.{rows_to}
 use Rattle.hlc_witness.specs.Certificate.{RowsAscend}
 use Rattle.hlc_core.specs.Past.{Step, Started, Took, Opened, Closed, Vacuumed, Joined, PartVacuumed}
 use Rattle.hlc_core.specs.StoreView.{StoreView, with_rows_left}
 use Rattle.hlc_core.specs.Checkpoint.{IsCheckpoint, IsCopyAbove, IsFirstReason, floor_in}
-use Rattle.hlc_checkpoint.specs.declared.checkpoint.RestoreFault.{RestoreFault}
-use Rattle.hlc_checkpoint.specs.declared.checkpoint.RestoreFault.TheVariants as reasons
 use Rattle.hlc_increment.specs.declared.increment.IncrementFault.{IncrementFault}
 use Rattle.hlc_increment.specs.declared.increment.IncrementFault.TheVariants as increments
 use Rattle.hlc_increment.specs.declared.advancing.AdvanceFault.{AdvanceFault}
@@ -63,13 +61,9 @@ pub record AreFitting (older : StoreView) (increment : IncrementView) : Type 0 w
   pub high : increment.state.horizon ≤ increment.since
   pub above : All (λ row. increment.since < row.stamp) increment.state.rows
 
--- this is no checkpoint, for this reason
-abbrev pub IsNone : StoreView → RestoreFault → Type 0
-IsNone kept fault = IsFirstReason kept fault × (fault ≢ reasons.NoMemory)
-
 -- why the checkpoint does not become a newer one
 abbrev pub IsReason : StoreView → IncrementView → AdvanceFault → Type 0
-IsReason older increment (Parts fault) = IsNone older fault ⊎ IsNone increment.state fault
+IsReason older increment (Parts fault) = IsFirstReason older fault ⊎ IsFirstReason increment.state fault
 IsReason older increment NotLater = MayBeLater older increment.state → ⊥
 IsReason older increment (AboveFloor floor) = (floor ≡ floor_in older) × (floor < increment.since)
 IsReason older increment (BelowHorizon horizon) =

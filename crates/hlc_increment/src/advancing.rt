@@ -21,7 +21,7 @@ use std::fmt;
 /// Why an older checkpoint does not become a newer one, in the order in which the reasons are checked.
 #[derive(Clone, Copy, PartialEq, Eq, Debug)]
 pub enum AdvanceFault {
-    /// The older one is no checkpoint, or the state of the increment is none. Never `RestoreFault::NoMemory`.
+    /// The older one is no checkpoint, or the state of the increment is none.
     Parts(RestoreFault),
     /// The increment is not of a later state of the same store: it has another number of nodes at the start, fewer
     /// links, or a lower horizon.

@@ -1,8 +1,8 @@
 //! An increment as bytes.
-ghost use Rattle.std.specs.Prelude.{◌≡◌, ◌∷◌, ℕ, IfOk, IfErr, Ok};
+ghost use Rattle.std.specs.Prelude.{◌≡◌, ◌∷◌, ℕ, IfOk, IfErr, OnOk, OnErr, Ok};
 ghost use Rattle.hlc_frame.specs.Frame.{frame_bytes, FrameFits};
 ghost use Rattle.hlc_wire.specs.Reading.{Gives};
-ghost use Rattle.hlc_core.specs.Checkpoint.{IsFirstReason};
+ghost use Rattle.hlc_core.specs.Checkpoint.{IsCheckpoint, IsFirstReason};
 ghost use Rattle.hlc_increment.specs.Increment.{IncrementView};
 ghost use Rattle.hlc_increment.specs.Bytes.{IncrementFits, content_at, increment_at, increment_bytes, state_at};
 
@@ -25,24 +25,26 @@ pub struct DecodedIncrement {
 /// Returns the one encoding of an increment and a word of the caller's: for example, the position in its log up to
 /// which the store has applied it.
 ///
-/// Refused for the first reason why the state is no checkpoint; then out of memory. It takes memory for twice the
-/// bytes.
+/// Refused for the first reason why the state is no checkpoint; memory, for twice the bytes, is needed only after the
+/// check.
 pub fn encode_increment(
     alloc: Global,
     increment: &Increment,
     word: u64,
-) -> Result<Vec<u8>, RestoreFault>
-    ensures fits { IfOk result (λ _. IncrementFits word increment.now) }
-    ensures spelled { IfOk result (λ bytes. bytes.items ≡ increment_bytes word increment.now) }
-    ensures err { IfErr result (IsFirstReason increment.now.state) }
+) -> Result<Result<Vec<u8>, RestoreFault>, NoMemory>
+    ensures fits { IfOk result (λ made. OnOk made (IncrementFits word increment.now)) }
+    ensures spelled { IfOk result
+        (λ made. IfOk made (λ bytes. bytes.items ≡ increment_bytes word increment.now)) }
+    ensures err { IfOk result (λ made. IfErr made (IsFirstReason increment.now.state)) }
+    ensures memory { OnErr result (IsCheckpoint increment.now.state) }
 {
     let since = increment.since().bits();
-    let state = match encode_checkpoint(alloc, increment.state(), since) {
+    let state = match encode_checkpoint(alloc, increment.state(), since)? {
         Ok(state) => state,
-        Err(fault) => return Err(fault),
+        Err(fault) => return Ok(Err(fault)),
     };
     let content = content_of(alloc, state.as_slice())?;
-    Ok(framed(alloc, content.as_slice(), word)?)
+    Ok(Ok(framed(alloc, content.as_slice(), word)?))
 }
 
 /// Returns the bytes of a state, after the byte with which no checkpoint begins.

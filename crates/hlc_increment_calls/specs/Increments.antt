@@ -3,9 +3,8 @@ use Rattle.std.specs.Prelude.{◌≡◌, ℕ, ◌<◌, ◌⊎◌, List, Ok, Err}
 use Rattle.hlc_wire.specs.declared.fault.WireFault.{WireFault}
 use Rattle.hlc_wire.specs.Faults.{fault_code}
 use Rattle.hlc_core.specs.StoreView.{StoreView}
-use Rattle.hlc_core.specs.Checkpoint.{IsFirstReason}
+use Rattle.hlc_core.specs.Checkpoint.{IsCheckpoint, IsFirstReason}
 use Rattle.hlc_checkpoint.specs.declared.checkpoint.RestoreFault.{RestoreFault}
-use Rattle.hlc_checkpoint.specs.declared.checkpoint.RestoreFault.TheVariants as reasons
 use Rattle.hlc_body.specs.Reading.{saved}
 use Rattle.hlc_saved.specs.Saved.{AreOf}
 use Rattle.hlc_increment.specs.declared.advancing.AdvanceFault.{AdvanceFault}
@@ -68,16 +67,12 @@ pub record AreAdvanced (older increment bytes : List ℕ) : Type 0 where
   pub advanced : IsAdvanced kept read made
   pub spelled : AreOf bytes word made
 
--- the answer for a reason why what both make is no checkpoint: the increment is not of a later state; or out of memory
-abbrev pub none_code : RestoreFault → ℕ
-none_code reasons.NoMemory = 15
-none_code reason = 111
-
--- what both make is no checkpoint, for a reason
+-- what both make is no checkpoint, for a reason: the increment is not of a later state; or out of memory, and it is one
 abbrev pub MakesNone : StoreView → IncrementView → ℕ → ℕ → Type 0
 MakesNone kept read code word =
-    (made : StoreView) × (reason : RestoreFault) × IsAdvanced kept read made × IsFirstReason made reason
-    × (code ≡ none_code reason) × (word ≡ 0)
+    (made : StoreView) × IsAdvanced kept read made
+    × (((code ≡ 15) × IsCheckpoint made) ⊎ ((reason : RestoreFault) × IsFirstReason made reason × (code ≡ 111)))
+    × (word ≡ 0)
 
 -- no bytes were made: one of both was not read, or they were not joined; or what they make is no checkpoint, since the
 -- increment is not of a later state of the store

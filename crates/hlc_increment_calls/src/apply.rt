@@ -7,9 +7,9 @@ ghost use Rattle.hlc_increment.specs.Increment.{IncrementView, IsAdvanced, IsInc
 ghost use Rattle.hlc_increment.specs.Faults.{advance_code, advance_word};
 ghost use Rattle.hlc_increment.specs.Bytes.{IncrementFits, increment_bytes};
 ghost use Rattle.hlc_increment_calls.specs.Increments.{AreAdvanced, IsNotAdvanced, IsRead, IsReadIncrement};
-ghost use Rattle.hlc_increment_calls.specs.Increments.{IsNotRead, IsNotReadIncrement, IsNotJoined, none_code};
+ghost use Rattle.hlc_increment_calls.specs.Increments.{IsNotRead, IsNotReadIncrement, IsNotJoined};
 
-use hlc_core::{Checkpoint, RestoreFault};
+use hlc_core::Checkpoint;
 use hlc_increment::{AdvanceFault, DecodedIncrement, Increment, advance, decode_increment};
 use hlc_saved::{decode_checkpoint, encode_checkpoint};
 use hlc_wire::DecodeError;
@@ -71,16 +71,6 @@ fn joined(older: Checkpoint, increment: Increment, word: &mut u64) -> Result<Che
     }
 }
 
-/// Returns the answer for a reason why what was made is no checkpoint, or for out of memory.
-fn none_code(fault: RestoreFault) -> u32
-    ensures { result ≡ none_code fault }
-{
-    match fault {
-        RestoreFault::NoMemory => 15,
-        _ => 111,
-    }
-}
-
 /// Makes the bytes of a newer checkpoint of those of an older one and of an increment, with the word of the increment.
 /// Returns them; or, in this order: 106, the older bytes are no encoding, and the number of their first fault; 110, the
 /// increment is none, and the number; 107, one of both is no checkpoint, and the number of the reason; 111, the
@@ -109,8 +99,9 @@ pub fn apply(
     let made = joined(kept, read, word)?;
     *word = 0;
     let bytes = match encode_checkpoint(alloc, &made, after) {
-        Ok(bytes) => bytes,
-        Err(fault) => return Err(none_code(fault)),
+        Ok(Ok(bytes)) => bytes,
+        Ok(Err(_)) => return Err(111),
+        Err(_) => return Err(15),
     };
     match Box::new(alloc, bytes) {
         Ok(boxed) => Ok(boxed),

@@ -34,7 +34,7 @@ pub fn increment(
         Ok(increment) => increment,
         Err(fault) => return Err(refuse(&fault, horizon)),
     };
-    let Ok(bytes) = encode_increment(alloc, &increment, word) else {
+    let Ok(Ok(bytes)) = encode_increment(alloc, &increment, word) else {
         return Err(15);
     };
     match Box::new(alloc, bytes) {

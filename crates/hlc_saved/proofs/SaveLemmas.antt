@@ -158,4 +158,4 @@ resumed_only (Err (Bytes fault)) bytes word kept of is =
     absurd (cc (is, read))
 resumed_only (Err (Parts fault)) bytes word kept of is =
     let same = same_saved bytes word is.0 kept is.1 (of_saved bytes word kept of) is.2 in
-    absurd (sound-has_no_reason is.1 fault (subst IsCheckpoint (sym same.1) of.sound) is.3 is.4)
+    absurd (sound-has_no_reason is.1 fault (subst IsCheckpoint (sym same.1) of.sound) is.3)

@@ -1,9 +1,8 @@
 -- Bytes that represent a past.
-use Rattle.std.specs.Prelude.{◌≡◌, ◌≢◌, ℕ, List, Result, Ok, Err}
+use Rattle.std.specs.Prelude.{◌≡◌, ℕ, List, Result, Ok, Err}
 use Rattle.hlc_core.specs.Past.{Step}
 use Rattle.hlc_core.specs.StoreView.{StoreView, Represents}
 use Rattle.hlc_checkpoint.specs.Checkpoint.{IsCheckpoint, IsCheckpointOf, IsCopyOf, IsFirstReason}
-use Rattle.hlc_checkpoint.specs.declared.checkpoint.RestoreFault.TheVariants as reasons
 use Rattle.hlc_wire.specs.declared.fault.WireFault.{WireFault}
 use Rattle.hlc_frame.specs.Opening.{opened}
 use Rattle.hlc_saved.specs.declared.fault.ResumeError.{ResumeError}
@@ -37,7 +36,6 @@ SpellNone bytes NoMemory = AreFrame bytes
 SpellNone bytes (Bytes fault) = saved bytes ≡ Err fault
 SpellNone bytes (Parts fault) =
     (word : ℕ) × (kept : StoreView) × (saved bytes ≡ Ok (word, kept)) × IsFirstReason kept fault
-    × (fault ≢ reasons.NoMemory)
 
 -- A store was made from the bytes, with exactly the state in them; or why not: the first fault of the bytes, or else
 -- the first reason why their content is no checkpoint; or, of a frame, out of memory.
@@ -52,7 +50,7 @@ Ends read (Ok core) = (kept : StoreView) × (read ≡ Ok kept) × IsCheckpoint k
 Ends read (Err NoMemory) = Unit {0}
 Ends read (Err (Bytes fault)) = read ≡ Err fault
 Ends read (Err (Parts fault)) =
-    (kept : StoreView) × (read ≡ Ok kept) × IsFirstReason kept fault × (fault ≢ reasons.NoMemory)
+    (kept : StoreView) × (read ≡ Ok kept) × IsFirstReason kept fault
 
 -- the same, with the word
 abbrev pub EndsWith : Result StoreView WireFault → ℕ → Result Resumed ResumeError → Type 0

@@ -15,7 +15,7 @@ pub enum ResumeError {
     NoMemory,
     /// The bytes are no frame, or its body is not an encoding of the parts of a checkpoint.
     Bytes(WireFault),
-    /// The parts in the bytes are no checkpoint. Never `RestoreFault::NoMemory`.
+    /// The parts in the bytes are no checkpoint.
     Parts(RestoreFault),
 }
 

@@ -24,28 +24,31 @@ use std::alloc::Global;
 /// Returns the one encoding of a checkpoint and a word of the caller's: for example, the position in its log up to
 /// which the store has applied it.
 ///
-/// Refused for the first reason why it is no checkpoint; then out of memory. The bytes are allocated once.
+/// Refused for the first reason why it is no checkpoint; memory is needed only after the check. The bytes are allocated
+/// once.
 pub fn encode_checkpoint(
     alloc: Global,
     checkpoint: &Checkpoint,
     word: u64,
-) -> Result<Vec<u8>, RestoreFault>
-    ensures sound { IfOk result (λ _. IsCheckpoint checkpoint.now) }
-    ensures fits { IfOk result (λ _. SavedFits word checkpoint.now) }
-    ensures spelled { IfOk result (λ bytes. bytes.items ≡ saved_bytes word checkpoint.now) }
-    ensures err { IfErr result (IsFirstReason checkpoint.now) }
+) -> Result<Result<Vec<u8>, RestoreFault>, NoMemory>
+    ensures sound { IfOk result (λ made. OnOk made (IsCheckpoint checkpoint.now)) }
+    ensures fits { IfOk result (λ made. OnOk made (SavedFits word checkpoint.now)) }
+    ensures spelled { IfOk result
+        (λ made. IfOk made (λ bytes. bytes.items ≡ saved_bytes word checkpoint.now)) }
+    ensures err { IfOk result (λ made. IfErr made (IsFirstReason checkpoint.now)) }
+    ensures memory { OnErr result (IsCheckpoint checkpoint.now) }
 {
     if let Some(fault) = checkpoint.fault() {
-        return Err(fault);
+        return Ok(Err(fault));
     }
-    let size = checkpoint_size(checkpoint).ok_or(RestoreFault::NoMemory)?;
+    let size = checkpoint_size(checkpoint).ok_or(NoMemory)?;
     let mut out = Vec::with_capacity(alloc, whole_size(size)?)?;
     let frame = begin_frame(&mut out, &PreambleRef::of(checkpoint), size, word)?;
     let piece = Vec::new(alloc);
     let mut writer = CheckpointWriter { frame, piece };
     writer.rows(&mut out, checkpoint.rows())?;
     writer.end(&mut out)?;
-    Ok(out)
+    Ok(Ok(out))
 }
 
 /// Appends the front of a frame, and the part before the rows. `out` is unchanged if memory runs out.
@@ -96,28 +99,31 @@ pub struct CheckpointWriter {
 impl CheckpointWriter {
     /// Appends everything before the rows.
     ///
-    /// Refused for the first reason why it is no checkpoint; then out of memory. `out` is unchanged
-    /// then. It looks at each row, to check it and to add up its length.
+    /// Refused for the first reason why it is no checkpoint; memory is needed only after the check. `out` is unchanged
+    /// if there is no writer. It looks at each row, to check it and to add up its length.
     pub fn begin(
         out: &mut Vec<u8>,
         checkpoint: &Checkpoint,
         word: u64,
-    ) -> Result<CheckpointWriter, RestoreFault>
-        ensures sound { IfOk result (λ _. IsCheckpoint checkpoint.now) }
-        ensures fits { IfOk result (λ _. SavedFits word checkpoint.now) }
-        ensures written { IfOk result (λ writer. HasWritten writer word checkpoint.now []) }
-        ensures ok { OnOk result
-            (out.new.items ≡ out.old.items ++ begin_bytes word checkpoint.now) }
-        ensures err { IfErr result (IsFirstReason checkpoint.now) }
+    ) -> Result<Result<CheckpointWriter, RestoreFault>, NoMemory>
+        ensures sound { IfOk result (λ made. OnOk made (IsCheckpoint checkpoint.now)) }
+        ensures fits { IfOk result (λ made. OnOk made (SavedFits word checkpoint.now)) }
+        ensures written { IfOk result
+            (λ made. IfOk made (λ writer. HasWritten writer word checkpoint.now [])) }
+        ensures ok { IfOk result (λ made. OnOk made
+            (out.new.items ≡ out.old.items ++ begin_bytes word checkpoint.now)) }
+        ensures err { IfOk result (λ made. IfErr made (IsFirstReason checkpoint.now)) }
+        ensures refused { IfOk result (λ made. OnErr made (out.new.items ≡ out.old.items)) }
+        ensures memory { OnErr result (IsCheckpoint checkpoint.now) }
         ensures unchanged { OnErr result (out.new.items ≡ out.old.items) }
     {
         if let Some(fault) = checkpoint.fault() {
-            return Err(fault);
+            return Ok(Err(fault));
         }
-        let size = checkpoint_size(checkpoint).ok_or(RestoreFault::NoMemory)?;
+        let size = checkpoint_size(checkpoint).ok_or(NoMemory)?;
         let frame = begin_frame(out, &PreambleRef::of(checkpoint), size, word)?;
         let piece = Vec::new(*out.allocator());
-        Ok(CheckpointWriter { frame, piece })
+        Ok(Ok(CheckpointWriter { frame, piece }))
     }
 
     /// Appends a row. If memory runs out, `out` and the writer are unchanged, and the row may be

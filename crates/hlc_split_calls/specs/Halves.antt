@@ -3,10 +3,9 @@ use Rattle.std.specs.Prelude.{◌≡◌, ℕ, ◌⊎◌, List, Ok, Err, ◌++◌
 use Rattle.hlc_wire.specs.declared.fault.WireFault.{WireFault}
 use Rattle.hlc_wire.specs.Faults.{fault_code}
 use Rattle.hlc_core.specs.StoreView.{StoreView, with_rows_left}
-use Rattle.hlc_checkpoint.specs.Checkpoint.{IsFirstReason}
+use Rattle.hlc_checkpoint.specs.Checkpoint.{IsCheckpoint, IsFirstReason}
 use Rattle.hlc_checkpoint.specs.RestoreFaults.{fault_code as reason_code}
 use Rattle.hlc_checkpoint.specs.declared.checkpoint.RestoreFault.{RestoreFault}
-use Rattle.hlc_checkpoint.specs.declared.checkpoint.RestoreFault.TheVariants as reasons
 use Rattle.hlc_body.specs.Reading.{saved}
 use Rattle.hlc_saved.specs.Saved.{AreOf}
 use Rattle.hlc_split.specs.Split.{is_under, is_from, part_of}
@@ -28,19 +27,11 @@ IsNotRead bytes code word =
     IsShort code word
     ⊎ ((fault : WireFault) × (saved bytes ≡ Err fault) × (code ≡ 106) × (word ≡ fault_code fault))
 
--- the answer for a reason why a state is no checkpoint, or for out of memory, and its word
-abbrev pub reason_answer : RestoreFault → ℕ
-reason_answer reasons.NoMemory = 15
-reason_answer reason = 107
-
-abbrev pub reason_word : RestoreFault → ℕ
-reason_word reasons.NoMemory = 0
-reason_word reason = reason_code reason
-
 -- the first reason why the state is no checkpoint is returned; or out of memory, and it is one
 abbrev pub IsNoCheckpoint : StoreView → ℕ → ℕ → Type 0
 IsNoCheckpoint kept code word =
-    (reason : RestoreFault) × IsFirstReason kept reason × (code ≡ reason_answer reason) × (word ≡ reason_word reason)
+    (IsShort code word × IsCheckpoint kept)
+    ⊎ ((reason : RestoreFault) × IsFirstReason kept reason × (code ≡ 107) × (word ≡ reason_code reason))
 
 -- the bytes are those of the two parts of the checkpoint of these bytes: that of the keys below this one, and that of
 -- the others; each has the word of the whole

@@ -1,9 +1,9 @@
 //! A checkpoint of bytes, and bytes of a checkpoint.
 ghost use Rattle.std.specs.Prelude.{◌≡◌, IfOk, IfErr, MatchResult};
 ghost use Rattle.hlc_saved.specs.Saved.{AreOf};
-ghost use Rattle.hlc_split_calls.specs.Halves.{IsNoCheckpoint, IsNotRead, IsRead, reason_answer, reason_word};
+ghost use Rattle.hlc_split_calls.specs.Halves.{IsNoCheckpoint, IsNotRead, IsRead};
 
-use hlc_core::{Checkpoint, RestoreFault};
+use hlc_core::Checkpoint;
 use hlc_saved::{Decoded, decode_checkpoint, encode_checkpoint};
 use hlc_wire::DecodeError;
 use std::alloc::Global;
@@ -37,34 +37,15 @@ pub(crate) fn written(
 {
     *word = 0;
     let bytes = match encode_checkpoint(alloc, checkpoint, own) {
-        Ok(bytes) => bytes,
-        Err(fault) => {
-            *word = word_of(fault);
-            return Err(answer_of(fault));
+        Ok(Ok(bytes)) => bytes,
+        Ok(Err(fault)) => {
+            *word = fault.code() as u64;
+            return Err(107);
         }
+        Err(_) => return Err(15),
     };
     match Box::new(alloc, bytes) {
         Ok(boxed) => Ok(boxed),
         Err(_) => Err(15),
-    }
-}
-
-/// Returns the answer for a reason why something is no checkpoint, or for out of memory.
-fn answer_of(fault: RestoreFault) -> u32
-    ensures { result ≡ reason_answer fault }
-{
-    match fault {
-        RestoreFault::NoMemory => 15,
-        _ => 107,
-    }
-}
-
-/// Returns its word: the number of the reason, or 0 for out of memory.
-fn word_of(fault: RestoreFault) -> u64
-    ensures { result ≡ reason_word fault }
-{
-    match fault {
-        RestoreFault::NoMemory => 0,
-        _ => fault.code() as u64,
     }
 }

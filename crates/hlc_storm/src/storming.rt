@@ -129,7 +129,7 @@ fn work_of<
 {
     let keys = all_keys(alloc, &plan)?;
     match Board::new(alloc, plan.nodes, plan.readers as usize) {
-        Ok((board, feeders, passes)) => {
+        Ok(Ok((board, feeders, passes))) => {
             let crew = Crew {
                 rt,
                 alloc,
@@ -145,7 +145,7 @@ fn work_of<
             };
             run_all(&crew, callers, seats)
         }
-        Err(_) => Err(StormFault::NoMemory),
+        _ => Err(StormFault::NoMemory),
     }
 }
 

@@ -90,7 +90,7 @@ fn pass_item<R: Wait>(host: &Host<'_, R>) -> Option<()> {
 
 /// Makes a last item and a raise on two heads, and asks for the floor (closed timestamp) before and after.
 fn heads(rt: &HostRuntime) -> Option<()> {
-    let mut heads = Heads::new(rt.alloc(), 2).ok()?;
+    let mut heads = Heads::new(rt.alloc(), 2).ok()?.ok()?;
     refuse(rt, 1);
     let before = heads.floor();
     let retired = heads.retire(0, Stamp::from_bits(5));
@@ -101,8 +101,8 @@ fn heads(rt: &HostRuntime) -> Option<()> {
 
 /// Raises the word of a node on a board, looks at it, and looks at the floor before and after.
 fn board(rt: &HostRuntime) -> Option<()> {
-    let mut heads = Heads::new(rt.alloc(), 1).ok()?;
-    let (board, mut feeders, mut passes) = Board::new(rt.alloc(), 1, 1).ok()?;
+    let mut heads = Heads::new(rt.alloc(), 1).ok()?.ok()?;
+    let (board, mut feeders, mut passes) = Board::new(rt.alloc(), 1, 1).ok()?.ok()?;
     let accepted = heads.raise(0, Stamp::from_bits(5));
     refuse(rt, 1);
     let pass = &mut passes[0];

@@ -41,7 +41,7 @@ impl Saved {
     /// Holds the bytes of the checkpoint.
     pub(crate) fn encode(&mut self, rt: &HostRuntime, word: u64) -> Option<()> {
         let checkpoint = self.checkpoint.as_ref()?;
-        self.bytes = encode_checkpoint(rt.alloc(), checkpoint, word).ok();
+        self.bytes = encode_checkpoint(rt.alloc(), checkpoint, word).ok()?.ok();
         say(rt, "encoded", &self.bytes.as_ref()?.len())
     }
 
@@ -97,14 +97,15 @@ impl Stored {
     /// Puts a store in place of this one, made of copies of what is in the checkpoint.
     pub(crate) fn restore(&mut self, rt: &HostRuntime) -> Option<()> {
         let checkpoint = self.saved.checkpoint.as_ref()?;
-        self.core = Some(Core::restore(rt.alloc(), checkpoint).ok()?);
+        self.core = Some(Core::restore(rt.alloc(), checkpoint).ok()?.ok()?);
         say(rt, "restored", &())
     }
 
     /// Puts a store in place of this one, made of the checkpoint itself.
     pub(crate) fn move_in_checkpoint(&mut self, rt: &HostRuntime) -> Option<()> {
         let checkpoint = self.saved.checkpoint.take()?;
-        self.core = Some(Core::from_checkpoint(rt.alloc(), checkpoint).ok()?);
+        let restored = Core::from_checkpoint(rt.alloc(), checkpoint).ok()?;
+        self.core = Some(restored.ok()?);
         say(rt, "restored", &())
     }
 

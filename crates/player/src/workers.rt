@@ -141,6 +141,6 @@ fn print_end(rt: &HostRuntime, end: WorkEnd, receipts: &Vec<Receipt>) {
 fn new_board(alloc: Global) -> Option<(Board, Feeder, FloorPass)>
     ensures { IfSome result (λ made. (made.1.board ≡ made.0) × (made.2.board ≡ made.0)) }
 {
-    let (board, mut feeders, mut passes) = Board::new(alloc, 1, 1).ok()?;
+    let (board, mut feeders, mut passes) = Board::new(alloc, 1, 1).ok()?.ok()?;
     Some((board, feeders.remove(0), passes.remove(0)))
 }

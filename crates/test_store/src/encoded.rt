@@ -101,10 +101,17 @@ fn a_message_as_bytes(rt: HostRuntime) {
 }
 
 /// Writes a checkpoint in pieces, each of which is taken out before the next one is written.
-fn in_pieces(alloc: Global, checkpoint: &Checkpoint, word: u64) -> Result<Vec<u8>, RestoreFault> {
+fn in_pieces(
+    alloc: Global,
+    checkpoint: &Checkpoint,
+    word: u64,
+) -> Result<Result<Vec<u8>, RestoreFault>, AllocError> {
     let mut piece = Vec::new(alloc);
     let mut whole = Vec::new(alloc);
-    let mut writer = CheckpointWriter::begin(&mut piece, checkpoint, word)?;
+    let mut writer = match CheckpointWriter::begin(&mut piece, checkpoint, word)? {
+        Ok(writer) => writer,
+        Err(fault) => return Ok(Err(fault)),
+    };
     whole.append(&mut piece)?;
     for row in checkpoint.rows() {
         writer.row(&mut piece, row)?;
@@ -112,7 +119,7 @@ fn in_pieces(alloc: Global, checkpoint: &Checkpoint, word: u64) -> Result<Vec<u8
     }
     writer.end(&mut piece)?;
     whole.append(&mut piece)?;
-    Ok(whole)
+    Ok(Ok(whole))
 }
 
 #[test]
@@ -122,9 +129,9 @@ fn a_checkpoint_in_pieces(rt: HostRuntime) {
     says(&rt, alloc, &mut core, 0, b"a", Some(b"1"));
     says(&rt, alloc, &mut core, 1, b"b", None);
     let checkpoint = core.checkpoint().ok().expect(&rt, "a checkpoint");
-    let pieces = in_pieces(alloc, &checkpoint, 7).ok().expect(&rt, "pieces");
-    let whole = encode_checkpoint(alloc, &checkpoint, 7)
-        .ok()
-        .expect(&rt, "bytes");
+    let pieces = in_pieces(alloc, &checkpoint, 7).expect(&rt, "memory");
+    let whole = encode_checkpoint(alloc, &checkpoint, 7).expect(&rt, "memory");
+    let pieces = pieces.expect(&rt, "a checkpoint");
+    let whole = whole.expect(&rt, "a checkpoint");
     assert_eq!(rt; pieces.as_slice(), whole.as_slice());
 }

@@ -35,7 +35,8 @@ fn an_increment_makes_an_older_checkpoint_newer(rt: HostRuntime) {
     let since = Increment::of(&core, second(2))
         .ok()
         .expect(&rt, "an increment");
-    let bytes = encode_increment(alloc, &since, 7).ok().expect(&rt, "bytes");
+    let bytes = encode_increment(alloc, &since, 7).expect(&rt, "memory");
+    let bytes = bytes.expect(&rt, "a checkpoint");
     let read = decode_increment(alloc, bytes.as_slice())
         .ok()
         .expect(&rt, "an increment");
@@ -43,9 +44,8 @@ fn an_increment_makes_an_older_checkpoint_newer(rt: HostRuntime) {
     let newer = advance(older, read.increment)
         .ok()
         .expect(&rt, "a checkpoint");
-    let mut copy = Core::from_checkpoint(alloc, newer)
-        .ok()
-        .expect(&rt, "a store");
+    let copy = Core::from_checkpoint(alloc, newer).expect(&rt, "memory");
+    let mut copy = copy.expect(&rt, "a store");
     assert!(&rt; copy.rows() == 4);
     let (id, at) = copy.open_floor().ok().expect(&rt, "a snapshot");
     assert!(&rt; at == second(4));

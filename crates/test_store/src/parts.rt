@@ -7,9 +7,8 @@ use std::test::*;
 
 /// Returns a store with the state of a checkpoint.
 fn restored<H: Abort + AllocGlobal>(rt: &H, checkpoint: Checkpoint) -> Core {
-    Core::from_checkpoint(rt.alloc(), checkpoint)
-        .ok()
-        .expect(rt, "a store")
+    let made = Core::from_checkpoint(rt.alloc(), checkpoint).expect(rt, "memory");
+    made.expect(rt, "a store")
 }
 
 /// Returns a checkpoint of a store.

@@ -39,7 +39,8 @@ pub fn new_scene<L: Ledger, R: Abort>(
     ensures feeder { result.1.feeder.board ≡ result.0.board }
     ensures pass { result.1.pass.board ≡ result.0.board }
 {
-    let (board, mut feeders, mut passes) = Board::new(alloc, 1, 1).expect(rt, "a board");
+    let made = Board::new(alloc, 1, 1).expect(rt, "memory");
+    let (board, mut feeders, mut passes) = made.expect(rt, "a board");
     let (shared, callers) = Shared::<L>::new(alloc, blank, 1, callers, audit).expect(rt, "a store");
     let feeder = feeders.remove(0);
     let pass = passes.remove(0);

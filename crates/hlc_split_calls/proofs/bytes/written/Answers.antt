@@ -1,7 +1,6 @@
 -- Where memory ran out for the box, it is a checkpoint.
-use Rattle.std.proofs.Common.{refl}
-use Rattle.hlc_checkpoint.specs.declared.checkpoint.RestoreFault.TheVariants.{NoMemory}
+use Rattle.std.proofs.Common.{inl, refl}
 use Rattle.hlc_split_calls.proofs.bytes.written.Goals as goal
 
 pub returns-clause-err : goal.returns-clause-err
-returns-clause-err c = (NoMemory, c.in-Ok.ensures.sound, refl, refl)
+returns-clause-err c = inl ((refl, refl), c.in-Ok.ensures.sound)

@@ -1,10 +1,17 @@
--- The new core has the state of the checkpoint, with its rows in another order.
+-- The new core has the state of the checkpoint, with its rows in another order; and nothing is against a checkpoint.
 use Rattle.std.proofs.Common.{subst, sym}
-use Rattle.hlc_core.specs.Checkpoint.{IsCopyOf}
+use Rattle.hlc_checkpoint.specs.Checkpoint.{IsCopyOf, Restores}
+use Rattle.hlc_checkpoint.proofs.CheckpointLemmas.{sound-has_no_reason}
 use Rattle.hlc_core.proofs.CheckpointLemmas.{copy-represents}
 use Rattle.hlc_core.proofs.store.Core.restore.Goals as goal
 
-pub returns-clause-represents : goal.returns-clause-represents
-returns-clause-represents c = λ past h.
-    copy-represents c.args.checkpoint.now c.in_ok-resuming.field-0 past h
-    (subst (IsCopyOf c.args.checkpoint.now) (sym c.in_ok-resuming.ensures) c.in_ok-copy_of.ensures.1)
+pub returns-in_ok-resuming-in-Ok-clause-represents : goal.returns-in_ok-resuming-in-Ok-clause-represents
+returns-in_ok-resuming-in-Ok-clause-represents c = λ past h.
+    let made = subst (Restores c.args.checkpoint.now) c.in-Ok.is c.in_ok-checked.ensures in
+    copy-represents c.args.checkpoint.now c.in_ok-resuming-in-Ok.field-0 past h
+    (subst (IsCopyOf c.args.checkpoint.now) (sym c.in_ok-resuming-in-Ok.ensures) made.1)
+
+pub returns-in-Err-clause-only : goal.returns-in-Err-clause-only
+returns-in-Err-clause-only c = λ is.
+    absurd (sound-has_no_reason c.args.checkpoint.now c.in-Err.fault is
+    (subst (Restores c.args.checkpoint.now) c.in-Err.is c.in_ok-checked.ensures))

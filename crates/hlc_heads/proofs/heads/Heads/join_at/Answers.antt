@@ -4,6 +4,7 @@ use Rattle.std.proofs.Common.{rules, ◌≡◌, ◌<◌, ◌≤◌, ◌/◌, ℕ
 use Rattle.std.proofs.Common.{refl, sym, subst, slice_set, ap, arith}
 use Rattle.std.proofs.lemmas.Grind.{common_steps}
 use Rattle.std.proofs.lemmas.List.{get_or_default}
+use Rattle.std.proofs.lemmas.Result.{err_from_is_err_and}
 use Rattle.hlc_heads.specs.declared.heads.TheConstants.{MAX_NODES}
 use Rattle.hlc_heads.specs.declared.groups.TheConstants.{GROUP}
 use Rattle.hlc_heads.specs.Heads.{HeadsView, IsSized, IsFloor, joined}
@@ -31,7 +32,7 @@ invariant_of-self-2 c =
     (groups_join marks inside.groups c.args.start c.lower.result size few
     (subst (λ (n : ℕ). IsLower (group_at inside.groups (n / GROUP)) c.args.start c.lower.result) place lowest)
     c.self.invariant.2) in
-    rw (c.in-Ok.ensures.items, c.starting_at.ensures, c.unwrap_or-self-inside.ensures, c.greater-self-inside.ensures) (
+    rw (c.in_ok-push.ensures.items, c.starting_at.ensures, c.unwrap_or-self-inside.ensures, c.greater-self-inside.ensures) (
       sized,
       found_floor grown groups c.least_of.result sized.few grouped c.least_of.ensures,
       grouped,
@@ -45,14 +46,15 @@ returns-then-lt c =
     subst (λ m. IsFloor m c.self.inside.floor) c.self.view_is c.self.invariant.1 in
     (few, floor-is c.args.self.now c.self.inside.floor old, below, refl)
 
-pub returns-in_default : goal.returns-in_default
-returns-in_default c =
+pub returns-in_err-push : goal.returns-in_err-push
+returns-in_err-push c =
     let few : length c.args.self.now.links < MAX_NODES = search (rules, common_steps) in
     let above : c.self.inside.floor ≤ c.args.start = search (rules, common_steps) in
     let old : IsFloor c.args.self.now c.self.inside.floor =
     subst (λ m. IsFloor m c.self.inside.floor) c.self.view_is c.self.invariant.1 in
     let below = subst (λ floor. floor ≤ c.args.start) (floor-is c.args.self.now c.self.inside.floor old) above in
-    (few, below, search (rules, common_steps))
+    let p = err_from_is_err_and c.from_residual.result c.from_residual.ensures.1 in
+    rw p.1 (few, below, search (rules, common_steps))
 
 pub returns : goal.returns
 returns c =
@@ -64,6 +66,6 @@ returns c =
       few,
       subst (λ floor. floor ≤ c.args.start) (floor-is c.args.self.now c.self.inside.floor old) above,
       place,
-      rw (c.in-Ok.ensures.items, c.starting_at.ensures, c.greater-self-inside.ensures)
+      rw (c.in_ok-push.ensures.items, c.starting_at.ensures, c.greater-self-inside.ensures)
           (ap (λ (marks : HeadsView). joined marks c.args.start) c.self.view_is),
     )
