@@ -8,7 +8,7 @@ ghost use Rattle.hlc_calls.specs.Log.{came_before, with_item, IsStopped, AreTake
 
 use crate::codes::refuse;
 use hlc_core::{Core, ItemRef};
-use hlc_wire::{DecodeError, item_ref_at, item_size, put_item};
+use hlc_wire::{item_ref_at, item_size, put_item};
 
 /// Writes an item as bytes. Returns 0, the length of the bytes and, where they fit, the bytes; or the number of the
 /// refusal of its body.
@@ -50,11 +50,10 @@ fn take_front<'a>(core: &mut Core, bytes: &'a [u8], word: &mut u64) -> Result<&'
 {
     let (item, rest) = match item_ref_at(bytes) {
         Ok(found) => found,
-        Err(DecodeError::Fault(fault)) => {
+        Err(fault) => {
             *word = fault.code() as u64;
             return Err(106);
         }
-        Err(DecodeError::NoMemory) => unreachable!(),
     };
     if came(core, &item) {
         return Ok(rest);

@@ -2,7 +2,6 @@
 -- many.
 use Rattle.std.proofs.Common.{◌≡◌, ℕ, ◌<◌, Bool, true, false, cond, eqb, List, ◌++◌, length, take, drop}
 use Rattle.std.proofs.Common.{Result, Ok, Err, refl, sym, ap, subst, ◌∙◌, append_assoc}
-use Rattle.std.specs.Prelude.{IfOk}
 use Rattle.std.proofs.lemmas.List.{take_at}
 use Rattle.sha2.specs.Sha256.{sha256}
 use Rattle.hlc_wire.specs.declared.fault.WireFault.{WireFault}
@@ -12,7 +11,7 @@ use Rattle.hlc_wire.proofs.FieldLemmas.{bind_ok, guard_ended, IsReader, IsBytes}
 use Rattle.hlc_wire.proofs.FieldLemmas.{Takes, Takes-then, whole_takes, whole_again}
 use Rattle.hlc_frame.specs.declared.front.Front.{Front}
 use Rattle.hlc_frame.specs.Frame.{front_bytes, sealed, frame_bytes, FrameFits}
-use Rattle.hlc_frame.specs.Opening.{Reads, front_at, sealed_at, frame_at, opened}
+use Rattle.hlc_frame.specs.Opening.{front_at, sealed_at, frame_at, opened}
 use Rattle.hlc_frame.specs.Reading.{body_after, body_so_far, word_after, word_of}
 use Rattle.hlc_frame.proofs.FrontLemmas.{front_reader, length-front, with_rest, front_cut}
 use Rattle.hlc_frame.proofs.SealedLemmas.{sealed_body, sealed_takes, sealed_again}
@@ -102,12 +101,6 @@ opened_is_frame bytes word body fits e = whole_takes frame_at text_of Fit frame_
 pub frame_is_opened : (word : ℕ) (body : List ℕ) → FrameFits word body
     → opened (frame_bytes word body) ≡ Ok (word, body)
 frame_is_opened word body fits = whole_again frame_at text_of Fit frame_reader (word, body) fits
-
--- a returned result is a frame
-pub is_found : {X : Type 0} (view : X → ℕ × List ℕ) (r : Result X WireFault) (bytes : List ℕ) → IsBytes bytes
-    → Reads view r (opened bytes) → IfOk r (λ x. Fit (view x) × (bytes ≡ text_of (view x)))
-is_found view (Ok x) bytes fits e = whole_takes frame_at text_of Fit frame_reader bytes (view x) fits e
-is_found view (Err fault) bytes fits e = tt
 
 -- ---- in blocks
 

@@ -6,12 +6,11 @@ use Rattle.std.proofs.lemmas.Bool.{cases_lt, ltb-false, le-ltb, eqb-true}
 use Rattle.std.proofs.lemmas.List.{take-append-drop, take-append-le, drop-append-le}
 use Rattle.std.proofs.lemmas.List.{take_all, append-nil, nil_from_length}
 use Rattle.std.proofs.lemmas.List.{length-take, length-drop, length-append}
-use Rattle.std.proofs.lemmas.Nat.{be_bytes_4, from_be_bytes-to_be_bytes_4}
 use Rattle.hlc_wire.specs.declared.fault.WireFault.{WireFault}
 use Rattle.hlc_wire.specs.declared.fault.WireFault.TheVariants.{Short, Version}
 use Rattle.hlc_wire.specs.Reading.{◌>>=◌, number_at}
 use Rattle.hlc_wire.proofs.FieldLemmas.{bind_ok, guard_ok, guard_ended, ok_is, IsReader, IsBytes, Takes, Takes-then}
-use Rattle.hlc_wire.proofs.FieldLemmas.{IsWide, wide64, number_reader}
+use Rattle.hlc_wire.proofs.FieldLemmas.{wide32, wide64, number_reader}
 use Rattle.hlc_frame.specs.declared.front.Front.{Front}
 use Rattle.hlc_frame.specs.Frame.{front_bytes}
 use Rattle.hlc_frame.specs.Opening.{front_at}
@@ -156,14 +155,6 @@ front_text front = front_bytes front.len front.word
 pub length-front : (len word : ℕ) → length (front_bytes len word) ≡ 20
 unfolding front_bytes
 length-front len word = refl
-
-wide32 : IsWide w32 4294967296
-wide32 = record {
-  len = λ n. refl;
-  back = λ bytes len fits. be_bytes_4 bytes _ len fits refl;
-  again = λ n lt. from_be_bytes-to_be_bytes_4 n lt;
-  below = λ bytes fits. omega (arith, fits 0, fits 1, fits 2, fits 3);
-}
 
 abbrev eight : IsReader (number_at w64) (to_be_bytes w64) (λ n. n < 18446744073709551616)
 eight = number_reader w64 18446744073709551616 wide64

@@ -1,48 +1,21 @@
 -- A body and its digest, after a front.
-use Rattle.std.proofs.Common.{◌≡◌, ℕ, ◌+◌, ◌≤◌, true, false, cond, ltb, List, ◌++◌, length}
-use Rattle.std.proofs.Common.{take, drop, Result, Ok, Err, refl, sym, ap, subst, ◌∙◌, arith, append_assoc}
+use Rattle.std.proofs.Common.{◌≡◌, ℕ, true, cond, ltb, List, ◌++◌, length}
+use Rattle.std.proofs.Common.{take, drop, Result, Ok, Err, refl, ap, subst, ◌∙◌, append_assoc}
 use Rattle.std.specs.Prelude.{bytes_eq}
-use Rattle.std.proofs.lemmas.Bool.{ltb-false, le-ltb}
 use Rattle.std.proofs.lemmas.Slice.Eq.{bytes_eq-Decides}
 use Rattle.std.proofs.lemmas.Cmp.{nat_list_eq_equiv}
-use Rattle.std.proofs.lemmas.List.{take_at, drop_at, take-append-drop, length-append, length-take, get_or-drop}
 use Rattle.sha2.specs.Sha256.{sha256}
 use Rattle.sha2.proofs.Facts256.{length-sha256}
 use Rattle.hlc_wire.specs.declared.fault.WireFault.{WireFault}
 use Rattle.hlc_wire.specs.declared.fault.WireFault.TheVariants.{Short, Damaged}
 use Rattle.hlc_wire.specs.Reading.{◌>>=◌, bytes_at}
-use Rattle.hlc_wire.proofs.FieldLemmas.{bind_ok, guard_ok, guard_ended, IsBytes, Takes, Takes-then}
+use Rattle.hlc_wire.proofs.FieldLemmas.{bind_ok, bytes_reader, guard_ok, guard_ended, IsBytes, Takes, Takes-then}
 use Rattle.hlc_frame.specs.Opening.{sealed_at}
 
-IsBytes-drop : (n : ℕ) (bytes : List ℕ) → IsBytes bytes → IsBytes (drop n bytes)
-IsBytes-drop n bytes h i = rw get_or-drop (h (n + i))
-
--- what bytes that were read imply
-record BytesOk (n : ℕ) (bytes : List ℕ) (x : List ℕ × List ℕ) : Type 0 where
-  long : n ≤ length bytes
-  front : take n bytes ≡ x.0
-  back : drop n bytes ≡ x.1
-
-bytes_ok : (n : ℕ) (bytes : List ℕ) (x : List ℕ × List ℕ) → bytes_at n bytes ≡ Ok x → BytesOk n bytes x
-bytes_ok n bytes x e =
-    let g = guard_ok (ltb (length bytes) n) Short (take n bytes, drop n bytes) x e in
-    record {
-      long = ltb-false _ _ g.0;
-      front = ap (λ (p : List ℕ × List ℕ). p.0) g.1;
-      back = ap (λ (p : List ℕ × List ℕ). p.1) g.1;
-    }
-
-bytes_take : (n : ℕ) (bytes : List ℕ) (x : List ℕ × List ℕ) → IsBytes bytes → BytesOk n bytes x → Takes bytes x.0 x.1
-bytes_take n bytes x fits ok =
-    record {
-      parts = rw (← ok.front, ← ok.back) (sym (take-append-drop n bytes));
-      rest_fits = rw (← ok.back) (IsBytes-drop n bytes fits);
-    }
-
-bytes_again : (text rest : List ℕ) (n : ℕ) → length text ≡ n → bytes_at n (text ++ rest) ≡ Ok (text, rest)
-bytes_again text rest n e =
-    let long : ltb (length (text ++ rest)) n ≡ false = le-ltb _ _ (omega (arith, e, length-append text rest)) in
-    rw (long, take_at text rest n e, drop_at text rest n e) refl
+-- bytes that were read are the first ones
+bytes_front : (n : ℕ) (bytes : List ℕ) (x : List ℕ × List ℕ) → bytes_at n bytes ≡ Ok x → take n bytes ≡ x.0
+bytes_front n bytes x e =
+    ap (λ (p : List ℕ × List ℕ). p.0) (guard_ok (ltb (length bytes) n) Short (take n bytes, drop n bytes) x e).1
 
 abbrev checked : List ℕ → List ℕ → List ℕ × List ℕ → Result (List ℕ × List ℕ) WireFault
 checked front body digest = cond (bytes_eq digest.0 (sha256 (front ++ body))) (Ok (body, digest.1)) (Err Damaged)
@@ -77,22 +50,17 @@ pub sealed_body : (front : List ℕ) (len : ℕ) (bytes : List ℕ) (x : List �
     → take len bytes ≡ x.0
 sealed_body front len bytes x e =
     let p = sealed_parts front len bytes x e in
-    (bytes_ok len bytes p.body p.body_is).front ∙ ap (λ (y : List ℕ × List ℕ). y.0) p.found_is
+    bytes_front len bytes p.body p.body_is ∙ ap (λ (y : List ℕ × List ℕ). y.0) p.found_is
 
 pub sealed_takes : (front : List ℕ) (len : ℕ) (bytes : List ℕ) (x : List ℕ × List ℕ) → IsBytes bytes
     → sealed_at front len bytes ≡ Ok x → Takes bytes (x.0 ++ sha256 (front ++ x.0)) x.1 × (length x.0 ≡ len)
 sealed_takes front len bytes x fits e =
     let p = sealed_parts front len bytes x e in
-    let a = bytes_ok len bytes p.body p.body_is in
-    let t = bytes_take len bytes p.body fits a in
-    let u = bytes_take 32 p.body.1 p.digest t.rest_fits (bytes_ok 32 p.body.1 p.digest p.digest_is) in
-    let both = Takes-then bytes p.body.0 p.body.1 p.digest.0 p.digest.1 t u in
-    let sized : length p.body.0 ≡ len = ap length (sym a.front)
-    ∙ (let l = length-take len bytes in let b = a.long in omega (arith, l, b)) in
-    subst (λ (y : List ℕ × List ℕ). Takes bytes (y.0 ++ sha256 (front ++ y.0)) y.1 × (length y.0 ≡ len)) p.found_is (
-      subst (λ (d : List ℕ). Takes bytes (p.body.0 ++ d) p.digest.1) p.same both,
-      sized,
-    )
+    let t = (bytes_reader len).takes bytes p.body fits p.body_is in
+    let u = (bytes_reader 32).takes p.body.1 p.digest t.0.rest_fits p.digest_is in
+    let both = Takes-then bytes p.body.0 p.body.1 p.digest.0 p.digest.1 t.0 u.0 in
+    subst (λ (y : List ℕ × List ℕ). Takes bytes (y.0 ++ sha256 (front ++ y.0)) y.1 × (length y.0 ≡ len)) p.found_is
+    (subst (λ (d : List ℕ). Takes bytes (p.body.0 ++ d) p.digest.1) p.same both, t.1)
 
 pub sealed_again : (front body rest : List ℕ)
     → sealed_at front (length body) ((body ++ sha256 (front ++ body)) ++ rest) ≡ Ok (body, rest)
@@ -103,8 +71,7 @@ sealed_again front body rest =
     ap (λ (l : List ℕ). bytes_at (length body) l >>= λ b. bytes_at 32 b.1 >>= checked front b.0)
     (append_assoc body digest rest)
     ∙ rw (
-      bytes_again body (digest ++ rest) (length body) refl,
-      bytes_again digest rest 32 (length-sha256
-          (front ++ body)),
+      (bytes_reader (length body)).again body (digest ++ rest) refl,
+      (bytes_reader 32).again digest rest (length-sha256 (front ++ body)),
       same,
     ) refl

@@ -1,16 +1,11 @@
 -- Reading a frame from left to right, up to the first fault.
-use Rattle.std.specs.Prelude.{◌≡◌, ℕ, List, ◌++◌, take, Result, Ok, Err, bytes_eq, ◌==◌, if◌then◌else◌}
+use Rattle.std.specs.Prelude.{ℕ, List, ◌++◌, take, Result, Ok, Err, bytes_eq, ◌==◌, if◌then◌else◌}
 use Rattle.std.specs.Int.{w32, w64}
 use Rattle.sha2.specs.Sha256.{sha256}
 use Rattle.hlc_wire.specs.declared.fault.WireFault.{WireFault}
 use Rattle.hlc_wire.specs.declared.fault.WireFault.TheVariants.{Version, Damaged}
 use Rattle.hlc_wire.specs.Reading.{◌>>=◌, number_at, bytes_at, whole}
 use Rattle.hlc_frame.specs.declared.front.Front.{Front}
-
--- the result of a call, seen by view, is the result of the reading
-abbrev pub Reads : {X Y : Type 0} → (X → Y) → Result X WireFault → Result Y WireFault → Type 0
-Reads view (Ok x) read = read ≡ Ok (view x)
-Reads view (Err fault) read = read ≡ Err fault
 
 -- the front: the version, the length of the body, the word; and the bytes after it
 unfoldable pub front_at : List ℕ → Result (Front × List ℕ) WireFault

@@ -1,10 +1,10 @@
 //! The front of a frame.
 ghost use Rattle.std.specs.Prelude.{◌≡◌};
+ghost use Rattle.hlc_wire.specs.Reading.{Reads};
 ghost use Rattle.hlc_frame.specs.Frame.{front_bytes};
-ghost use Rattle.hlc_frame.specs.Opening.{Reads, front_at};
+ghost use Rattle.hlc_frame.specs.Opening.{front_at};
 
-use crate::fields::{u32_at, u64_at};
-use hlc_wire::WireFault;
+use hlc_wire::{WireFault, u32_at, u64_at};
 
 /// The version of the library's formats.
 pub const FORMAT_VERSION: u32 = 1;

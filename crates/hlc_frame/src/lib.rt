@@ -3,7 +3,6 @@
 #![tactic(auto)]
 
 mod digest;
-mod fields;
 mod front;
 mod laws;
 mod open;

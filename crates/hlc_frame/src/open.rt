@@ -1,12 +1,13 @@
 //! A frame in one block.
 ghost use Rattle.std.specs.Prelude.{◌≡◌, ℕ, List, IfOk, Ok};
+ghost use Rattle.hlc_wire.specs.Reading.{Reads};
 ghost use Rattle.hlc_frame.specs.Frame.{frame_bytes, FrameFits};
-ghost use Rattle.hlc_frame.specs.Opening.{Reads, frame_at, opened, sealed_at};
+ghost use Rattle.hlc_frame.specs.Opening.{frame_at, opened, sealed_at};
 
 use crate::digest::has_digest;
-use crate::fields::{bytes_at, cut};
 use crate::front::{DIGEST_BYTES, FRONT_BYTES, front_at};
-use hlc_wire::WireFault;
+use crate::rest::cut;
+use hlc_wire::{WireFault, slice_at};
 
 /// The content of a frame.
 #[derive(Clone, Copy)]
@@ -70,8 +71,8 @@ fn frame_at(bytes: &[u8]) -> Result<(Opened<'_>, &[u8]), WireFault>
 fn sealed_at<'a>(front: &[u8], len: u64, bytes: &'a [u8]) -> Result<(&'a [u8], &'a [u8]), WireFault>
     ensures { Reads (λ x. (x.0.now, x.1.now)) result (sealed_at front.now len bytes.now) }
 {
-    let (body, rest) = bytes_at(len, bytes)?;
-    let (digest, rest) = bytes_at(DIGEST_BYTES as u64, rest)?;
+    let (body, rest) = slice_at(len as usize, bytes)?;
+    let (digest, rest) = slice_at(DIGEST_BYTES, rest)?;
     if !has_digest(front, body, digest) {
         return Err(WireFault::Damaged);
     }

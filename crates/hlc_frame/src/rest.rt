@@ -1,10 +1,8 @@
 //! The bytes after the front of a frame, read in blocks.
 ghost use Rattle.std.specs.Prelude.{◌≡◌, ◌-◌, ◌++◌, ℕ, List, [], length, take, drop};
-ghost use Rattle.arrayvec.specs.ArrayVec.{array_vec_len};
 ghost use Rattle.hlc_frame.specs.Reading.{HasReadRest, word_after};
 
 use crate::digest::is_digest;
-use crate::fields::cut;
 use crate::front::DIGEST_BYTES;
 use arrayvec::ArrayVec;
 use hlc_wire::WireFault;
@@ -86,4 +84,16 @@ pub fn fill<'b, const N: usize>(buffer: &mut ArrayVec<u8, N>, block: &'b [u8]) -
     let (front, rest) = cut(room as u64, block);
     let _ = buffer.try_extend_from_slice(front);
     rest
+}
+
+/// Splits the bytes after the first `count`, or after all if there are fewer.
+pub fn cut(count: u64, bytes: &[u8]) -> (&[u8], &[u8])
+    ensures front { result.0.now ≡ take count bytes.now }
+    ensures back { result.1.now ≡ drop count bytes.now }
+{
+    if bytes.len() as u64 <= count {
+        bytes.split_at(bytes.len())
+    } else {
+        bytes.split_at(count as usize)
+    }
 }

@@ -90,10 +90,7 @@ pub fn decode_increment(alloc: Global, bytes: &[u8]) -> Result<DecodedIncrement,
 fn all(alloc: Global, bytes: &[u8]) -> Result<DecodedIncrement, DecodeError>
     ensures { Gives (λ made. (made.word, made.increment)) result (increment_at bytes.now) }
 {
-    let frame = match open_frame(bytes) {
-        Ok(frame) => frame,
-        Err(fault) => return Err(DecodeError::Fault(fault)),
-    };
+    let frame = open_frame(bytes)?;
     let increment = content_at(alloc, frame.body)?;
     let word = frame.word;
     Ok(DecodedIncrement { increment, word })

@@ -11,7 +11,7 @@ ghost use Rattle.hlc_log.specs.Log.{MayGrow, Applies, IsStopped, AreApplied};
 
 use crate::record::{RecordRef, record_ref_at};
 use hlc_core::{Core, CoreFault, ItemRef, LinkFault, Stamp};
-use hlc_wire::{DecodeError, WireFault};
+use hlc_wire::WireFault;
 
 /// Why a record was not applied.
 #[derive(Clone, Copy, PartialEq, Eq, Debug)]
@@ -89,8 +89,7 @@ fn apply_front<'a>(
 {
     let (entry, rest) = match record_ref_at(bytes) {
         Ok(found) => found,
-        Err(DecodeError::Fault(fault)) => return Err(RecordFault::Bytes(fault)),
-        Err(DecodeError::NoMemory) => unreachable!(),
+        Err(fault) => return Err(RecordFault::Bytes(fault)),
     };
     match enter(core, &entry, greatest) {
         Ok(()) => Ok(rest),

@@ -2,7 +2,7 @@
 ghost use Rattle.std.specs.Prelude.{◌≡◌, length, IfOk, IfErr, IsErrOf, IsOk, Ok, Some, None};
 ghost use Rattle.std.specs.Prelude.{IsSome, MatchResult};
 ghost use Rattle.hlc_wire.specs.Placing.{PutsFront};
-ghost use Rattle.hlc_wire.specs.Reading.{Gives, whole};
+ghost use Rattle.hlc_wire.specs.Reading.{Gives, Reads, whole};
 ghost use Rattle.hlc_wire.specs.Refusal.{IsRefusal};
 ghost use Rattle.hlc_log.specs.declared.record.Record.{Record as ARecord};
 ghost use Rattle.hlc_log.specs.Record.{record_bytes, record_at, item_record_at, join_at, threshold_at, record_refusal};
@@ -106,26 +106,24 @@ fn copy_record(alloc: Global, entry: &RecordRef<'_>) -> Result<Record, NoMemory>
 /// Reads the record at the front of some bytes, and returns it with the bytes after it. The key and the value of an
 /// item are those in the bytes: nothing is copied.
 ///
-/// The error is the first fault from the left, and never `NoMemory`: no memory is needed.
+/// The error is the first fault from the left. No memory is needed.
 #[tactic(auto, unfolding(crate::specs::Record::record_at))]
-pub fn record_ref_at(bytes: &[u8]) -> Result<(RecordRef<'_>, &[u8]), DecodeError>
-    ensures read { Gives (λ x. (record_seen x.0, x.1.now)) result (record_at bytes.now) }
-    ensures memory { ¬ IsErrOf result DecodeError.NoMemory }
+pub fn record_ref_at(bytes: &[u8]) -> Result<(RecordRef<'_>, &[u8]), WireFault>
+    ensures { Reads (λ x. (record_seen x.0, x.1.now)) result (record_at bytes.now) }
 {
     match bytes {
-        [] => Err(DecodeError::Fault(WireFault::Short)),
+        [] => Err(WireFault::Short),
         [1, ..] => item_record_at(bytes),
         [2, rest @ ..] => join_at(rest),
         [3, rest @ ..] => threshold_at(rest),
-        [_, ..] => Err(DecodeError::Fault(WireFault::Version)),
+        [_, ..] => Err(WireFault::Version),
     }
 }
 
 /// Reads an item, as a record.
 #[tactic(auto, unfolding(crate::specs::Record::item_record_at))]
-fn item_record_at(bytes: &[u8]) -> Result<(RecordRef<'_>, &[u8]), DecodeError>
-    ensures read { Gives (λ x. (record_seen x.0, x.1.now)) result (item_record_at bytes.now) }
-    ensures memory { ¬ IsErrOf result DecodeError.NoMemory }
+fn item_record_at(bytes: &[u8]) -> Result<(RecordRef<'_>, &[u8]), WireFault>
+    ensures { Reads (λ x. (record_seen x.0, x.1.now)) result (item_record_at bytes.now) }
 {
     let (item, rest) = item_ref_at(bytes)?;
     Ok((RecordRef::Item(item), rest))
@@ -133,9 +131,8 @@ fn item_record_at(bytes: &[u8]) -> Result<(RecordRef<'_>, &[u8]), DecodeError>
 
 /// Reads a join after its first byte.
 #[tactic(auto, unfolding(crate::specs::Record::join_at))]
-fn join_at(bytes: &[u8]) -> Result<(RecordRef<'_>, &[u8]), DecodeError>
-    ensures read { Gives (λ x. (record_seen x.0, x.1.now)) result (join_at bytes.now) }
-    ensures memory { ¬ IsErrOf result DecodeError.NoMemory }
+fn join_at(bytes: &[u8]) -> Result<(RecordRef<'_>, &[u8]), WireFault>
+    ensures { Reads (λ x. (record_seen x.0, x.1.now)) result (join_at bytes.now) }
 {
     let (node, rest) = u16_at(bytes)?;
     let (start, rest) = u64_at(rest)?;
@@ -145,9 +142,8 @@ fn join_at(bytes: &[u8]) -> Result<(RecordRef<'_>, &[u8]), DecodeError>
 
 /// Reads a threshold after its first byte.
 #[tactic(auto, unfolding(crate::specs::Record::threshold_at))]
-fn threshold_at(bytes: &[u8]) -> Result<(RecordRef<'_>, &[u8]), DecodeError>
-    ensures read { Gives (λ x. (record_seen x.0, x.1.now)) result (threshold_at bytes.now) }
-    ensures memory { ¬ IsErrOf result DecodeError.NoMemory }
+fn threshold_at(bytes: &[u8]) -> Result<(RecordRef<'_>, &[u8]), WireFault>
+    ensures { Reads (λ x. (record_seen x.0, x.1.now)) result (threshold_at bytes.now) }
 {
     let (at, rest) = u64_at(bytes)?;
     let at = Stamp::from_bits(at);

@@ -46,10 +46,7 @@ fn all(alloc: Global, bytes: &[u8]) -> Result<Decoded, DecodeError>
     ensures read { Gives (λ made. (made.word, made.checkpoint)) result (saved bytes.now) }
     ensures memory { IsErrOf result DecodeError.NoMemory → AreFrame bytes.now }
 {
-    let frame = match open_frame(bytes) {
-        Ok(frame) => frame,
-        Err(fault) => return Err(DecodeError::Fault(fault)),
-    };
+    let frame = open_frame(bytes)?;
     let checkpoint = body_of(alloc, frame.body)?;
     let word = frame.word;
     Ok(Decoded { checkpoint, word })

@@ -13,11 +13,9 @@ use Rattle.hlc_rows.specs.Spelled.{a_write, value_of, key_in, value_in, long_in,
 use Rattle.hlc_rows.proofs.SpelledLemmas.{front}
 use Rattle.hlc_rows.proofs.WritesLemmas.{first-none, good}
 use Rattle.hlc_wire.specs.declared.fault.WireFault.TheVariants.{Short}
-use Rattle.hlc_wire.specs.declared.fault.DecodeError.{DecodeError}
-use Rattle.hlc_wire.specs.declared.fault.DecodeError.TheVariants as errors
 use Rattle.hlc_wire.specs.Spelling.{key_bytes, value_bytes, write_bytes, writes_bytes, batch_bytes}
 use Rattle.hlc_wire.specs.Spelling.{KeyFits, ValueFits, WritesFit, BatchFits}
-use Rattle.hlc_wire.specs.Reading.{◌>>=◌, Gives, number_at, bytes_at, key_at, value_at, write_at, writes_at, batch_at}
+use Rattle.hlc_wire.specs.Reading.{◌>>=◌, Reads, number_at, bytes_at, key_at, value_at, write_at, writes_at, batch_at}
 use Rattle.hlc_wire.specs.declared.fault.WireFault.{WireFault}
 use Rattle.hlc_wire.proofs.FieldLemmas.{guard_ok}
 use Rattle.hlc_wire.proofs.FieldLemmas.{IsBytes, IsBytes-rest, bind_ok, ok_is, Takes, Takes-then, Takes-cons, IsReader}
@@ -165,25 +163,24 @@ unfolding writes_at writes_in
 writes_zero zero bytes none = refl
 writes_zero (suc count) bytes none = absurd cc
 
-gives_more : {X : Type 0} (view : X → List ℕ) (write : Write) (writes : List Write) (result : Result X DecodeError)
+reads_more : {X : Type 0} (view : X → List ℕ) (write : Write) (writes : List Write) (result : Result X WireFault)
     (read : Result (List Write × List ℕ) WireFault)
-    → Gives {Y = List Write × List ℕ} (λ x. (writes, view x)) result read
-    → Gives {Y = List Write × List ℕ} (λ x. (write ∷ writes, view x)) result (read >>= λ ws. Ok (write ∷ ws.0, ws.1))
-gives_more view write writes (Ok x) read is = rw is refl
-gives_more view write writes (Err errors.NoMemory) read is = tt
-gives_more view write writes (Err (errors.Fault fault)) read is = rw is refl
+    → Reads {Y = List Write × List ℕ} (λ x. (writes, view x)) result read
+    → Reads {Y = List Write × List ℕ} (λ x. (write ∷ writes, view x)) result (read >>= λ ws. Ok (write ∷ ws.0, ws.1))
+reads_more view write writes (Ok x) read is = rw is refl
+reads_more view write writes (Err fault) read is = rw is refl
 
 pub writes_more : {X : Type 0} (view : X → List ℕ) (count : ℕ) (bytes key after : List ℕ) (value : Option (List ℕ))
-    (rest : List ℕ) (result : Result X DecodeError) → (count ≡ 0 → ⊥)
+    (rest : List ℕ) (result : Result X WireFault) → (count ≡ 0 → ⊥)
     → key_at bytes ≡ Ok (key, after) → value_at after ≡ Ok (value, rest)
-    → Gives {Y = List Write × List ℕ} (λ x. (writes_in (count - 1) rest, view x)) result (writes_at (count - 1) rest)
-    → Gives {Y = List Write × List ℕ} (λ x. (writes_in count bytes, view x)) result (writes_at count bytes)
+    → Reads {Y = List Write × List ℕ} (λ x. (writes_in (count - 1) rest, view x)) result (writes_at (count - 1) rest)
+    → Reads {Y = List Write × List ℕ} (λ x. (writes_in count bytes, view x)) result (writes_at count bytes)
 writes_more view count bytes key after value rest result some at_key at_value is =
     rw (
       writes_step count bytes key after value rest some at_key at_value,
       front count bytes key after value rest some (sym (key_is bytes (key, after) at_key))
           (sym (value_is after (value, rest) at_value)),
-    ) (gives_more view (a_write key value) (writes_in (count - 1) rest) result (writes_at (count - 1) rest) is)
+    ) (reads_more view (a_write key value) (writes_in (count - 1) rest) result (writes_at (count - 1) rest) is)
 
 -- ---- bodies that are not refused have an encoding
 

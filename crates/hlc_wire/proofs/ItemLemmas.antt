@@ -14,7 +14,7 @@ use Rattle.hlc_wire.specs.declared.fault.DecodeError.{DecodeError}
 use Rattle.hlc_wire.specs.Spelling.{key_bytes, value_bytes, body_bytes, item_bytes, message_bytes}
 use Rattle.hlc_wire.specs.Spelling.{BodyFits, ItemFits, MessageFits, batch_bytes, most_bytes}
 use Rattle.hlc_wire.proofs.BatchLemmas.{batch_reader, batch_fits, write_fits, writes_length}
-use Rattle.hlc_wire.specs.Reading.{◌>>=◌, Gives, number_at, key_at, value_at, batch_at, body_at}
+use Rattle.hlc_wire.specs.Reading.{◌>>=◌, Gives, Reads, number_at, key_at, value_at, batch_at, body_at}
 use Rattle.hlc_wire.specs.Reading.{item_rest_at, item_at}
 use Rattle.hlc_wire.specs.Reading.{message_rest_at, message_at, whole}
 use Rattle.hlc_wire.proofs.FieldLemmas.{IsBytes, IsBytes-rest, bind_ok, done, ok_is, Takes, Takes-then, Takes-cons}
@@ -203,6 +203,13 @@ pub is_found : {A : Type 0} (read : List ℕ → Result (A × List ℕ) WireFaul
     → Gives (λ (a : A). a) r (whole (read bytes)) → IfOk r (λ a. Fits a × (bytes ≡ spell a))
 is_found read spell Fits is bytes (Ok a) fits found_it = whole_takes read spell Fits is bytes a fits found_it
 is_found read spell Fits is bytes (Err e) fits found_it = tt
+
+-- the same, where no memory is needed
+pub is_read : {X A : Type 0} (view : X → A) (read : List ℕ → Result (A × List ℕ) WireFault) (spell : A → List ℕ)
+    (Fits : A → Type 0) → IsReader read spell Fits → (bytes : List ℕ) (r : Result X WireFault) → IsBytes bytes
+    → Reads view r (whole (read bytes)) → IfOk r (λ x. Fits (view x) × (bytes ≡ spell (view x)))
+is_read view read spell Fits is bytes (Ok x) fits found_it = whole_takes read spell Fits is bytes (view x) fits found_it
+is_read view read spell Fits is bytes (Err fault) fits found_it = tt
 
 -- the version and the numbers of a message, one after the other
 pub message_written : (old one both new : List ℕ) (message : Message) → one ≡ old ++ 1 ∷ []

@@ -18,7 +18,12 @@ abbrev pub ◌>>=◌ : {A B : Type 0} → Result A WireFault → (A → Result B
 (Ok x) >>= f = f x
 (Err e) >>= f = Err e
 
--- the result of a call, seen by view, is the result of the reading, unless memory ran out
+-- the result of a call, seen by view, is the result of the reading
+abbrev pub Reads : {X Y : Type 0} → (X → Y) → Result X WireFault → Result Y WireFault → Type 0
+Reads view (Ok x) read = read ≡ Ok (view x)
+Reads view (Err f) read = read ≡ Err f
+
+-- the same, unless memory ran out
 abbrev pub Fails : {Y : Type 0} → DecodeError → Result Y WireFault → Type 0
 Fails errors.NoMemory read = Unit {0}
 Fails (errors.Fault f) read = read ≡ Err f

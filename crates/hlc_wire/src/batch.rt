@@ -1,13 +1,13 @@
 //! The writes of a batch as bytes: one less than their number in a byte, and for each its key and its value.
-ghost use Rattle.std.specs.Prelude.{◌≡◌, ◌≤◌, ◌<◌, ◌+◌, ◌++◌, ◌*◌, length, option_copied, IfOk, IsErrOf};
+ghost use Rattle.std.specs.Prelude.{◌≡◌, ◌≤◌, ◌<◌, ◌+◌, ◌++◌, ◌*◌, length, option_copied, IfOk};
 ghost use Rattle.std.specs.Prelude.{MatchResult, Ok, Err, IsTrue, []};
 ghost use Rattle.hlc_rows.specs.Spelled.{writes_in, write_seen};
 ghost use Rattle.hlc_wire.specs.Spelling.{key_bytes, value_bytes, write_bytes, writes_bytes, batch_bytes};
 ghost use Rattle.hlc_wire.specs.Spelling.{KeyFits, ValueFits, WritesFit, BatchFits};
 ghost use Rattle.hlc_wire.specs.Placing.{with_bytes};
-ghost use Rattle.hlc_wire.specs.Reading.{Gives, writes_at, batch_at, whole};
+ghost use Rattle.hlc_wire.specs.Reading.{Reads, writes_at, batch_at, whole};
 
-use crate::fault::{DecodeError, WireFault};
+use crate::fault::WireFault;
 use crate::fields::{copy_value, key_slice_at, value_slice_at};
 use crate::placing::{put_bytes, put_value};
 use hlc_node::{Bytes, Listed, Write, Writes, Written};
@@ -16,12 +16,11 @@ use std::alloc::Global;
 
 /// Reads the writes of a batch, and returns them with the bytes after them.
 #[tactic(auto, unfolding(crate::specs::Reading::batch_at))]
-pub(crate) fn batch_at(bytes: &[u8]) -> Result<(Writes<'_>, &[u8]), DecodeError>
-    ensures read { Gives (λ x. (x.0, x.1.now)) result (batch_at bytes.now) }
-    ensures memory { ¬ IsErrOf result DecodeError.NoMemory }
+pub(crate) fn batch_at(bytes: &[u8]) -> Result<(Writes<'_>, &[u8]), WireFault>
+    ensures { Reads (λ x. (x.0, x.1.now)) result (batch_at bytes.now) }
 {
     match bytes {
-        [] => Err(DecodeError::Fault(WireFault::Short)),
+        [] => Err(WireFault::Short),
         [count, rest @ ..] => {
             let count = *count as usize + 1;
             let after = after_writes(count, rest)?;
@@ -32,9 +31,8 @@ pub(crate) fn batch_at(bytes: &[u8]) -> Result<(Writes<'_>, &[u8]), DecodeError>
 
 /// Returns the bytes after this many writes.
 #[tactic(auto, unfolding(crate::specs::Reading::writes_at))]
-fn after_writes(count: usize, bytes: &[u8]) -> Result<&[u8], DecodeError>
-    ensures read { Gives (λ rest. (writes_in count bytes.now, rest.now)) result (writes_at count bytes.now) }
-    ensures memory { ¬ IsErrOf result DecodeError.NoMemory }
+fn after_writes(count: usize, bytes: &[u8]) -> Result<&[u8], WireFault>
+    ensures { Reads (λ rest. (writes_in count bytes.now, rest.now)) result (writes_at count bytes.now) }
 {
     if count == 0 {
         return Ok(bytes);
@@ -74,8 +72,7 @@ pub fn writes_of(count: usize, bytes: &[u8]) -> Result<Writes<'_>, WireFault>
     match after_writes(count, bytes) {
         Ok([]) => Ok(Writes::spelled(count, bytes)),
         Ok(_) => Err(WireFault::Trailing),
-        Err(DecodeError::Fault(fault)) => Err(fault),
-        Err(DecodeError::NoMemory) => unreachable!(),
+        Err(fault) => Err(fault),
     }
 }
 

@@ -105,6 +105,16 @@ impl Error for DecodeError {}
 
 impl Error for EncodeError {}
 
+impl From<WireFault> for DecodeError {
+    ghost use Rattle.hlc_wire.specs.declared.fault.DecodeError.TheVariants.{Fault};
+
+    ghost from_gives = { λ fault error. error ≡ Fault fault };
+
+    fn from(fault: WireFault) -> DecodeError {
+        DecodeError::Fault(fault)
+    }
+}
+
 impl From<AllocError> for DecodeError {
     ghost use Rattle.hlc_wire.specs.declared.fault.DecodeError.TheVariants.{NoMemory};
 

@@ -4,7 +4,7 @@ ghost use Rattle.std.specs.Prelude.{◌≡◌, ◌++◌, option_copied, IfOk, On
 ghost use Rattle.std.specs.Int.{w16, w32, w64};
 ghost use Rattle.hlc_rows.specs.Limits.{IsShortValue};
 ghost use Rattle.hlc_wire.specs.Spelling.{flag_bytes, key_bytes, value_bytes, KeyFits, ValueFits};
-ghost use Rattle.hlc_wire.specs.Reading.{Gives, bytes_at, number_at, flag_at, key_at, value_at};
+ghost use Rattle.hlc_wire.specs.Reading.{Gives, Reads, bytes_at, number_at, flag_at, key_at, value_at};
 
 use crate::fault::{DecodeError, WireFault};
 use hlc_node::Bytes;
@@ -12,12 +12,11 @@ use hlc_values::NoMemory;
 use std::alloc::{AllocError, Global};
 
 /// Reads the number in the first two bytes. `Short` if there are fewer.
-pub fn u16_at(bytes: &[u8]) -> Result<(u16, &[u8]), DecodeError>
-    ensures read { Gives (λ x. (x.0, x.1.now)) result (number_at w16 bytes.now) }
-    ensures memory { ¬ IsErrOf result DecodeError.NoMemory }
+pub fn u16_at(bytes: &[u8]) -> Result<(u16, &[u8]), WireFault>
+    ensures { Reads (λ x. (x.0, x.1.now)) result (number_at w16 bytes.now) }
 {
     if bytes.len() < 2 {
-        return Err(DecodeError::Fault(WireFault::Short));
+        return Err(WireFault::Short);
     }
     let (front, rest) = bytes.split_at(2);
     let number = u16::from_be_bytes([front[0], front[1]]);
@@ -25,12 +24,11 @@ pub fn u16_at(bytes: &[u8]) -> Result<(u16, &[u8]), DecodeError>
 }
 
 /// Reads the number in the first four bytes. `Short` if there are fewer.
-pub fn u32_at(bytes: &[u8]) -> Result<(u32, &[u8]), DecodeError>
-    ensures read { Gives (λ x. (x.0, x.1.now)) result (number_at w32 bytes.now) }
-    ensures memory { ¬ IsErrOf result DecodeError.NoMemory }
+pub fn u32_at(bytes: &[u8]) -> Result<(u32, &[u8]), WireFault>
+    ensures { Reads (λ x. (x.0, x.1.now)) result (number_at w32 bytes.now) }
 {
     if bytes.len() < 4 {
-        return Err(DecodeError::Fault(WireFault::Short));
+        return Err(WireFault::Short);
     }
     let (front, rest) = bytes.split_at(4);
     let number = u32::from_be_bytes([front[0], front[1], front[2], front[3]]);
@@ -38,12 +36,11 @@ pub fn u32_at(bytes: &[u8]) -> Result<(u32, &[u8]), DecodeError>
 }
 
 /// Reads the number in the first eight bytes. `Short` if there are fewer.
-pub fn u64_at(bytes: &[u8]) -> Result<(u64, &[u8]), DecodeError>
-    ensures read { Gives (λ x. (x.0, x.1.now)) result (number_at w64 bytes.now) }
-    ensures memory { ¬ IsErrOf result DecodeError.NoMemory }
+pub fn u64_at(bytes: &[u8]) -> Result<(u64, &[u8]), WireFault>
+    ensures { Reads (λ x. (x.0, x.1.now)) result (number_at w64 bytes.now) }
 {
     if bytes.len() < 8 {
-        return Err(DecodeError::Fault(WireFault::Short));
+        return Err(WireFault::Short);
     }
     let (front, rest) = bytes.split_at(8);
     let number = u64::from_be_bytes([
@@ -53,37 +50,25 @@ pub fn u64_at(bytes: &[u8]) -> Result<(u64, &[u8]), DecodeError>
 }
 
 /// Borrows the first `count` bytes. `Short` if there are fewer.
-pub fn slice_at(count: usize, bytes: &[u8]) -> Result<(&[u8], &[u8]), DecodeError>
-    ensures read { Gives (λ x. (x.0.now, x.1.now)) result (bytes_at count bytes.now) }
-    ensures memory { ¬ IsErrOf result DecodeError.NoMemory }
+pub fn slice_at(count: usize, bytes: &[u8]) -> Result<(&[u8], &[u8]), WireFault>
+    ensures { Reads (λ x. (x.0.now, x.1.now)) result (bytes_at count bytes.now) }
 {
     if bytes.len() < count {
-        return Err(DecodeError::Fault(WireFault::Short));
+        return Err(WireFault::Short);
     }
     Ok(bytes.split_at(count))
 }
 
-/// Copies the first `count` bytes. `Short` if there are fewer, before memory is allocated.
-pub fn bytes_at(alloc: Global, count: usize, bytes: &[u8]) -> Result<(Bytes, &[u8]), DecodeError>
-    ensures read { Gives (λ x. (x.0, x.1.now)) result (bytes_at count bytes.now) }
-    ensures memory { IsErrOf result DecodeError.NoMemory → IsOk (bytes_at count bytes.now) }
-{
-    let (front, rest) = slice_at(count, bytes)?;
-    let copy = Bytes::from_slice(alloc, front)?;
-    Ok((copy, rest))
-}
-
 /// Reads yes or no: a byte 1 or 0. `Short` if there is no byte, `Flag` for any other.
 #[tactic(auto, unfolding(crate::specs::Reading::flag_at))]
-pub fn flag_at(bytes: &[u8]) -> Result<(bool, &[u8]), DecodeError>
-    ensures read { Gives (λ x. (x.0, x.1.now)) result (flag_at bytes.now) }
-    ensures memory { ¬ IsErrOf result DecodeError.NoMemory }
+pub fn flag_at(bytes: &[u8]) -> Result<(bool, &[u8]), WireFault>
+    ensures { Reads (λ x. (x.0, x.1.now)) result (flag_at bytes.now) }
 {
     match bytes {
-        [] => Err(DecodeError::Fault(WireFault::Short)),
+        [] => Err(WireFault::Short),
         [0, rest @ ..] => Ok((false, rest)),
         [1, rest @ ..] => Ok((true, rest)),
-        [_, ..] => Err(DecodeError::Fault(WireFault::Flag)),
+        [_, ..] => Err(WireFault::Flag),
     }
 }
 
@@ -91,13 +76,12 @@ pub fn flag_at(bytes: &[u8]) -> Result<(bool, &[u8]), DecodeError>
 ///
 /// `Short` if there is no byte of length, `EmptyKey` if it is 0, `Short` if fewer bytes follow.
 #[tactic(auto, unfolding(crate::specs::Reading::key_at))]
-pub fn key_slice_at(bytes: &[u8]) -> Result<(&[u8], &[u8]), DecodeError>
-    ensures read { Gives (λ x. (x.0.now, x.1.now)) result (key_at bytes.now) }
-    ensures memory { ¬ IsErrOf result DecodeError.NoMemory }
+pub fn key_slice_at(bytes: &[u8]) -> Result<(&[u8], &[u8]), WireFault>
+    ensures { Reads (λ x. (x.0.now, x.1.now)) result (key_at bytes.now) }
 {
     match bytes {
-        [] => Err(DecodeError::Fault(WireFault::Short)),
-        [0, ..] => Err(DecodeError::Fault(WireFault::EmptyKey)),
+        [] => Err(WireFault::Short),
+        [0, ..] => Err(WireFault::EmptyKey),
         [count, rest @ ..] => slice_at(*count as usize, rest),
     }
 }
@@ -116,19 +100,18 @@ pub fn key_at(alloc: Global, bytes: &[u8]) -> Result<(Bytes, &[u8]), DecodeError
 ///
 /// `Short` if there is no first byte, `Flag` if it is neither 0 nor 1, `Short` if fewer bytes follow.
 #[tactic(auto, unfolding(crate::specs::Reading::value_at))]
-pub fn value_slice_at(bytes: &[u8]) -> Result<(Option<&[u8]>, &[u8]), DecodeError>
-    ensures read { Gives (λ x. (option_copied x.0, x.1.now)) result (value_at bytes.now) }
-    ensures memory { ¬ IsErrOf result DecodeError.NoMemory }
+pub fn value_slice_at(bytes: &[u8]) -> Result<(Option<&[u8]>, &[u8]), WireFault>
+    ensures { Reads (λ x. (option_copied x.0, x.1.now)) result (value_at bytes.now) }
 {
     match bytes {
-        [] => Err(DecodeError::Fault(WireFault::Short)),
+        [] => Err(WireFault::Short),
         [0, rest @ ..] => Ok((None, rest)),
         [1, rest @ ..] => {
             let (count, rest) = u16_at(rest)?;
             let (value, rest) = slice_at(count as usize, rest)?;
             Ok((Some(value), rest))
         }
-        [_, ..] => Err(DecodeError::Fault(WireFault::Flag)),
+        [_, ..] => Err(WireFault::Flag),
     }
 }
 

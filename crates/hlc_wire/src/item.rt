@@ -1,11 +1,11 @@
 //! Items as bytes.
-ghost use Rattle.std.specs.Prelude.{◌≡◌, ◌≤◌, length, slice_get, IfOk, IfErr, IsOk, IsErrOf};
+ghost use Rattle.std.specs.Prelude.{◌≡◌, ◌≤◌, length, IfOk, IfErr, IsOk, IsErrOf};
 ghost use Rattle.std.specs.Prelude.{Ok, None, Some, IsSome, MatchResult};
 ghost use Rattle.hlc_node.specs.Items.{body_refusal, IsShort};
 ghost use Rattle.hlc_node.specs.declared.item.Item.{Item as AnItem};
 ghost use Rattle.hlc_wire.specs.Spelling.{item_bytes, most_bytes, ItemFits};
 ghost use Rattle.hlc_wire.specs.Placing.{PutsFront};
-ghost use Rattle.hlc_wire.specs.Reading.{Gives, item_at, item_rest_at, numbered_at, whole, NeedsMemory};
+ghost use Rattle.hlc_wire.specs.Reading.{Gives, Reads, item_at, item_rest_at, numbered_at, whole, NeedsMemory};
 ghost use Rattle.hlc_wire.specs.Refusal.{IsRefusal};
 
 use crate::batch::{batch_at, copy_batch, write_size, writes_size};
@@ -158,24 +158,22 @@ pub fn copy_item(alloc: Global, item: &ItemRef<'_>) -> Result<Item, NoMemory>
 /// Reads the item at the front of some bytes, and returns it with the bytes after it. Its keys and values are those
 /// in the bytes: nothing is copied.
 ///
-/// The error is the first fault from the left, and never `NoMemory`: no memory is needed.
+/// The error is the first fault from the left. No memory is needed.
 #[tactic(auto, unfolding(crate::specs::Reading::item_at))]
-pub fn item_ref_at(bytes: &[u8]) -> Result<(ItemRef<'_>, &[u8]), DecodeError>
-    ensures read { Gives (λ x. (x.0, x.1.now)) result (item_at bytes.now) }
-    ensures memory { ¬ IsErrOf result DecodeError.NoMemory }
+pub fn item_ref_at(bytes: &[u8]) -> Result<(ItemRef<'_>, &[u8]), WireFault>
+    ensures { Reads (λ x. (x.0, x.1.now)) result (item_at bytes.now) }
 {
     match bytes {
-        [] => Err(DecodeError::Fault(WireFault::Short)),
+        [] => Err(WireFault::Short),
         [1, rest @ ..] => item_rest_at(rest),
-        [_, ..] => Err(DecodeError::Fault(WireFault::Version)),
+        [_, ..] => Err(WireFault::Version),
     }
 }
 
 /// Reads an item after its version.
 #[tactic(auto, unfolding(crate::specs::Reading::item_rest_at))]
-fn item_rest_at(bytes: &[u8]) -> Result<(ItemRef<'_>, &[u8]), DecodeError>
-    ensures read { Gives (λ x. (x.0, x.1.now)) result (item_rest_at bytes.now) }
-    ensures memory { ¬ IsErrOf result DecodeError.NoMemory }
+fn item_rest_at(bytes: &[u8]) -> Result<(ItemRef<'_>, &[u8]), WireFault>
+    ensures { Reads (λ x. (x.0, x.1.now)) result (item_rest_at bytes.now) }
 {
     let (node, rest) = u16_at(bytes)?;
     let (number, rest) = u64_at(rest)?;
@@ -191,12 +189,11 @@ fn numbered_at(
     number: u64,
     stamp: Stamp,
     bytes: &[u8],
-) -> Result<(ItemRef<'_>, &[u8]), DecodeError>
-    ensures read { Gives (λ x. (x.0, x.1.now)) result (numbered_at node number stamp bytes.now) }
-    ensures memory { ¬ IsErrOf result DecodeError.NoMemory }
+) -> Result<(ItemRef<'_>, &[u8]), WireFault>
+    ensures { Reads (λ x. (x.0, x.1.now)) result (numbered_at node number stamp bytes.now) }
 {
     match bytes {
-        [] => Err(DecodeError::Fault(WireFault::Short)),
+        [] => Err(WireFault::Short),
         [0, rest @ ..] => {
             let (key, rest) = key_slice_at(rest)?;
             let (value, rest) = value_slice_at(rest)?;
@@ -208,6 +205,6 @@ fn numbered_at(
             let (writes, rest) = batch_at(rest)?;
             Ok((ItemRef::batch(node, number, stamp, writes), rest))
         }
-        [_, ..] => Err(DecodeError::Fault(WireFault::Kind)),
+        [_, ..] => Err(WireFault::Kind),
     }
 }

@@ -13,7 +13,7 @@ mod placing;
 pub use batch::writes_of;
 pub use fault::{DecodeError, EncodeError, WireFault};
 pub use fields::{
-    bytes_at, flag_at, key_at, put_flag, put_key, put_value, u16_at, u32_at, u64_at, value_at,
+    flag_at, key_at, put_flag, put_key, put_value, slice_at, u16_at, u32_at, u64_at, value_at,
 };
 pub use hlc_node::{Body, BodyFault, Bytes, Item, ItemRef, Listed, Message, Write, Writes};
 pub use item::{

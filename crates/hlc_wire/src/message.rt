@@ -1,10 +1,10 @@
 //! Messages as bytes.
-ghost use Rattle.std.specs.Prelude.{◌≡◌, ◌++◌, length, IfOk, OnOk, IsErrOf, Ok};
+ghost use Rattle.std.specs.Prelude.{◌≡◌, ◌++◌, length, IfOk, OnOk, Ok};
 ghost use Rattle.hlc_node.specs.declared.item.Message.{Message as AMessage};
 ghost use Rattle.hlc_wire.specs.Spelling.{message_bytes, MessageFits};
-ghost use Rattle.hlc_wire.specs.Reading.{Gives, message_at, message_rest_at, whole};
+ghost use Rattle.hlc_wire.specs.Reading.{Reads, message_at, message_rest_at, whole};
 
-use crate::fault::{DecodeError, WireFault};
+use crate::fault::WireFault;
 use crate::fields::{u16_at, u64_at};
 use hlc_clock::Stamp;
 use hlc_node::Message;
@@ -20,14 +20,13 @@ pub fn message_bytes_are_11()
 
 /// Reads the message from its encoding, which is all of the bytes.
 ///
-/// The error is the first fault from the left, and never `NoMemory`: no memory is needed.
-pub fn decode_message(bytes: &[u8]) -> Result<Message, DecodeError>
+/// The error is the first fault from the left. No memory is needed.
+pub fn decode_message(bytes: &[u8]) -> Result<Message, WireFault>
     ensures found { IfOk result
         (λ message. MessageFits message × (bytes.now ≡ message_bytes message)) }
     ensures only { (message : AMessage) → MessageFits message → bytes.now ≡ message_bytes message
-        → Gives (λ message. message) result (Ok message) }
-    ensures exact { Gives (λ message. message) result (whole (message_at bytes.now)) }
-    ensures memory { ¬ IsErrOf result DecodeError.NoMemory }
+        → Reads (λ message. message) result (Ok message) }
+    ensures exact { Reads (λ message. message) result (whole (message_at bytes.now)) }
 {
     all(bytes)
 }
@@ -60,24 +59,22 @@ pub fn put_message(out: &mut Vec<u8>, message: &Message) -> Result<(), AllocErro
 
 /// Reads the message at the front of some bytes, and returns it with the bytes after it.
 ///
-/// The error is the first fault from the left, and never `NoMemory`: no memory is needed.
+/// The error is the first fault from the left. No memory is needed.
 #[tactic(auto, unfolding(crate::specs::Reading::message_at))]
-pub fn message_at(bytes: &[u8]) -> Result<(Message, &[u8]), DecodeError>
-    ensures read { Gives (λ x. (x.0, x.1.now)) result (message_at bytes.now) }
-    ensures memory { ¬ IsErrOf result DecodeError.NoMemory }
+pub fn message_at(bytes: &[u8]) -> Result<(Message, &[u8]), WireFault>
+    ensures { Reads (λ x. (x.0, x.1.now)) result (message_at bytes.now) }
 {
     match bytes {
-        [] => Err(DecodeError::Fault(WireFault::Short)),
+        [] => Err(WireFault::Short),
         [1, rest @ ..] => message_rest_at(rest),
-        [_, ..] => Err(DecodeError::Fault(WireFault::Version)),
+        [_, ..] => Err(WireFault::Version),
     }
 }
 
 /// Reads a message after its version.
 #[tactic(auto, unfolding(crate::specs::Reading::message_rest_at))]
-fn message_rest_at(bytes: &[u8]) -> Result<(Message, &[u8]), DecodeError>
-    ensures read { Gives (λ x. (x.0, x.1.now)) result (message_rest_at bytes.now) }
-    ensures memory { ¬ IsErrOf result DecodeError.NoMemory }
+fn message_rest_at(bytes: &[u8]) -> Result<(Message, &[u8]), WireFault>
+    ensures { Reads (λ x. (x.0, x.1.now)) result (message_rest_at bytes.now) }
 {
     let (from, rest) = u16_at(bytes)?;
     let (stamp, rest) = u64_at(rest)?;
@@ -86,16 +83,15 @@ fn message_rest_at(bytes: &[u8]) -> Result<(Message, &[u8]), DecodeError>
 }
 
 /// Reads a message from all of the bytes.
-fn all(bytes: &[u8]) -> Result<Message, DecodeError>
-    ensures read { Gives (λ message. message) result (whole (message_at bytes.now)) }
-    ensures memory { ¬ IsErrOf result DecodeError.NoMemory }
+fn all(bytes: &[u8]) -> Result<Message, WireFault>
+    ensures { Reads (λ message. message) result (whole (message_at bytes.now)) }
 {
     match message_at(bytes) {
         Ok((message, rest)) => {
             if rest.is_empty() {
                 Ok(message)
             } else {
-                Err(DecodeError::Fault(WireFault::Trailing))
+                Err(WireFault::Trailing)
             }
         }
         Err(error) => Err(error),

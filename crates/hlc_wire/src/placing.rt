@@ -1,7 +1,6 @@
 //! The parts of an item, written to a place of a buffer that has room for them. Each writer returns the place after the
 //! part, and leaves the other bytes unchanged.
-ghost use Rattle.std.specs.Prelude.{◌≡◌, ◌≤◌, ◌+◌, ◌++◌, length, option_copied};
-ghost use Rattle.std.specs.Int.{w16, w64, to_be_bytes};
+ghost use Rattle.std.specs.Prelude.{◌≡◌, ◌≤◌, ◌+◌, length, option_copied};
 ghost use Rattle.hlc_node.specs.declared.item.Body.TheVariants.{Write as a_write};
 ghost use Rattle.hlc_wire.specs.Spelling.{body_bytes, value_bytes, numbers_bytes, BodyFits, KeyFits, ValueFits};
 ghost use Rattle.hlc_wire.specs.Spelling.{NumbersFit};

@@ -8,7 +8,7 @@ pub returns-in-Ok-enter-clause-represents : goal.returns-in-Ok-enter-clause-repr
 returns-in-Ok-enter-clause-represents c = λ past h. (
   record_seen c.in-Ok.found.0,
   front_is c.args.bytes.now (record_seen c.in-Ok.found.0) c.in-Ok.found.1.now (λ i. omega (arith, c.type_inv.bytes i))
-      c.in-Ok.ensures.read,
+      c.in-Ok.ensures,
   c.in-Ok-enter.ensures.raised,
   c.in-Ok-enter.ensures.represents past h,
 )
@@ -16,4 +16,4 @@ returns-in-Ok-enter-clause-represents c = λ past h. (
 pub returns-in-Ok-enter-clause-shorter : goal.returns-in-Ok-enter-clause-shorter
 returns-in-Ok-enter-clause-shorter c =
     front_shortens c.args.bytes.now (record_seen c.in-Ok.found.0) c.in-Ok.found.1.now
-    (λ i. omega (arith, c.type_inv.bytes i)) c.in-Ok.ensures.read
+    (λ i. omega (arith, c.type_inv.bytes i)) c.in-Ok.ensures

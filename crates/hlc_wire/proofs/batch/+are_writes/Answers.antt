@@ -20,4 +20,4 @@ pub returns : goal.returns
 returns t c rest_is =
     writes_more (λ (rest : List ℕ). rest) c.args.count c.args.bytes.now c.in-Ok.field-0-0.now c.in-Ok.rest.now
     (option_copied c.in-Ok-value_slice_at.field-0-0) c.in-Ok-value_slice_at.rest.now (Ok []) c.if-count-eq0.false
-    c.in-Ok.ensures.read c.in-Ok-value_slice_at.ensures.read (c.are_writes.ensures rest_is)
+    c.in-Ok.ensures c.in-Ok-value_slice_at.ensures (c.are_writes.ensures rest_is)
