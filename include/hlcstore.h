@@ -556,11 +556,11 @@ hlc_answer hlc_record_encode_threshold(uint64_t stamp, uint8_t *out, size_t out_
 hlc_answer hlc_store_apply_records(hlc_store *store, const uint8_t *bytes, size_t bytes_len, size_t *used,
                                    size_t *count, uint64_t *threshold, uint64_t *word) HLC_CHECKED(1, 4, 5, 6, 7);
 
-/* Saves the whole state of a store, with a word of the caller's: for example the place in a log up to which the store
+/* Saves the whole state of a store, with a tag of the caller's: for example the place in a log up to which the store
  * applied it. The bytes go into an output that has none; len: how many they are. docs/formats.md describes them; they
  * end with a digest. Refusals, in this order: 108, 15. Takes memory for the bytes, and for a list of the rows of one
  * key at a time. */
-hlc_answer hlc_checkpoint_make(hlc_store *store, uint64_t word, hlc_output *output, size_t *len) HLC_CHECKED(1, 3, 4);
+hlc_answer hlc_checkpoint_make(hlc_store *store, uint64_t tag, hlc_output *output, size_t *len) HLC_CHECKED(1, 3, 4);
 
 /* A saving in pieces of any size, so that the bytes of a checkpoint need not be in memory at once. Its fields are the
  * library's. */
@@ -571,10 +571,10 @@ typedef struct {
 
 #define HLC_NO_SAVING { 0, false }
 
-/* Begins to save the whole state of a store, with a word of the caller's, as hlc_checkpoint_make does. len: how many
+/* Begins to save the whole state of a store, with a tag of the caller's, as hlc_checkpoint_make does. len: how many
  * bytes it will be in all. Refusals, in this order: 119 where a saving is under way, 15. Looks at each row, to add up
  * its length, and takes memory for a list of 16 bytes for each 64 to 128 keys, which is freed at once. */
-hlc_answer hlc_saving_start(hlc_saving *saving, hlc_store *store, uint64_t word, uint64_t *len) HLC_CHECKED(1, 2, 4);
+hlc_answer hlc_saving_start(hlc_saving *saving, hlc_store *store, uint64_t tag, uint64_t *len) HLC_CHECKED(1, 2, 4);
 
 /* Writes the next bytes of a saving, as many as out has room for. len: how many were written. Returns HLC_OK where they
  * are the last: all pieces, one after another, are the bytes of hlc_checkpoint_make, and the saving has ended. Returns
@@ -591,17 +591,17 @@ hlc_answer hlc_saving_read(hlc_saving *saving, hlc_store *store, uint8_t *out, s
 /* Ends a saving before all its bytes were read, and frees what it has. A saving that is not ended leaks its memory. */
 void hlc_saving_drop(hlc_saving *saving) HLC_NONNULL(1);
 
-/* Saves an increment: the whole state of a store, but of its rows only those above a stamp, with a word of the
+/* Saves an increment: the whole state of a store, but of its rows only those above a stamp, with a tag of the
  * caller's. As the stamp choose the floor that the store had at an older checkpoint: what was accepted since is above
  * it, and hlc_increment_apply makes a newer checkpoint of both. The bytes go into an output that has none; len: how
  * many they are. horizon: 0, or with 9 the horizon. Refusals, in this order: 108; 9 where the stamp is below the
  * horizon: then make a whole checkpoint; 15. Goes through all rows, copies those above the stamp, and takes memory for
  * twice that. */
-hlc_answer hlc_increment_make(hlc_store *store, uint64_t since, uint64_t word, hlc_output *output, size_t *len,
+hlc_answer hlc_increment_make(hlc_store *store, uint64_t since, uint64_t tag, hlc_output *output, size_t *len,
                               uint64_t *horizon) HLC_CHECKED(1, 4, 5, 6);
 
 /* Makes, of the bytes of an older checkpoint and of an increment of the same store, those of the newer checkpoint, with
- * the increment's word. hlc_store_restore opens a store from them. It answers as the newer one did, but also has the
+ * the increment's tag. hlc_store_restore opens a store from them. It answers as the newer one did, but also has the
  * rows that vacuums dropped since the older checkpoint; its next vacuum drops them. The newer checkpoint may be the
  * older one of the next increment. The bytes go into an output that has none; len: how many they are. word: 0, or the
  * refusal's word. Refusals, in this order: 108; 106 where the older bytes are no encoding, word: the number of their
@@ -614,7 +614,7 @@ hlc_answer hlc_increment_apply(const uint8_t *older, size_t older_len, const uin
                                hlc_output *output, size_t *len, uint64_t *word) HLC_CHECKED(5, 6, 7);
 
 /* Divides the bytes of a checkpoint at a key, of any bytes or none: left gets those of a checkpoint with the rows of
- * lower keys, right those with the others, and both have the links, the open snapshots, the horizon and the word of the
+ * lower keys, right those with the others, and both have the links, the open snapshots, the horizon and the tag of the
  * whole. A store that is restored from a part answers at its keys as the whole store does, and goes on from the same
  * log: it takes each write of another key as a report of the same number and stamp (hlc_store_accept_report). Two
  * different outputs, without bytes, get the bytes; left_len, right_len: how many they are. word: 0, or the refusal's
@@ -626,7 +626,7 @@ hlc_answer hlc_checkpoint_split(const uint8_t *bytes, size_t bytes_len, const ui
                                 uint64_t *word) HLC_CHECKED(5, 6, 7, 8, 9);
 
 /* Joins the bytes of two checkpoints, of which the left one has the lower keys, into those of one with the rows of
- * both, and with the word of the left one. If both are parts of one store that took the same log, opened and closed the
+ * both, and with the tag of the left one. If both are parts of one store that took the same log, opened and closed the
  * same snapshots and were vacuumed to the same stamp, the result is that store's. The bytes go into an output that has
  * none; len: how many they are. word: 0, or the refusal's word. Refusals, in this order: 108; 106 for the left bytes,
  * and then for the right ones, word: the number of the first fault; 113, word: what does not fit; 107 where what both
@@ -636,7 +636,7 @@ hlc_answer hlc_checkpoint_merge(const uint8_t *left, size_t left_len, const uint
                                 hlc_output *output, size_t *len, uint64_t *word) HLC_CHECKED(5, 6, 7);
 
 /* Opens a closed store from the bytes of hlc_checkpoint_make, whoever wrote them. It continues as the saved store would
- * have: the same next items, open snapshots, horizon and answers. word: the word that was saved, or the refusal's.
+ * have: the same next items, open snapshots, horizon and answers. word: the tag that was saved, or the refusal's word.
  * Refusals, in this order: 101, 106, 107, 15; but 15 may come in place of 106 and 107, when memory runs out before the
  * fault is found. Bytes that hlc_checkpoint_make returned are refused with 101 and 15 alone. Takes memory for the store
  * alone. */

@@ -302,7 +302,7 @@ static void measure_pieces(uint64_t keys)
     hlc_output output = HLC_NO_OUTPUT;
     hlc_restoring restoring = HLC_NO_RESTORING;
     size_t len, at = 0, read;
-    uint64_t word;
+    uint64_t tag;
     fill(&store, keys, false);
     must(hlc_checkpoint_make(&store, 0, &output, &len));
     hlc_store_close(&store);
@@ -314,7 +314,7 @@ static void measure_pieces(uint64_t keys)
         must(hlc_restoring_feed(&restoring, piece, read));
         at += read;
     }
-    must(hlc_restoring_finish(&restoring, &store, &word));
+    must(hlc_restoring_finish(&restoring, &store, &tag));
     end("pieces", keys, keys);
     hlc_output_drop(&output);
     hlc_store_close(&store);

@@ -10,7 +10,7 @@
  * Node 0 writes row r, from 0 on, with the number r and the stamp r + 1. The first rows write each key once, the others
  * write a part of the keys again, or delete them; both in an order that jumps. */
 
-enum { KEY_LEN = 4, MOST_VALUE = 4, WORD = 77, HALF = 1, WHOLE = 2 };
+enum { KEY_LEN = 4, MOST_VALUE = 4, TAG = 77, HALF = 1, WHOLE = 2 };
 
 #define NO_ROW UINT32_MAX
 
@@ -295,7 +295,7 @@ static Bytes checkpoint(bool is_vacuumed)
     uint8_t sum[32];
     put_number(&made, 1, 4);
     put_number(&made, 2 + 2 + 17 + 2 + 32 + 8 + 8 + 8 + content.len, 8);
-    put_number(&made, WORD, 8);
+    put_number(&made, TAG, 8);
     put_number(&made, 1, 2);
     put_number(&made, 1, 2);
     put_number(&made, rows, 8);
@@ -530,7 +530,7 @@ static Bytes saved(hlc_store *store)
 {
     hlc_output output = HLC_NO_OUTPUT;
     size_t len;
-    expect(hlc_checkpoint_make(store, WORD, &output, &len) == HLC_OK, "a checkpoint");
+    expect(hlc_checkpoint_make(store, TAG, &output, &len) == HLC_OK, "a checkpoint");
     return taken(&output, len);
 }
 
@@ -545,12 +545,12 @@ static void restore_pieces(hlc_store *store, const Bytes *from)
 {
     enum { PIECE = 100000 };
     hlc_restoring restoring = HLC_NO_RESTORING;
-    uint64_t word;
+    uint64_t tag;
     uint32_t code = hlc_restoring_start(&restoring);
     for (size_t at = 0; code == HLC_OK && at < from->len; at += PIECE)
         code = hlc_restoring_feed(&restoring, from->at + at, from->len - at < PIECE ? from->len - at : PIECE);
-    if (code == HLC_OK) code = hlc_restoring_finish(&restoring, store, &word);
-    expect(code == HLC_OK && word == WORD, "a restore in pieces");
+    if (code == HLC_OK) code = hlc_restoring_finish(&restoring, store, &tag);
+    expect(code == HLC_OK && tag == TAG, "a restore in pieces");
     hlc_restoring_drop(&restoring);
 }
 
@@ -602,8 +602,8 @@ static void certify(hlc_store *store)
 static void check_copies(const Bytes *from)
 {
     hlc_store whole = HLC_CLOSED_STORE, pieces = HLC_CLOSED_STORE;
-    uint64_t word;
-    expect(hlc_store_restore(&whole, from->at, from->len, &word) == HLC_OK && word == WORD, "a restore");
+    uint64_t tag;
+    expect(hlc_store_restore(&whole, from->at, from->len, &tag) == HLC_OK && tag == TAG, "a restore");
     restore_pieces(&pieces, from);
     check_sizes(&whole);
     check_sizes(&pieces);

@@ -146,7 +146,7 @@ static void measure_checkpoint(void)
     hlc_store store = HLC_CLOSED_STORE, copy = HLC_CLOSED_STORE;
     hlc_output output = HLC_NO_OUTPUT;
     hlc_restoring restoring = HLC_NO_RESTORING;
-    uint64_t number = 0, word;
+    uint64_t number = 0, tag;
     size_t len, from = 0, got;
     double empty = in_blocks();
     check(hlc_store_open(&store, 1));
@@ -162,10 +162,10 @@ static void measure_checkpoint(void)
         code = hlc_output_read(&output, from, piece, sizeof piece, &got);
         check(hlc_restoring_feed(&restoring, piece, got));
     }
-    check(hlc_restoring_finish(&restoring, &copy, &word));
+    check(hlc_restoring_finish(&restoring, &copy, &tag));
     expect_peak("a restore in pieces", before, MOST_OF_PEAK * (in_blocks() - blocks));
-    if (word != 7) {
-        puts("the word of the checkpoint is another");
+    if (tag != 7) {
+        puts("the tag of the checkpoint is another");
         wrong++;
     }
     hlc_output_drop(&output);

@@ -190,11 +190,11 @@ uint32_t hlc_file_checkpoint(hlc_file *file, uint64_t *place)
     return checkpoint_make(file, place);
 }
 
-uint32_t hlc_file_copy(hlc_file *file, uint64_t word, hlc_output *output, size_t *len)
+uint32_t hlc_file_copy(hlc_file *file, uint64_t tag, hlc_output *output, size_t *len)
 {
     copy_begin(file);
     hlc_store mine = file->store;
-    uint32_t answer = hlc_checkpoint_make(&mine, word, output, len);
+    uint32_t answer = hlc_checkpoint_make(&mine, tag, output, len);
     copy_end(file);
     return answer;
 }

@@ -217,11 +217,11 @@ uint32_t hlc_file_receive(hlc_file *file, uint16_t node, uint64_t seen, uint64_t
  * the section. Takes memory for the bytes. */
 uint32_t hlc_file_checkpoint(hlc_file *file, uint64_t *place);
 
-/* Copies the whole state into an output, as hlc_checkpoint_make does, with a word of the caller's: hlc_output_read
+/* Copies the whole state into an output, as hlc_checkpoint_make does, with a tag of the caller's: hlc_output_read
  * returns the bytes, from which hlc_store_restore and hlc_restoring_feed open a store in memory. Writes wait while it
  * is copied, reads go on. It has all batches that were accepted. Refusals: 108, 15. Takes memory for the bytes. Any
  * thread. */
-uint32_t hlc_file_copy(hlc_file *file, uint64_t word, hlc_output *output, size_t *len);
+uint32_t hlc_file_copy(hlc_file *file, uint64_t tag, hlc_output *output, size_t *len);
 
 /* Vacuums to a stamp, as hlc_store_vacuum_to does, in parts between which reads and writes go on. The stamp is on disk
  * first, as a retention threshold: no snapshot opens below it any more. word: the stamp, or the refusal's word; kept,

@@ -72,14 +72,14 @@ static uint64_t sum_found(const struct found *found)
 static uint32_t restore(hlc_file *file, const struct found *found, bool *whole)
 {
     hlc_restoring restoring = HLC_NO_RESTORING;
-    uint64_t word;
+    uint64_t tag;
     *whole = found->row_sum == sum_found(found);
     if (!*whole) return HLC_OK;
     uint32_t answer = hlc_restoring_start(&restoring);
     if (answer == HLC_OK) answer = feed_pieces(&file->db, &restoring, found, whole);
     if (answer == HLC_OK && *whole) {
-        answer = hlc_restoring_finish(&restoring, &file->store, &word);
-        *whole = answer == HLC_OK && word == found->place;
+        answer = hlc_restoring_finish(&restoring, &file->store, &tag);
+        *whole = answer == HLC_OK && tag == found->place;
         if (answer == HLC_OK && !*whole) hlc_store_close(&file->store);
         if (answer == HLC_BAD_BYTES || answer == HLC_NO_CHECKPOINT) answer = HLC_OK;
     }

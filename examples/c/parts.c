@@ -115,7 +115,7 @@ static void write_again(void)
     expect_sizes(2, 2, 255 + 255, 2 * VALUE);
 }
 
-/* Saves the store with the word 7, so many bytes in a call, which are those of a checkpoint with this word. Each call
+/* Saves the store with the tag 7, so many bytes in a call, which are those of a checkpoint with this tag. Each call
  * gets a copy of the store, as a reader does. */
 static void save_in_pieces(const uint8_t *saved, size_t saved_len, size_t piece)
 {

@@ -144,7 +144,7 @@ unsafe extern "C" {
     pub fn hlc_file_send(file: *mut hlc_file, node: u16, reading: u64, word: *mut u64) -> u32;
     pub fn hlc_file_receive(file: *mut hlc_file, node: u16, seen: u64, reading: u64, word: *mut u64) -> u32;
     pub fn hlc_file_checkpoint(file: *mut hlc_file, place: *mut u64) -> u32;
-    pub fn hlc_file_copy(file: *mut hlc_file, word: u64, output: *mut hlc_output, len: *mut usize) -> u32;
+    pub fn hlc_file_copy(file: *mut hlc_file, tag: u64, output: *mut hlc_output, len: *mut usize) -> u32;
     pub fn hlc_file_vacuum_to(
         file: *mut hlc_file,
         stamp: u64,

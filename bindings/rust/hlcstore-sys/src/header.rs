@@ -434,8 +434,8 @@ unsafe extern "C" {
         threshold: *mut u64,
         word: *mut u64,
     ) -> u32;
-    pub fn hlc_checkpoint_make(store: *mut hlc_store, word: u64, output: *mut hlc_output, len: *mut usize) -> u32;
-    pub fn hlc_saving_start(saving: *mut hlc_saving, store: *mut hlc_store, word: u64, len: *mut u64) -> u32;
+    pub fn hlc_checkpoint_make(store: *mut hlc_store, tag: u64, output: *mut hlc_output, len: *mut usize) -> u32;
+    pub fn hlc_saving_start(saving: *mut hlc_saving, store: *mut hlc_store, tag: u64, len: *mut u64) -> u32;
     pub fn hlc_saving_read(
         saving: *mut hlc_saving,
         store: *mut hlc_store,
@@ -447,7 +447,7 @@ unsafe extern "C" {
     pub fn hlc_increment_make(
         store: *mut hlc_store,
         since: u64,
-        word: u64,
+        tag: u64,
         output: *mut hlc_output,
         len: *mut usize,
         horizon: *mut u64,
