@@ -318,13 +318,13 @@ class file {
   // Saves a checkpoint, and returns the place in the log up to which it goes.
   std::uint64_t checkpoint() { return own().word_of(hlc_file_checkpoint); }
 
-  // Writes the bytes of a checkpoint to a stream in pieces, with a word of the program's: from them hlcstore::store
+  // Writes the bytes of a checkpoint to a stream in pieces, with a tag of the program's: from them hlcstore::store
   // opens in memory. Writes wait while the state is copied into memory, and go on while the stream is written. A stream
   // that fails gets no more: its state says so.
-  void checkpoint_to(std::ostream& out, std::uint64_t word = 0) const {
+  void checkpoint_to(std::ostream& out, std::uint64_t tag = 0) const {
     detail::output copied;
     std::size_t len;
-    detail::check_file(hlc_file_copy(own().get(), word, copied.raw(), &len));
+    detail::check_file(hlc_file_copy(own().get(), tag, copied.raw(), &len));
     copied.write_to(out, len);
   }
 

@@ -528,7 +528,7 @@ class ranges {
     return all;
   }
 
-  // A checkpoint of each store, one after another, with the word of the cut before the first. Each has at least all up
+  // A checkpoint of each store, one after another, with the cut before the first as the tag. Each has at least all up
   // to that cut, so that what `restore` makes of them answers there as these stores do.
   std::vector<std::string> checkpoint() const {
     const timestamp before = cut();

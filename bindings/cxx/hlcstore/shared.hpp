@@ -291,11 +291,11 @@ class shared_store {
   }
   [[nodiscard]] answer check_vacuum(timestamp stamp) const { return ask(&store::check_vacuum, stamp); }
   certified certificate(timestamp stamp) const { return ask(&store::certificate, stamp); }
-  std::string checkpoint(std::uint64_t word) const { return ask(&store::checkpoint, word); }
-  void checkpoint_to(std::ostream& out, std::uint64_t word) const {
-    read([&](const store& asked) { asked.checkpoint_to(out, word); });
+  std::string checkpoint(std::uint64_t tag) const { return ask(&store::checkpoint, tag); }
+  void checkpoint_to(std::ostream& out, std::uint64_t tag) const {
+    read([&](const store& asked) { asked.checkpoint_to(out, tag); });
   }
-  std::string increment(timestamp since, std::uint64_t word) const { return ask(&store::increment, since, word); }
+  std::string increment(timestamp since, std::uint64_t tag) const { return ask(&store::increment, since, tag); }
 
  private:
   friend class ranges;

@@ -101,7 +101,7 @@ inline shown check_certificate(std::string_view text) {
 }
 
 // The bytes of the newer checkpoint that an older one becomes by an increment of the same store, with the increment's
-// word. `store::restore` opens a store from them, which answers as the newer one did; its next vacuum drops the rows
+// tag. `store::restore` opens a store from them, which answers as the newer one did; its next vacuum drops the rows
 // that vacuums dropped since the older checkpoint. They may be the older checkpoint of the next increment.
 inline std::string apply_increment(std::string_view older, std::string_view increment) {
   detail::output made;
@@ -114,7 +114,7 @@ inline std::string apply_increment(std::string_view older, std::string_view incr
 }
 
 // The bytes of the two parts of a checkpoint at a key: the first has the rows of lower keys, the second the others. Each
-// has the links, the open snapshots, the horizon and the word of the whole, and goes on from the same log: it takes each
+// has the links, the open snapshots, the horizon and the tag of the whole, and goes on from the same log: it takes each
 // write of another key as a report.
 inline std::pair<std::string, std::string> split_checkpoint(std::string_view checkpoint, std::string_view key) {
   detail::output left, right;
@@ -127,7 +127,7 @@ inline std::pair<std::string, std::string> split_checkpoint(std::string_view che
 }
 
 // The bytes of the checkpoint that two neighbouring parts become, of which the left one has the lower keys. It has the
-// word of the left one. Where they do not fit it throws HLC_NOT_PARTS, with the number of the first thing that differs.
+// tag of the left one. Where they do not fit it throws HLC_NOT_PARTS, with the number of the first thing that differs.
 inline std::string merge_checkpoints(std::string_view left, std::string_view right) {
   detail::output made;
   std::uint64_t word;
@@ -175,21 +175,21 @@ class store {
     handle_ = opened;
   }
 
-  // Opens a closed store from the bytes of a checkpoint, and returns the word that was saved with it.
+  // Opens a closed store from the bytes of a checkpoint, and returns the tag that was saved with it.
   std::uint64_t restore(std::string_view checkpoint) {
     const auto opened = handle_or_new();
-    const std::uint64_t word =
+    const std::uint64_t tag =
         detail::word_of(hlc_store_restore, opened.get(), detail::bytes(checkpoint), checkpoint.size());
     handle_ = opened;
-    return word;
+    return tag;
   }
 
   // Opens a closed store from all pieces that were fed, in the same way.
   std::uint64_t restore(restoring& pieces) {
     const auto opened = handle_or_new();
-    const std::uint64_t word = detail::word_of(hlc_restoring_finish, &pieces.raw_, opened.get());
+    const std::uint64_t tag = detail::word_of(hlc_restoring_finish, &pieces.raw_, opened.get());
     handle_ = opened;
-    return word;
+    return tag;
   }
 
   void close() noexcept {
@@ -442,23 +442,23 @@ class store {
     return made;
   }
 
-  // The whole state of the store as bytes, with a word of the program's, such as a place in a log.
-  std::string checkpoint(std::uint64_t word) const {
+  // The whole state of the store as bytes, with a tag of the program's, such as a place in a log.
+  std::string checkpoint(std::uint64_t tag) const {
     hlc_store mine = copy();
     detail::output saved;
     std::size_t len;
-    detail::check(hlc_checkpoint_make(&mine, word, saved.raw(), &len));
+    detail::check(hlc_checkpoint_make(&mine, tag, saved.raw(), &len));
     return saved.text(len);
   }
 
   // Writes what `checkpoint` returns to a stream, in pieces, so that not all bytes are in memory at once. No call may
   // change the store meanwhile. A stream that fails gets no more: its state says so.
-  void checkpoint_to(std::ostream& out, std::uint64_t word) const {
+  void checkpoint_to(std::ostream& out, std::uint64_t tag) const {
     hlc_store mine = copy();
     detail::saving saved;
     std::size_t len;
     std::uint64_t all;
-    detail::check(hlc_saving_start(saved.raw(), &mine, word, &all));
+    detail::check(hlc_saving_start(saved.raw(), &mine, tag, &all));
     std::string piece(std::size_t{1} << 16, '\0');
     for (std::uint32_t code = HLC_MORE; code == HLC_MORE && out;) {
       code = hlc_saving_read(saved.raw(), &mine, detail::bytes(piece), piece.size(), &len);
@@ -467,15 +467,15 @@ class store {
     }
   }
 
-  // An increment: the whole state, but of the rows only those above a stamp, with a word of the program's. As the stamp
+  // An increment: the whole state, but of the rows only those above a stamp, with a tag of the program's. As the stamp
   // choose the floor that the store had at an older checkpoint, which `apply_increment` makes a newer one of. Where the
   // stamp is below the horizon, it throws HLC_BELOW_HORIZON: then make a whole checkpoint.
-  std::string increment(timestamp since, std::uint64_t word) const {
+  std::string increment(timestamp since, std::uint64_t tag) const {
     hlc_store mine = copy();
     detail::output saved;
     std::uint64_t horizon;
     std::size_t len;
-    const std::uint32_t code = hlc_increment_make(&mine, since.word, word, saved.raw(), &len, &horizon);
+    const std::uint32_t code = hlc_increment_make(&mine, since.word, tag, saved.raw(), &len, &horizon);
     detail::check(code, horizon);
     return saved.text(len);
   }
