@@ -87,7 +87,7 @@ impl File {
         self.handle.checkpoint()
     }
 
-    /// Writes the bytes of a checkpoint in pieces of 64 KiB, with a word of the caller's, and returns how many they
+    /// Writes the bytes of a checkpoint in pieces of 64 KiB, with a tag of the caller's, and returns how many they
     /// are: [`Store::restore`](hlcstore::Store::restore) opens a store in memory from them. Writes wait while the state
     /// is copied into memory, and go on while the bytes are written. The writer is not flushed.
     ///
@@ -107,8 +107,8 @@ impl File {
     /// # std::fs::remove_dir_all(&folder)?;
     /// # Ok::<(), Box<dyn std::error::Error>>(())
     /// ```
-    pub fn checkpoint_to<W: Write + ?Sized>(&self, out: &mut W, word: u64) -> std::result::Result<u64, SaveError> {
-        self.handle.copy(word).map_err(as_saving)?.write_to(out)
+    pub fn checkpoint_to<W: Write + ?Sized>(&self, out: &mut W, tag: u64) -> std::result::Result<u64, SaveError> {
+        self.handle.copy(tag).map_err(as_saving)?.write_to(out)
     }
 
     /// Drops the rows up to a stamp that neither it nor an open snapshot below it needs, in parts between which reads

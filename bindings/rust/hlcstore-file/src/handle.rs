@@ -201,10 +201,10 @@ impl Handle {
         self.call(|file, place| unsafe { sys::hlc_file_checkpoint(file, place) })
     }
 
-    /// Copies the whole state, with a word of the caller's.
-    pub(crate) fn copy(&self, word: u64) -> Result<Copied> {
+    /// Copies the whole state, with a tag of the caller's.
+    pub(crate) fn copy(&self, tag: u64) -> Result<Copied> {
         let mut copied = Copied { raw: store::HLC_NO_OUTPUT, len: 0 };
-        let code = unsafe { sys::hlc_file_copy(self.0.as_ptr(), word, &mut copied.raw, &mut copied.len) };
+        let code = unsafe { sys::hlc_file_copy(self.0.as_ptr(), tag, &mut copied.raw, &mut copied.len) };
         answer(code, 0, copied)
     }
 

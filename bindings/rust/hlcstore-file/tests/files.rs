@@ -242,8 +242,8 @@ fn states_are_written_as_checkpoints() -> std::result::Result<(), Box<dyn std::e
     }
     let mut out = Meddler(&file, Vec::new(), usize::MAX);
     assert_eq!(file.checkpoint_to(&mut out, 7)?, out.1.len() as u64);
-    let (store, word) = Store::restore(&out.1)?;
-    assert_eq!((word, store.floor()?, store.checkpoint(7)?), (7, at(8), out.1));
+    let (store, tag) = Store::restore(&out.1)?;
+    assert_eq!((tag, store.floor()?, store.checkpoint(7)?), (7, at(8), out.1));
     assert_eq!(store.snapshot()?.digest(..)?, file.snapshot_at(at(8))?.digest(..)?);
     assert!(file.floor()? > at(9));
     assert_eq!(file.status()?.checkpoint_place, 0);

@@ -56,17 +56,17 @@ impl Handle {
     }
 
     pub(crate) fn restore(&mut self, bytes: &[u8]) -> Result<u64> {
-        let word =
+        let tag =
             self.change(|store, word| unsafe { sys::hlc_store_restore(store, bytes.as_ptr(), bytes.len(), word) })?;
         self.openings += 1;
-        Ok(word)
+        Ok(tag)
     }
 
     /// Opens the store from the pieces of a restore, and ends that.
     pub(crate) fn finish(&mut self, restoring: &mut sys::hlc_restoring) -> Result<u64> {
-        let word = self.change(|store, word| unsafe { sys::hlc_restoring_finish(restoring, store, word) })?;
+        let tag = self.change(|store, word| unsafe { sys::hlc_restoring_finish(restoring, store, word) })?;
         self.openings += 1;
-        Ok(word)
+        Ok(tag)
     }
 
     pub(crate) fn openings(&self) -> u64 {
@@ -364,16 +364,16 @@ impl Handle {
         Version::from_bytes(&bytes, many)
     }
 
-    pub(crate) fn checkpoint(&self, word: u64) -> Result<Output> {
+    pub(crate) fn checkpoint(&self, tag: u64) -> Result<Output> {
         let mut saved = Output::none();
         let (output, len) = saved.place();
-        self.ask(|store, _| unsafe { sys::hlc_checkpoint_make(store, word, output, len) })?;
+        self.ask(|store, _| unsafe { sys::hlc_checkpoint_make(store, tag, output, len) })?;
         Ok(saved)
     }
 
     /// Starts a saving in pieces.
-    pub(crate) fn start_saving(&self, saving: &mut sys::hlc_saving, word: u64) -> Result<()> {
-        self.ask(|store, len| unsafe { sys::hlc_saving_start(saving, store, word, len) }).map(drop)
+    pub(crate) fn start_saving(&self, saving: &mut sys::hlc_saving, tag: u64) -> Result<()> {
+        self.ask(|store, len| unsafe { sys::hlc_saving_start(saving, store, tag, len) }).map(drop)
     }
 
     /// Reads the next piece of a saving, which is as long as there is room. Returns whether more are left.
@@ -387,11 +387,11 @@ impl Handle {
         Ok(is_more_left)
     }
 
-    pub(crate) fn increment(&self, since: Stamp, word: u64) -> Result<Output> {
+    pub(crate) fn increment(&self, since: Stamp, tag: u64) -> Result<Output> {
         let mut saved = Output::none();
         let (output, len) = saved.place();
         self.ask(|store, horizon| unsafe {
-            sys::hlc_increment_make(store, since.to_bits(), word, output, len, horizon)
+            sys::hlc_increment_make(store, since.to_bits(), tag, output, len, horizon)
         })?;
         Ok(saved)
     }

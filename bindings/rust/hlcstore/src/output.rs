@@ -42,7 +42,7 @@ impl Drop for Output {
 }
 
 /// Returns the bytes of the newer checkpoint that an older one becomes by an [`increment`](crate::Store::increment) of
-/// the same store, with the increment's word. [`Store::restore`](crate::Store::restore) opens a store from them, which
+/// the same store, with the increment's tag. [`Store::restore`](crate::Store::restore) opens a store from them, which
 /// answers as the newer one did; its next vacuum drops the rows that vacuums dropped since the older checkpoint. They
 /// may be the older checkpoint of the next increment.
 ///
@@ -75,7 +75,7 @@ pub fn apply_increment(older: &[u8], increment: &[u8]) -> Result<Vec<u8>> {
 }
 
 /// Returns the bytes of the two parts of a checkpoint at a key: the first has the rows of lower keys, the second the
-/// others. Each has the links, the open snapshots, the horizon and the word of the whole. A store that is restored from
+/// others. Each has the links, the open snapshots, the horizon and the tag of the whole. A store that is restored from
 /// a part goes on from the same log: it takes each write of a key of the other part as a report with the same number and
 /// stamp.
 ///
@@ -121,7 +121,7 @@ pub fn split_checkpoint(checkpoint: &[u8], key: &[u8]) -> Result<(Vec<u8>, Vec<u
 }
 
 /// Returns the bytes of the checkpoint that two neighbouring parts become, of which the left one has the lower keys. It
-/// has the word of the left one. If both are parts of one store that took the same log, opened and closed the same
+/// has the tag of the left one. If both are parts of one store that took the same log, opened and closed the same
 /// snapshots and were vacuumed to the same stamp, the result is that store's.
 ///
 /// Refusals, in this order: `BadBytes`, of the left part and then of the right one; `NotParts`, with the number of the

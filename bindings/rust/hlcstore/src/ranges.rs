@@ -260,7 +260,7 @@ impl Ranges {
         Ok(all)
     }
 
-    /// Returns a checkpoint of each store, one after another, all at one cut, which is the word of each: they have all
+    /// Returns a checkpoint of each store, one after another, all at one cut, which is the tag of each: they have all
     /// that was issued at or below it, and the restored stores have this cut, or a greater one. Writers go on between,
     /// so a later store may have later items. Where a machine joins meanwhile, all are made anew.
     ///

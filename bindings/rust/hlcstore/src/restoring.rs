@@ -12,8 +12,8 @@ use hlcstore_sys as sys;
 /// for piece in saved.chunks(50) {
 ///     restoring.feed(piece)?;
 /// }
-/// let (store, word) = restoring.finish()?;
-/// assert_eq!((word, store.checkpoint(7)?), (7, saved));
+/// let (store, tag) = restoring.finish()?;
+/// assert_eq!((tag, store.checkpoint(7)?), (7, saved));
 /// # Ok::<(), hlcstore::Error>(())
 /// ```
 #[derive(Debug)]
@@ -49,8 +49,8 @@ impl Restoring {
     /// Refusals, in this order: `BadBytes`, `NoCheckpoint`, `NoMemory`.
     pub fn finish(mut self) -> Result<(Store, u64)> {
         let store = Store::closed();
-        let word = store.write().finish(&mut self.raw)?;
-        Ok((store, word))
+        let tag = store.write().finish(&mut self.raw)?;
+        Ok((store, tag))
     }
 }
 

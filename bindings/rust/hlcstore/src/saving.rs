@@ -72,10 +72,10 @@ struct Saving {
 }
 
 impl Saving {
-    fn start(handle: &Handle, word: u64) -> Result<Saving> {
+    fn start(handle: &Handle, tag: u64) -> Result<Saving> {
         let mut saving = Saving { raw: sys::HLC_NO_SAVING, opening: handle.openings(), piece: Vec::new() };
         reserve(&mut saving.piece, PIECE)?;
-        handle.start_saving(&mut saving.raw, word)?;
+        handle.start_saving(&mut saving.raw, tag)?;
         Ok(saving)
     }
 
@@ -99,10 +99,10 @@ impl Drop for Saving {
 /// between.
 pub(crate) fn write_checkpoint<W: Write + ?Sized, H: Deref<Target = Handle>>(
     out: &mut W,
-    word: u64,
+    tag: u64,
     handle: impl Fn() -> H,
 ) -> std::result::Result<u64, SaveError> {
-    let mut saving = Saving::start(&handle(), word)?;
+    let mut saving = Saving::start(&handle(), tag)?;
     let (mut written, mut is_more_left) = (0, true);
     while is_more_left {
         is_more_left = saving.read(&handle())?;

@@ -137,8 +137,8 @@ impl SharedStore {
 
     /// Opens a store from the bytes of a checkpoint, as [`Store::restore`] does.
     pub fn restore(checkpoint: &[u8]) -> Result<(SharedStore, u64)> {
-        let (store, word) = Store::restore(checkpoint)?;
-        Ok((store.into_shared(), word))
+        let (store, tag) = Store::restore(checkpoint)?;
+        Ok((store.into_shared(), tag))
     }
 
     /// Opens this closed store, for all clones, as [`Store::reopen`] does.
@@ -286,22 +286,22 @@ impl SharedStore {
     }
 
     /// Returns the whole state of the store as bytes, as [`Store::checkpoint`] does. Reads run beside it.
-    pub fn checkpoint(&self, word: u64) -> Result<Vec<u8>> {
-        let saved = self.read().checkpoint(word)?;
+    pub fn checkpoint(&self, tag: u64) -> Result<Vec<u8>> {
+        let saved = self.read().checkpoint(tag)?;
         saved.read()
     }
 
     /// Writes the bytes of a checkpoint in pieces, as [`Store::checkpoint_to`] does. Reads run beside it, and calls
     /// that change the store wait until all is written; to open or close a snapshot is a change too. So the writer may
     /// read the store, but must not change or save it, nor wait for a thread that does: it would wait for itself.
-    pub fn checkpoint_to<W: Write + ?Sized>(&self, out: &mut W, word: u64) -> std::result::Result<u64, SaveError> {
+    pub fn checkpoint_to<W: Write + ?Sized>(&self, out: &mut W, tag: u64) -> std::result::Result<u64, SaveError> {
         let _saving = self.locked.save();
-        write_checkpoint(out, word, || self.read())
+        write_checkpoint(out, tag, || self.read())
     }
 
     /// Returns an increment of the store since a stamp as bytes, as [`Store::increment`] does. Reads run beside it.
-    pub fn increment(&self, since: Stamp, word: u64) -> Result<Vec<u8>> {
-        let saved = self.read().increment(since, word)?;
+    pub fn increment(&self, since: Stamp, tag: u64) -> Result<Vec<u8>> {
+        let saved = self.read().increment(since, tag)?;
         saved.read()
     }
 

@@ -68,14 +68,14 @@ impl Store {
     }
 
     /// Opens a store from the bytes of a [`checkpoint`](Store::checkpoint), whoever wrote them. Returns it with the
-    /// word that was saved. It continues as the saved store would have: the same next items, open snapshots, horizon
+    /// tag that was saved. It continues as the saved store would have: the same next items, open snapshots, horizon
     /// and answers. [`snapshot_by_id`](Store::snapshot_by_id) returns its snapshots.
     ///
     /// Refusals, in this order: `BadBytes`, `NoCheckpoint`, `NoMemory`.
     pub fn restore(checkpoint: &[u8]) -> Result<(Store, u64)> {
         let store = Store::closed();
-        let word = store.reload(checkpoint)?;
-        Ok((store, word))
+        let tag = store.reload(checkpoint)?;
+        Ok((store, tag))
     }
 
     /// Returns a closed store, for [`reopen`](Store::reopen) or [`reload`](Store::reload).
@@ -90,7 +90,7 @@ impl Store {
         self.write().open(nodes)
     }
 
-    /// Opens this closed store as [`restore`](Store::restore) does, and returns the word.
+    /// Opens this closed store as [`restore`](Store::restore) does, and returns the tag.
     ///
     /// Refusals, in this order: `IsOpen`, `BadBytes`, `NoCheckpoint`, `NoMemory`.
     pub fn reload(&self, checkpoint: &[u8]) -> Result<u64> {
@@ -347,7 +347,7 @@ impl Store {
         self.read().certificate(stamp)?.read()
     }
 
-    /// Returns the whole state of the store as bytes, with a word of the caller's: for example the place in a log up to
+    /// Returns the whole state of the store as bytes, with a tag of the caller's: for example the place in a log up to
     /// which the store applied it. `docs/formats.md` describes them.
     ///
     /// Refusal: `NoMemory`.
@@ -359,13 +359,13 @@ impl Store {
     /// let mut node = Node::new(0, Stamp::ZERO);
     /// store.accept(node.write(5, b"city", b"Lyon")?)?;
     ///
-    /// let (copy, word) = Store::restore(&store.checkpoint(77)?)?;
-    /// assert_eq!(word, 77);
+    /// let (copy, tag) = Store::restore(&store.checkpoint(77)?)?;
+    /// assert_eq!(tag, 77);
     /// copy.accept(node.write(6, b"city", b"Rome")?)?;
     /// # Ok::<(), hlcstore::Error>(())
     /// ```
-    pub fn checkpoint(&self, word: u64) -> Result<Vec<u8>> {
-        self.read().checkpoint(word)?.read()
+    pub fn checkpoint(&self, tag: u64) -> Result<Vec<u8>> {
+        self.read().checkpoint(tag)?.read()
     }
 
     /// Writes the bytes that [`checkpoint`](Store::checkpoint) returns, in pieces of 64 KiB. In memory are a piece, and
@@ -387,18 +387,18 @@ impl Store {
     /// assert_eq!(saved, store.checkpoint(77)?);
     /// # Ok::<(), Box<dyn std::error::Error>>(())
     /// ```
-    pub fn checkpoint_to<W: Write + ?Sized>(&self, out: &mut W, word: u64) -> std::result::Result<u64, SaveError> {
-        write_checkpoint(out, word, || self.read())
+    pub fn checkpoint_to<W: Write + ?Sized>(&self, out: &mut W, tag: u64) -> std::result::Result<u64, SaveError> {
+        write_checkpoint(out, tag, || self.read())
     }
 
     /// Returns an increment as bytes: the whole state of the store, but of its rows only those above a stamp, with a
-    /// word of the caller's. As the stamp choose the floor that the store had at an older checkpoint: of both
+    /// tag of the caller's. As the stamp choose the floor that the store had at an older checkpoint: of both
     /// [`apply_increment`](crate::apply_increment) makes a newer one. Where the stamp is below the horizon, make a
     /// whole checkpoint.
     ///
     /// Refusals, in this order: `BelowHorizon`, `NoMemory`.
-    pub fn increment(&self, since: Stamp, word: u64) -> Result<Vec<u8>> {
-        self.read().increment(since, word)?.read()
+    pub fn increment(&self, since: Stamp, tag: u64) -> Result<Vec<u8>> {
+        self.read().increment(since, tag)?.read()
     }
 
     /// Shares the store among threads.

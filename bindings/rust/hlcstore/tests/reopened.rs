@@ -95,8 +95,8 @@ fn old_snapshot_does_not_read_a_shared_store_that_a_clone_reopened() {
 
 #[test]
 fn old_snapshot_does_not_read_a_restored_store_that_was_shared() {
-    let (store, word) = SharedStore::restore(&Store::open(1).unwrap().checkpoint(3).unwrap()).unwrap();
-    assert_eq!(word, 3);
+    let (store, tag) = SharedStore::restore(&Store::open(1).unwrap().checkpoint(3).unwrap()).unwrap();
+    assert_eq!(tag, 3);
     keep_old_snapshots!(store, assert_eq!(store.reload(&saved()), Ok(7)), Some(b"two"));
 }
 

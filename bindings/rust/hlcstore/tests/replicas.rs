@@ -67,11 +67,11 @@ fn replica_goes_on_from_a_checkpoint() {
     store.vacuum_to(Stamp::new(150, 0)).unwrap();
     let saved = store.checkpoint(middle as u64).unwrap();
 
-    let (replica, word) = Store::restore(&saved).unwrap();
-    assert_eq!(word, middle as u64);
+    let (replica, tag) = Store::restore(&saved).unwrap();
+    assert_eq!(tag, middle as u64);
     assert_alike(&store, &replica);
     assert_eq!(store.accept_items(&log[middle..]), Ok(201));
-    assert_eq!(replica.accept_items(&log[word as usize..]), Ok(201));
+    assert_eq!(replica.accept_items(&log[tag as usize..]), Ok(201));
     assert_alike(&store, &replica);
     let same = replica.snapshot_by_id(protected.id()).unwrap();
     assert_eq!(same.stamp(), protected.stamp());
@@ -110,8 +110,8 @@ fn checkpoint_becomes_a_newer_one_by_increments() {
         floor = store.floor().unwrap();
 
         // The copy has the rows too that the vacuums dropped, until its next vacuum.
-        let (copy, word) = Store::restore(&saved).unwrap();
-        assert_eq!((word, copy.horizon(), copy.floor()), (end as u64, store.horizon(), Ok(floor)));
+        let (copy, tag) = Store::restore(&saved).unwrap();
+        assert_eq!((tag, copy.horizon(), copy.floor()), (end as u64, store.horizon(), Ok(floor)));
         assert!(copy.rows().unwrap() > store.rows().unwrap());
         copy.vacuum_to(copy.horizon().unwrap()).unwrap();
         assert_alike(&store, &copy);

@@ -76,8 +76,8 @@ fn pieces_are_the_checkpoint() {
 
         let mut restoring = Restoring::start().unwrap();
         restoring.feed(&writer.bytes).unwrap();
-        let (copy, word) = restoring.finish().unwrap();
-        assert_eq!((word, copy.rows(), copy.snapshots()), (7, Ok(rows), store.snapshots()));
+        let (copy, tag) = restoring.finish().unwrap();
+        assert_eq!((tag, copy.rows(), copy.snapshots()), (7, Ok(rows), store.snapshots()));
     }
 }
 

@@ -111,6 +111,6 @@ fn shared_store_answers_as_a_store() {
 #[test]
 fn shared_store_is_restored() {
     let (store, saved) = (Store::open(3).unwrap(), Store::open(3).unwrap().checkpoint(8).unwrap());
-    let (shared, word) = SharedStore::restore(&saved).unwrap();
-    assert_eq!((word, shared.nodes()), (8, store.nodes()));
+    let (shared, tag) = SharedStore::restore(&saved).unwrap();
+    assert_eq!((tag, shared.nodes()), (8, store.nodes()));
 }
