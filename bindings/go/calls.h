@@ -613,19 +613,19 @@ static inline hlcgo_made hlcgo_certificate(const hlc_store *store, uint64_t stam
     return made;
 }
 
-static inline hlcgo_made hlcgo_checkpoint(const hlc_store *store, uint64_t word)
+static inline hlcgo_made hlcgo_checkpoint(const hlc_store *store, uint64_t tag)
 {
     hlc_store mine = *store;
     hlcgo_made made = { 0 };
-    made.code = hlc_checkpoint_make(&mine, word, &made.output, &made.len);
+    made.code = hlc_checkpoint_make(&mine, tag, &made.output, &made.len);
     return made;
 }
 
-static inline hlcgo_made hlcgo_increment(const hlc_store *store, uint64_t since, uint64_t word)
+static inline hlcgo_made hlcgo_increment(const hlc_store *store, uint64_t since, uint64_t tag)
 {
     hlc_store mine = *store;
     hlcgo_made made = { 0 };
-    made.code = hlc_increment_make(&mine, since, word, &made.output, &made.len, &made.word);
+    made.code = hlc_increment_make(&mine, since, tag, &made.output, &made.len, &made.word);
     return made;
 }
 
@@ -665,11 +665,11 @@ static inline hlcgo_part hlcgo_output_read(hlc_output *output, size_t from, uint
     return part;
 }
 
-static inline hlcgo_answer hlcgo_saving_start(hlc_saving *saving, const hlc_store *store, uint64_t word)
+static inline hlcgo_answer hlcgo_saving_start(hlc_saving *saving, const hlc_store *store, uint64_t tag)
 {
     hlc_store mine = *store;
     hlcgo_answer answer;
-    answer.code = hlc_saving_start(saving, &mine, word, &answer.word);
+    answer.code = hlc_saving_start(saving, &mine, tag, &answer.word);
     return answer;
 }
 

@@ -5,14 +5,14 @@ import "C"
 
 import "io"
 
-// Checkpoint writes the whole state of the store, with a word of the caller's: for example the place in a log up to
+// Checkpoint writes the whole state of the store, with a tag of the caller's: for example the place in a log up to
 // which the store applied it. docs/formats.md describes the bytes, which end with a digest. It returns how many it
 // wrote. C makes a copy of the state under the lock, beside readers, and that is written after it.
 //
 // Errors: those of the writer, after which a part may be written.
-func (s *Store) Checkpoint(w io.Writer, word uint64) (int64, error) {
+func (s *Store) Checkpoint(w io.Writer, tag uint64) (int64, error) {
 	own := s.mu.RLock()
-	made := C.hlcgo_checkpoint(&s.raw, C.uint64_t(word))
+	made := C.hlcgo_checkpoint(&s.raw, C.uint64_t(tag))
 	s.mu.RUnlock(own)
 	return writeOutput(w, made)
 }
@@ -25,13 +25,13 @@ func (s *Store) Checkpoint(w io.Writer, word uint64) (int64, error) {
 // it would wait for itself.
 //
 // Errors: those of the writer, after which a part may be written; ErrNoMemory likewise.
-func (s *Store) CheckpointTo(w io.Writer, word uint64) (int64, error) {
+func (s *Store) CheckpointTo(w io.Writer, tag uint64) (int64, error) {
 	s.mu.beginSaving()
 	defer s.mu.endSaving()
 	var saving C.hlc_saving
 	defer C.hlc_saving_drop(&saving)
 	own := s.mu.RLock()
-	started := C.hlcgo_saving_start(&saving, &s.raw, C.uint64_t(word))
+	started := C.hlcgo_saving_start(&saving, &s.raw, C.uint64_t(tag))
 	s.mu.RUnlock(own)
 	if started.code != C.HLC_OK {
 		return 0, refusal(started.code, 0)
@@ -42,20 +42,20 @@ func (s *Store) CheckpointTo(w io.Writer, word uint64) (int64, error) {
 	})
 }
 
-// Increment writes the whole state of the store, but of its rows only those above a stamp, with a word of the caller's.
+// Increment writes the whole state of the store, but of its rows only those above a stamp, with a tag of the caller's.
 // As the stamp choose the floor that the store had at an older checkpoint: of both [ApplyIncrement] makes a newer one.
 // Otherwise it is like Checkpoint.
 //
 // Refusal: ErrBelowHorizon, where the stamp is below the horizon: then make a whole checkpoint.
-func (s *Store) Increment(w io.Writer, since Stamp, word uint64) (int64, error) {
+func (s *Store) Increment(w io.Writer, since Stamp, tag uint64) (int64, error) {
 	own := s.mu.RLock()
-	made := C.hlcgo_increment(&s.raw, C.uint64_t(since), C.uint64_t(word))
+	made := C.hlcgo_increment(&s.raw, C.uint64_t(since), C.uint64_t(tag))
 	s.mu.RUnlock(own)
 	return writeOutput(w, made)
 }
 
 // ApplyIncrement makes a newer checkpoint, of an older one and of an increment of the same store, and writes it. It has
-// the increment's word. It answers as the newer store did, but also has the rows that vacuums dropped since the older
+// the increment's tag. It answers as the newer store did, but also has the rows that vacuums dropped since the older
 // checkpoint; its next vacuum drops them.
 //
 // Refusals, in this order: ErrBadBytes, of the older bytes; ErrNoIncrement; ErrNoCheckpoint, of either; ErrNotLater;
@@ -68,7 +68,7 @@ func ApplyIncrement(w io.Writer, older, increment []byte) (int64, error) {
 }
 
 // SplitCheckpoint divides the bytes of a checkpoint at a key, and writes those of both parts: below gets the rows of
-// lower keys, from the others. Each has the links, the open snapshots, the horizon and the word of the whole, and goes on
+// lower keys, from the others. Each has the links, the open snapshots, the horizon and the tag of the whole, and goes on
 // from the same log: it takes each write of another key as a report.
 //
 // Refusals, in this order: ErrBadBytes; ErrNoCheckpoint, of either part. ErrNoMemory may come in place of each; and
@@ -86,7 +86,7 @@ func SplitCheckpoint(below, from io.Writer, checkpoint, key []byte) error {
 }
 
 // MergeCheckpoints joins the bytes of two neighbouring parts of a checkpoint, of which the left one has the lower keys,
-// and writes those of the whole, with the word of the left one.
+// and writes those of the whole, with the tag of the left one.
 //
 // Refusals, in this order: ErrBadBytes, of the left bytes and then of the right ones; ErrNotParts, with the number of
 // the first thing that differs, see hlcstore.h; ErrNoCheckpoint. ErrNoMemory may come in place of each; and errors of
@@ -136,7 +136,7 @@ func writePieces(w io.Writer, read func(out *C.uint8_t, outLen C.size_t) C.hlcgo
 }
 
 // Restore opens a store from the bytes of a checkpoint, which it reads to their end, in pieces. It continues as the
-// saved store would have: the same next items, open snapshots, horizon and answers. It also returns the word that was
+// saved store would have: the same next items, open snapshots, horizon and answers. It also returns the tag that was
 // saved.
 //
 // Refusals: ErrBadBytes, ErrNoCheckpoint, or ErrNoMemory in their place; and errors of the reader. No fault of the

@@ -11,10 +11,10 @@ import (
 	"hlcstore"
 )
 
-func checkpointOf(t testing.TB, store *hlcstore.Store, word uint64) []byte {
+func checkpointOf(t testing.TB, store *hlcstore.Store, tag uint64) []byte {
 	t.Helper()
 	var saved bytes.Buffer
-	written, err := store.Checkpoint(&saved, word)
+	written, err := store.Checkpoint(&saved, tag)
 	if err != nil || written != int64(saved.Len()) {
 		t.Fatal(written, err)
 	}
@@ -31,9 +31,9 @@ func TestRestoredStoreIsTheSavedOne(t *testing.T) {
 		"half":        iotest.HalfReader(bytes.NewReader(saved)),
 		"end at once": iotest.DataErrReader(bytes.NewReader(saved)),
 	} {
-		restored, word, err := hlcstore.Restore(reader)
-		if err != nil || word != 77 {
-			t.Fatal(name, word, err)
+		restored, tag, err := hlcstore.Restore(reader)
+		if err != nil || tag != 77 {
+			t.Fatal(name, tag, err)
 		}
 		equal(t, string(checkpointOf(t, restored, 77)), string(saved))
 		equal(t, must(restored.Horizon()), at(4000))
@@ -43,9 +43,9 @@ func TestRestoredStoreIsTheSavedOne(t *testing.T) {
 		ok(t, restored.Accept(hlcstore.Item{Kind: hlcstore.Report, Number: 9000, Stamp: at(9001)}))
 		ok(t, restored.Close())
 	}
-	restored, word, err := hlcstore.RestoreBytes(saved)
+	restored, tag, err := hlcstore.RestoreBytes(saved)
 	ok(t, err)
-	equal(t, word, 77)
+	equal(t, tag, 77)
 	equal(t, string(checkpointOf(t, restored, 77)), string(saved))
 	ok(t, restored.Close())
 }
@@ -204,9 +204,9 @@ func TestIncrementMakesANewerCheckpoint(t *testing.T) {
 	_, err = hlcstore.ApplyIncrement(&newer, older, increment.Bytes())
 	ok(t, err)
 	equal(t, newer.String(), string(checkpointOf(t, store, 2)))
-	restored, word, err := hlcstore.RestoreBytes(newer.Bytes())
+	restored, tag, err := hlcstore.RestoreBytes(newer.Bytes())
 	ok(t, err)
-	equal(t, word, 2)
+	equal(t, tag, 2)
 	equal(t, digestOf(t, restored), digestOf(t, store))
 }
 
@@ -214,12 +214,12 @@ func TestCheckpointIsSplitAndMerged(t *testing.T) {
 	whole := checkpointOf(t, filled(t, 10), 7)
 	var below, from, merged bytes.Buffer
 	ok(t, hlcstore.SplitCheckpoint(&below, &from, whole, []byte(keyOf(5))))
-	restored, word, err := hlcstore.RestoreBytes(below.Bytes())
+	restored, tag, err := hlcstore.RestoreBytes(below.Bytes())
 	ok(t, err)
-	equal(t, word, 7)
-	rest, word, err := hlcstore.RestoreBytes(from.Bytes())
+	equal(t, tag, 7)
+	rest, tag, err := hlcstore.RestoreBytes(from.Bytes())
 	ok(t, err)
-	equal(t, word, 7)
+	equal(t, tag, 7)
 	equal(t, must(restored.Rows()), 5)
 	equal(t, must(rest.Rows()), 5)
 	written, err := hlcstore.MergeCheckpoints(&merged, below.Bytes(), from.Bytes())

@@ -82,7 +82,7 @@ func ExampleSnapshot_Range() {
 	// <nil>
 }
 
-// A replica starts from a checkpoint, whose word is the place in the log from which it goes on.
+// A replica starts from a checkpoint, whose tag is the place in the log from which it goes on.
 func ExampleStore_Checkpoint() {
 	items := []hlcstore.Item{
 		{Number: 0, Stamp: at(5), Key: "city", Value: "Lyon"},
@@ -101,12 +101,12 @@ func ExampleStore_Checkpoint() {
 	place := len(shared) / 2
 	must(store.Checkpoint(&saved, uint64(place)))
 
-	replica, word, err := hlcstore.Restore(&saved)
+	replica, tag, err := hlcstore.Restore(&saved)
 	if err != nil {
 		log.Fatal(err)
 	}
 	defer replica.Close()
-	applied, err := replica.ApplyRecords(shared[word:])
+	applied, err := replica.ApplyRecords(shared[tag:])
 	fmt.Println(applied.Records, err, must(replica.Floor()))
 	// Output: 1 <nil> 6.0
 }

@@ -77,8 +77,8 @@ func FuzzRestore(f *testing.F) {
 	f.Add(checkpointOf(f, open(f, 2), 0))
 	f.Add([]byte{})
 	f.Fuzz(func(t *testing.T, saved []byte) {
-		store, word, err := hlcstore.RestoreBytes(saved)
-		inPieces, sameWord, sameErr := hlcstore.Restore(bytes.NewReader(saved))
+		store, tag, err := hlcstore.RestoreBytes(saved)
+		inPieces, sameTag, sameErr := hlcstore.Restore(bytes.NewReader(saved))
 		if err != nil {
 			var refusal, same *hlcstore.Error
 			if !errors.As(err, &refusal) || !errors.As(sameErr, &same) || *refusal != *same {
@@ -88,8 +88,8 @@ func FuzzRestore(f *testing.F) {
 		}
 		defer store.Close()
 		defer inPieces.Close()
-		if sameErr != nil || sameWord != word || !bytes.Equal(checkpointOf(t, store, word), saved) {
-			t.Fatal(sameErr, sameWord, word)
+		if sameErr != nil || sameTag != tag || !bytes.Equal(checkpointOf(t, store, tag), saved) {
+			t.Fatal(sameErr, sameTag, tag)
 		}
 	})
 }

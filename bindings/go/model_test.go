@@ -356,9 +356,9 @@ func (g *game) vacuum() {
 
 // restore goes on with a store that is made of a checkpoint.
 func (g *game) restore() {
-	word := uint64(g.pick(256))
-	restored, saved, err := hlcstore.Restore(bytes.NewReader(checkpointOf(g.t, g.store, word)))
-	g.check(err == nil && saved == word, saved, err)
+	tag := uint64(g.pick(256))
+	restored, saved, err := hlcstore.Restore(bytes.NewReader(checkpointOf(g.t, g.store, tag)))
+	g.check(err == nil && saved == tag, saved, err)
 	g.store.Close()
 	g.store = restored
 }

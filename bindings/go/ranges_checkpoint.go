@@ -2,7 +2,7 @@ package hlcstore
 
 import "bytes"
 
-// Checkpoint returns the whole state of each store, as [Store.Checkpoint] writes it, with the cut as its word. It takes
+// Checkpoint returns the whole state of each store, as [Store.Checkpoint] writes it, with the cut as its tag. It takes
 // the lock of one store after another, beside readers, and writers go on between: a later store may have later items.
 // So what is restored has at least that cut, and each of its cuts is one.
 func (r *Ranges) Checkpoint() ([][]byte, error) {
@@ -25,7 +25,7 @@ func (r *Ranges) Checkpoint() ([][]byte, error) {
 // gone. [Ranges.Machine] returns the machines.
 //
 // Refusals: those of RestoreBytes; ErrNotOneCut, where there is not a checkpoint for each store, or they have different
-// words, or different numbers of nodes; ErrWrongStore, where a store has a value at its floor of another store's key.
+// tags, or different numbers of nodes; ErrWrongStore, where a store has a value at its floor of another store's key.
 func RestoreRanges(division Division, checkpoints [][]byte) (*Ranges, error) {
 	if len(checkpoints) != division.Stores() {
 		return nil, ErrNotOneCut
@@ -33,15 +33,15 @@ func RestoreRanges(division Division, checkpoints [][]byte) (*Ranges, error) {
 	r := &Ranges{division: division}
 	cut := uint64(0)
 	for number, checkpoint := range checkpoints {
-		store, word, err := RestoreBytes(checkpoint)
+		store, tag, err := RestoreBytes(checkpoint)
 		if err == nil {
 			r.stores = append(r.stores, store)
 			err = store.CloseAll()
 		}
 		if number == 0 {
-			cut = word
+			cut = tag
 		}
-		if err == nil && word != cut {
+		if err == nil && tag != cut {
 			err = ErrNotOneCut
 		}
 		if err == nil {

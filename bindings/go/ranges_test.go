@@ -515,7 +515,7 @@ func later(t *testing.T, r *hlcstore.Ranges, machines [2]*hlcstore.Machine, save
 	return append(append([][]byte(nil), saved[:3]...), must(r.Checkpoint())[3])
 }
 
-// joinedLater returns checkpoints with one word, of which the last one has a node more.
+// joinedLater returns checkpoints with one tag, of which the last one has a node more.
 func joinedLater(t testing.TB, r *hlcstore.Ranges, saved [][]byte) [][]byte {
 	must(r.Join())
 	return append(append([][]byte(nil), saved[:3]...), checkpointOf(t, r.StoreAt(3), uint64(at(50))))

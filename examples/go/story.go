@@ -314,14 +314,14 @@ func checkpoint(store *hlcstore.Store) []byte {
 func save(store *hlcstore.Store) {
 	checkpoint(store)
 	saved := checkpoint(store)
-	_, word, err := hlcstore.RestoreBytes(saved[:len(saved)-1])
-	printAnswer("restore", word, err)
+	_, tag, err := hlcstore.RestoreBytes(saved[:len(saved)-1])
+	printAnswer("restore", tag, err)
 	saved[0] ^= 1
-	_, word, err = hlcstore.Restore(bytes.NewReader(saved))
-	printAnswer("restore", word, err)
+	_, tag, err = hlcstore.Restore(bytes.NewReader(saved))
+	printAnswer("restore", tag, err)
 	saved[0] ^= 1
-	replica, word, err := hlcstore.Restore(bytes.NewReader(saved))
-	printAnswer("restore", word, err)
+	replica, tag, err := hlcstore.Restore(bytes.NewReader(saved))
+	printAnswer("restore", tag, err)
 	fmt.Println("restore", isOpen, 0)
 	printRows(replica)
 	get(must(replica.SnapshotByID(1)), "city")

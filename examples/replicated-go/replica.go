@@ -121,10 +121,10 @@ func (r *replica) beginFromDisk() error {
 // Begin goes on with the store of a checkpoint, or with an empty one. The snapshots in a checkpoint are closed: their
 // readers are gone.
 func (r *replica) begin(origin string, saved io.Reader) error {
-	start, word := time.Now(), uint64(0)
+	start, tag := time.Now(), uint64(0)
 	store, err := hlcstore.Open(firstNodes)
 	if err == nil && saved != nil {
-		store, word, err = hlcstore.Restore(saved)
+		store, tag, err = hlcstore.Restore(saved)
 	}
 	if err != nil {
 		return err
@@ -134,10 +134,10 @@ func (r *replica) begin(origin string, saved io.Reader) error {
 		return err
 	}
 	r.between.Lock()
-	r.store, r.revision = store, int64(word)
+	r.store, r.revision = store, int64(tag)
 	r.between.Unlock()
-	log.Printf("begins from %s at revision %d, with %d rows", origin, word, rows)
-	r.say(map[string]any{"begins": origin, "revision": word, "rows": rows, "seconds": time.Since(start).Seconds()})
+	log.Printf("begins from %s at revision %d, with %d rows", origin, tag, rows)
+	r.say(map[string]any{"begins": origin, "revision": tag, "rows": rows, "seconds": time.Since(start).Seconds()})
 	return nil
 }
 

@@ -176,10 +176,10 @@ typedef struct {
     size_t len;
 } file_copied;
 
-static inline file_copied file_copy(hlc_file *file, uint64_t word)
+static inline file_copied file_copy(hlc_file *file, uint64_t tag)
 {
     file_copied copied = { .output = HLC_NO_OUTPUT };
-    copied.code = hlc_file_copy(file, word, &copied.output, &copied.len);
+    copied.code = hlc_file_copy(file, tag, &copied.output, &copied.len);
     return copied;
 }
 

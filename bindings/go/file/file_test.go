@@ -202,10 +202,10 @@ func TestCheckpointToAWriter(t *testing.T) {
 	}
 	saved := meddler{file: f, most: 1 << 20}
 	equal(t, must(f.CheckpointTo(&saved, 7)), int64(saved.taken.Len()))
-	store, word, err := hlcstore.RestoreBytes(saved.taken.Bytes())
+	store, tag, err := hlcstore.RestoreBytes(saved.taken.Bytes())
 	ok(t, err)
 	defer store.Close()
-	equal(t, word, 7)
+	equal(t, tag, 7)
 	equal(t, must(store.Floor()), at(8))
 	var again bytes.Buffer
 	equal(t, must(store.Checkpoint(&again, 7)), int64(saved.taken.Len()))

@@ -158,16 +158,16 @@ func (f *File) Checkpoint() (uint64, error) {
 	return uint64(answer.word), refusal(answer.code, 0)
 }
 
-// CheckpointTo writes the bytes of a checkpoint in pieces, with a word of the caller's: [hlcstore.Restore] opens a
+// CheckpointTo writes the bytes of a checkpoint in pieces, with a tag of the caller's: [hlcstore.Restore] opens a
 // store in memory from them. It returns how many it wrote. Writes wait while C copies the state, and go on while w gets
 // it, so w may make any call with the file.
 //
 // Errors: those of the writer, after which a part may be written.
-func (f *File) CheckpointTo(w io.Writer, word uint64) (int64, error) {
+func (f *File) CheckpointTo(w io.Writer, tag uint64) (int64, error) {
 	if err := f.use(); err != nil {
 		return 0, err
 	}
-	copied := C.file_copy(f.raw, C.uint64_t(word))
+	copied := C.file_copy(f.raw, C.uint64_t(tag))
 	f.done()
 	output := copied.output
 	defer C.hlc_output_drop(&output)
