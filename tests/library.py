@@ -75,7 +75,7 @@ def made(pick, name, *args):
 
 
 def whole_state(pick, store):
-    """Returns the bytes of a checkpoint, with the word 5."""
+    """Returns the bytes of a checkpoint, with the tag 5."""
     return made(pick, "checkpoint_make", store, 5)
 
 
@@ -239,7 +239,7 @@ def older_of(pick, store, model):
 
 
 def increment_of(pick, store, model, since):
-    """Returns an increment with the word 5; or none where the stamp is below the horizon, and that is refused."""
+    """Returns an increment with the tag 5; or none where the stamp is below the horizon, and that is refused."""
     if since < model.horizon:
         output = Handle()
         assert tuple(library.call("increment_make", store, since, 5, output)) == (BELOW_HORIZON, 0, model.horizon)
@@ -510,11 +510,11 @@ def read_saving(pick, saving, store):
     return read
 
 
-def save_in_pieces(pick, store, word):
+def save_in_pieces(pick, store, tag):
     """Saves a store in pieces, and returns the bytes."""
     saving = Handle()
-    length = ok("saving_start", saving, store, word)
-    assert library.call("saving_start", saving, store, word) == (IS_UNDER_WAY, 0)
+    length = ok("saving_start", saving, store, tag)
+    assert library.call("saving_start", saving, store, tag) == (IS_UNDER_WAY, 0)
     saved = read_saving(pick, saving, store)
     assert len(saved) == length
     assert library.call("saving_read", saving, store, 9) == (NOT_UNDER_WAY, 0, b"")
@@ -610,9 +610,9 @@ def refuse_full(pick, store):
     library.call("output_drop", output)
 
 
-def framed(body, word):
+def framed(body, tag):
     """The bytes of a frame, as docs/formats.md has them."""
-    front = struct.pack(">IQQ", 1, len(body), word) + body
+    front = struct.pack(">IQQ", 1, len(body), tag) + body
     return front + hashlib.sha256(front).digest()
 
 

@@ -223,7 +223,7 @@ def save(store):
     print_answer("restore", Store.restore, saved[:-1])
     print_answer("restore", Store.restore, bytes([saved[0] ^ 1]) + saved[1:])
     with Store.restore(saved) as copy:
-        put("restore", 0, copy.word)
+        put("restore", 0, copy.tag)
         put("restore", 101, 0)
         print_answer("rows", lambda: copy.rows)
         print_bytes("read", copy.snapshots()[0].get, b"city")

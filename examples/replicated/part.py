@@ -97,10 +97,10 @@ class Part:
     def begin_with(self, origin, store, start):
         store.close_all()  # a checkpoint has the snapshots that were open; their readers are gone
         with self.between:
-            self.store, self.revision = store, store.word
+            self.store, self.revision = store, store.tag
         seconds = round(time.monotonic() - start, 3)
         self.replica.counters.add("begins", origin=origin)
-        words = {"range": self.range.id, "revision": store.word, "rows": store.rows, "seconds": seconds}
+        words = {"range": self.range.id, "revision": store.tag, "rows": store.rows, "seconds": seconds}
         logs.info(f"begins from {origin}", **words)
         self.replica.report(begins=origin, **words)
 
@@ -199,7 +199,7 @@ class Part:
         """Saves a checkpoint, and returns its revision and its size."""
         with self.saving:
             with self.between:
-                # the word of a sealed log is that of the entry before: whoever restores it applies the seal once more
+                # the tag of a sealed log is that of the entry before: whoever restores it applies the seal once more
                 revision = self.revision - 1 if self.seal else self.revision
                 saved = self.store.checkpoint(revision)
             self.checkpoints.save(revision, saved)

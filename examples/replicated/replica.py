@@ -2,7 +2,7 @@
 
     replica.py --name r1 --folder /var/lib/hlcstore/r1 --members HOST:PORT .. --listen HOST:PORT
 
-It makes a checkpoint in the folder every so many seconds, with the revision up to which it applied the log as the word.
+It makes a checkpoint in the folder every so many seconds, with the revision up to which it applied the log as the tag.
 After a restart it goes on from the newest checkpoint and the log behind it. Where it has none that the log still
 continues, it takes one from another replica. Each range that the map lets it have is a store of its own (part.py), and
 reads are over all of them at one stamp (cover.py). A first SIGTERM or SIGINT ends it with a last checkpoint. With

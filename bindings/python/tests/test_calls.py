@@ -546,9 +546,9 @@ class Restarts(unittest.TestCase):
         store, node = filled([(b"key %d" % (i % 100), b"value %d" % i) for i in range(1000)])
         old, new = store.snapshot(stamp(500)), store.snapshot()
         store.vacuum()
-        saved = store.checkpoint(word=77)
+        saved = store.checkpoint(tag=77)
         with Store.restore(saved) as copy:
-            self.assertEqual((copy.word, copy.floor, copy.rows, copy.nodes), (77, store.floor, store.rows, store.nodes))
+            self.assertEqual((copy.tag, copy.floor, copy.rows, copy.nodes), (77, store.floor, store.rows, store.nodes))
             self.assertEqual((copy.horizon, copy.link(0), copy.checkpoint(77)), (store.horizon, store.link(0), saved))
             for mine, its in zip((old, new), copy.snapshots(), strict=True):
                 self.assertEqual((its.id, its.stamp, list(its.items())), (mine.id, mine.stamp, list(mine.items())))
@@ -557,13 +557,13 @@ class Restarts(unittest.TestCase):
             for each in store, copy:
                 each.accept(item)
             self.assertEqual(copy.snapshot().digest(), store.snapshot().digest())
-        self.assertEqual((store.word, Store.restore(bytearray(store.checkpoint())).word), (0, 0))
+        self.assertEqual((store.tag, Store.restore(bytearray(store.checkpoint())).tag), (0, 0))
 
     def test_a_replica_is_restored_from_pieces(self):
         store, _ = filled([(b"key %d" % i, b"value") for i in range(100)])
-        saved = store.checkpoint(word=7)
+        saved = store.checkpoint(tag=7)
         with Store.restore(saved[at : at + 99] for at in range(0, len(saved), 99)) as copy:
-            self.assertEqual((copy.word, copy.checkpoint(7)), (7, saved))
+            self.assertEqual((copy.tag, copy.checkpoint(7)), (7, saved))
         with self.assertRaises(hlcstore.BadBytes):
             Store.restore([saved[:-1]])
         with self.assertRaises(TypeError):
@@ -578,15 +578,15 @@ class Restarts(unittest.TestCase):
         for turn in range(2):
             for i in range(20):
                 store.accept(node.write(200 + turn, b"key %d" % i, b"later %d" % turn))
-            made = store.increment(floor, word=turn)
+            made = store.increment(floor, tag=turn)
             self.assertLess(len(made), len(store.checkpoint()))
             if turn == 0:
                 self.assertEqual(hlcstore.apply_increment(saved, bytearray(made)), store.checkpoint(turn))
             store.vacuum_to(floor)
-            made = store.increment(since=floor, word=turn)
+            made = store.increment(since=floor, tag=turn)
             saved, floor = hlcstore.apply_increment(older=saved, increment=made), store.floor
             with Store.restore(saved) as copy:
-                self.assertEqual((copy.word, copy.horizon, copy.floor), (turn, store.horizon, floor))
+                self.assertEqual((copy.tag, copy.horizon, copy.floor), (turn, store.horizon, floor))
                 self.assertEqual(copy.link(0), store.link(0))
                 self.assertGreater(copy.rows, store.rows)
                 self.assertEqual(copy.snapshot().digest(), store.snapshot().digest())
@@ -603,7 +603,7 @@ class Restarts(unittest.TestCase):
             self.assertEqual(hlcstore.merge_checkpoints(*map(bytearray, parts)), whole)
         left, right = hlcstore.split_checkpoint(checkpoint=whole, key=bound)
         low, high = Store.restore(left), Store.restore(right)
-        self.assertEqual((low.word, high.word, low.floor, high.horizon), (7, 7, store.floor, store.horizon))
+        self.assertEqual((low.tag, high.tag, low.floor, high.horizon), (7, 7, store.floor, store.horizon))
         for i in range(30):
             item = node.write(200, b"key %d" % i, b"later") if i % 3 else node.delete(200, b"key %d" % i)
             report = Item.report(item.node, item.number, item.stamp)

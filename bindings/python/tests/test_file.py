@@ -156,9 +156,9 @@ class Calls(InFolder):
                     file.write(b"later", b"", reading=9)
                     return saved.write(data[:100_000])
 
-            self.assertEqual(file.checkpoint_to(Short(), word=7), len(saved.getvalue()))
+            self.assertEqual(file.checkpoint_to(Short(), tag=7), len(saved.getvalue()))
             store = hlcstore.Store.restore(saved.getvalue())
-            self.assertEqual((store.word, store.floor), (7, stamp(8)))
+            self.assertEqual((store.tag, store.floor), (7, stamp(8)))
             self.assertEqual(store.checkpoint(7), saved.getvalue())
             self.assertEqual(store.snapshot().digest(), file.snapshot(stamp(8)).digest())
             again = io.BytesIO()

@@ -131,7 +131,7 @@ def keep(store):
     hlcstore.check(certificate)
     refuse(hlcstore.BadLine, hlcstore.check, b"point")
     saved = store.checkpoint()
-    store.checkpoint_to(io.BytesIO()), store.checkpoint_to(file=ShortFile(store.snapshot()), word=5)
+    store.checkpoint_to(io.BytesIO()), store.checkpoint_to(file=ShortFile(store.snapshot()), tag=5)
     refuse(BlockingIOError, store.checkpoint_to, FullFile())
     refuse(TypeError, store.checkpoint_to, io.StringIO())
     refuse(AttributeError, store.checkpoint_to, KEY)
@@ -140,7 +140,7 @@ def keep(store):
         copy.snapshots(), copy.link(0), copy.floor, copy.join(), copy.join_at(2**50), copy.floor_node()
     with Store.restore(saved[at : at + 500] for at in range(0, len(saved), 500)) as copy:
         empty_a_key(copy)
-    made = store.increment(vacuum.stamp), store.increment(since=vacuum.stamp, word=5)
+    made = store.increment(vacuum.stamp), store.increment(since=vacuum.stamp, tag=5)
     hlcstore.apply_increment(saved, bytearray(made[0])), hlcstore.apply_increment(older=saved, increment=made[1])
     refuse(hlcstore.BelowHorizon, store.increment, 0)
     refuse(hlcstore.NoIncrement, hlcstore.apply_increment, bytearray(saved), made[0][:-1])

@@ -291,7 +291,7 @@ class AfterClose(unittest.TestCase):
         for call, *args in calls:
             with self.assertRaises(hlcstore.Closed, msg=f"{call} {args}"):
                 call(*args)
-        self.assertEqual(store.word, 0)
+        self.assertEqual(store.tag, 0)
 
     def assert_refused(self, snapshot, items, kind):
         calls = [

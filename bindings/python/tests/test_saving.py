@@ -59,14 +59,14 @@ class Pieces(unittest.TestCase):
             lengths = []
             file = File(lambda _, data: lengths.append(len(data)) or len(data))
             snapshot = store.snapshot()
-            self.assertEqual(store.checkpoint_to(file, word=7), len(file.written))
+            self.assertEqual(store.checkpoint_to(file, tag=7), len(file.written))
             self.assertEqual(file.written, store.checkpoint(7))
             self.assertEqual(lengths[:-1], [PIECE] * (len(lengths) - 1))
             with Store.restore([file.written[:100], file.written[100:]]) as copy:
-                self.assertEqual((copy.word, copy.rows, copy.floor), (7, rows, store.floor))
+                self.assertEqual((copy.tag, copy.rows, copy.floor), (7, rows, store.floor))
                 self.assertEqual(copy.snapshots()[0].id, snapshot.id)
 
-    def test_the_word_is_0_unless_it_is_given(self):
+    def test_the_tag_is_0_unless_it_is_given(self):
         store, file = Store(1), io.BytesIO()
         store.checkpoint_to(file=file)
         self.assertEqual(file.getvalue(), store.checkpoint())
@@ -377,7 +377,7 @@ class Threads(unittest.TestCase):
 
     def test_writers_and_savings(self):
         """Each saving has all items up to one of them, whatever other threads accept."""
-        store, word = Store(4), 0
+        store, tag = Store(4), 0
 
         def feed(number):
             node = Node(number)
@@ -387,12 +387,12 @@ class Threads(unittest.TestCase):
         writers = [threading.Thread(target=feed, args=(number,)) for number in range(4)]
         for writer in writers:
             writer.start()
-        while word < 5 or (word < 50 and any(writer.is_alive() for writer in writers)):
-            word += 1
+        while tag < 5 or (tag < 50 and any(writer.is_alive() for writer in writers)):
+            tag += 1
             file = File(lambda call, data: (time.sleep(0.001), len(data))[1])
-            many = store.checkpoint_to(file, word)
+            many = store.checkpoint_to(file, tag)
             with Store.restore(file.written) as copy:
-                self.assertEqual((copy.word, many), (word, len(file.written)))
+                self.assertEqual((copy.tag, many), (tag, len(file.written)))
                 self.assertEqual(copy.rows, sum(copy.link(number).next for number in range(4)))
         for writer in writers:
             writer.join()

@@ -83,7 +83,7 @@ class Stamps(unittest.TestCase):
         with self.assertRaises(hlcstore.AboveFloor) as met:
             store.snapshot(Stamp(9))
         self.assertEqual((type(met.exception.word), str(met.exception.word)), (Stamp, "3.0"))
-        self.assertEqual([type(number) for number in (store.rows, store.nodes, node.next, store.word)], [int] * 4)
+        self.assertEqual([type(number) for number in (store.rows, store.nodes, node.next, store.tag)], [int] * 4)
 
     def test_calls_at_the_greatest_depth(self):
         """A call that returns a stamp does nothing where Python refuses it since calls are too deep."""

@@ -149,14 +149,14 @@ class OneStore(unittest.TestCase):
                 self.certify(store)
             if pick.random() < 0.05:
                 with Store.restore(self.save(pick, store, reading)) as copy:
-                    check(copy.word == reading, "the word")
+                    check(copy.tag == reading, "the tag")
                     self.compare(pick, copy.snapshot())
 
-    def save(self, pick, store, word):
+    def save(self, pick, store, tag):
         if pick.random() < 0.5:
-            return store.checkpoint(word)
+            return store.checkpoint(tag)
         saved = io.BytesIO()
-        store.checkpoint_to(saved, word)
+        store.checkpoint_to(saved, tag)
         return saved.getvalue()
 
     def certify(self, store):

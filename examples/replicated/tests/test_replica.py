@@ -42,9 +42,9 @@ class NotedStore:
         self.entries += 1
         return self.__getattr__("apply_records")(records)
 
-    def checkpoint(self, word):
-        self.saved.append((word, self.entries))
-        return self.__getattr__("checkpoint")(word)
+    def checkpoint(self, tag):
+        self.saved.append((tag, self.entries))
+        return self.__getattr__("checkpoint")(tag)
 
 
 class Applying(MemoryCase):
@@ -95,7 +95,7 @@ class Applying(MemoryCase):
         self.replica.apply(self.entries[0])
         save.join()
         self.assertEqual(self.store.saved, [(1, 1)])
-        self.assertEqual(hlcstore.Store.restore(self.replica.newest()).word, 1)
+        self.assertEqual(hlcstore.Store.restore(self.replica.newest()).tag, 1)
 
 
 class Beginning(MemoryCase):

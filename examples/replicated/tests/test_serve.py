@@ -114,7 +114,7 @@ class OfAReplica(Answers, MemoryCase):
         self.assertEqual(self.refused("/checkpoint", 404), "there is no checkpoint yet")
         self.answerer.parts[0].save()
         status, saved = self.ask("/checkpoint")
-        self.assertEqual((status, hlcstore.Store.restore(saved).word), (200, 1))
+        self.assertEqual((status, hlcstore.Store.restore(saved).tag), (200, 1))
         self.assertIn("unknown parameter", self.refused("/checkpoint?from=a", 400))
 
     def test_too_many_snapshots_are_open(self):

@@ -366,16 +366,16 @@ static PyObject *write_output(hlc_output *output, size_t len, PyObject *write)
 
 static PyObject *file_checkpoint_to(PyObject *self, PyObject *args, PyObject *words)
 {
-    static char *names[] = { "file", "word", NULL };
+    static char *names[] = { "file", "tag", NULL };
     PyObject *to;
     hlc_output output = HLC_NO_OUTPUT;
-    uint64_t word = 0;
+    uint64_t tag = 0;
     size_t len = 0;
     uint32_t code;
-    if (!PyArg_ParseTupleAndKeywords(args, words, "O|O&:checkpoint_to", names, &to, take_u64, &word)) return NULL;
+    if (!PyArg_ParseTupleAndKeywords(args, words, "O|O&:checkpoint_to", names, &to, take_u64, &tag)) return NULL;
     PyObject *write = attribute_of(to, "write");
     if (!write) return NULL;
-    WITH_FILE(self, code, hlc_file_copy(file, word, &output, &len));
+    WITH_FILE(self, code, hlc_file_copy(file, tag, &output, &len));
     PyObject *written = code == HLC_OK ? write_output(&output, len, write) : refuse(code, 0);
     hlc_output_drop(&output);
     Py_DECREF(write);
@@ -713,7 +713,7 @@ static PyMethodDef file_methods[] = {
       "checkpoint($self, /)\n--\n\n"
       "Save a checkpoint, and cut the log behind the older one. Return the place in the log up to which it goes." },
     METHOD("checkpoint_to", file_checkpoint_to,
-           "checkpoint_to($self, /, file, word=0)\n--\n\n"
+           "checkpoint_to($self, /, file, tag=0)\n--\n\n"
            "Write the bytes of a checkpoint to a binary file in pieces, and return how many they are.\n\n"
            "hlcstore.Store.restore opens a store in memory from them. Changes wait while the state is copied, and go\n"
            "on while it is written, so write may make any call. In memory is all of it. The file is what\n"

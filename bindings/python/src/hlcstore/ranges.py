@@ -408,11 +408,11 @@ class Ranges:
         """Return the stores of the checkpoints that `checkpoint` returned, and close their snapshots, whose readers are
         gone. `machine` returns the machines.
 
-        Where there is not one for each store, or they have different words or numbers of nodes, they are refused with
+        Where there is not one for each store, or they have different tags or numbers of nodes, they are refused with
         `NotOneCut`; where a store has a value at its floor of another store's key, with `WrongStore`."""
         stores = [Store.restore(checkpoint) for checkpoint in checkpoints]
-        words = {(store.word, store.nodes) for store in stores}
-        if len(stores) != division.stores or len(words) != 1:
+        tags = {(store.tag, store.nodes) for store in stores}
+        if len(stores) != division.stores or len(tags) != 1:
             raise NotOneCut
         for number, store in enumerate(stores):
             store.close_all()
@@ -624,7 +624,7 @@ class Ranges:
         return Vacuum(stamp_of(to), kept, cost, dropped)
 
     def checkpoint(self) -> list[bytes]:
-        """Return the whole state of each store, as `Store.checkpoint` does, with the cut as its word. Writers go on
+        """Return the whole state of each store, as `Store.checkpoint` does, with the cut as its tag. Writers go on
         between the stores: a later one may have later items. So what is restored has at least that cut."""
         cut = self.cut
         return [store.checkpoint(cut) for store in self._stores]

@@ -73,7 +73,7 @@ static PyMethodDef functions[] = {
     METHOD("apply_increment", apply_increment,
            "apply_increment($module, /, older, increment)\n--\n\n"
            "Return the bytes of the newer checkpoint that an older one becomes by an increment of the same store.\n\n"
-           "They have the increment's word. A store that is restored from them answers as the newer one did, and its\n"
+           "They have the increment's tag. A store that is restored from them answers as the newer one did, and its\n"
            "next vacuum drops the rows that vacuums dropped since the older checkpoint. They may be the older\n"
            "checkpoint of the next increment."),
     { "check", check_certificate, METH_O,
@@ -82,13 +82,13 @@ static PyMethodDef functions[] = {
     METHOD("merge_checkpoints", merge_checkpoints,
            "merge_checkpoints($module, /, left, right)\n--\n\n"
            "Return the bytes of the checkpoint that two neighbouring parts become, of which the left one has the\n"
-           "lower keys. It has the word of the left one.\n\n"
+           "lower keys. It has the tag of the left one.\n\n"
            "NotParts is raised where they do not fit: its word is the number of the first thing that differs."),
     METHOD("split_checkpoint", split_checkpoint,
            "split_checkpoint($module, /, checkpoint, key)\n--\n\n"
            "Return the bytes of the two parts of a checkpoint at a key: the first has the rows of lower keys, the\n"
            "second the others.\n\n"
-           "Each has the links, the open snapshots, the horizon and the word of the whole. A store that is restored\n"
+           "Each has the links, the open snapshots, the horizon and the tag of the whole. A store that is restored\n"
            "from a part goes on from the same log: it takes each write of a key of the other part as a report with\n"
            "the same number and stamp."),
     { "version", version, METH_NOARGS,

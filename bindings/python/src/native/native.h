@@ -228,7 +228,7 @@ typedef struct {
     bool has_locks;
     bool is_gated; /* whether the change that has the lock has the gate too */
     Saver *savers; /* under the lock of the interpreter */
-    uint64_t word; /* the word of the checkpoint of which it was restored */
+    uint64_t tag;  /* the tag of the checkpoint of which it was restored */
 } Store;
 
 /* Whether a call may keep the interpreter while it runs. */

@@ -60,12 +60,12 @@ bool close_later(Store *store, uint64_t id)
 
 /* ---- Pieces ---- */
 
-static uint32_t start(Store *store, hlc_saving *saving, uint64_t word)
+static uint32_t start(Store *store, hlc_saving *saving, uint64_t tag)
 {
     uint64_t len;
     PyThreadState *thread = lock_to_ask(store, LONG);
     hlc_store mine = store->handle;
-    uint32_t code = hlc_saving_start(saving, &mine, word, &len);
+    uint32_t code = hlc_saving_start(saving, &mine, tag, &len);
     unlock(store, thread);
     return code;
 }
@@ -109,35 +109,35 @@ static PyObject *write_pieces(Store *store, hlc_saving *saving, PyObject *write)
     return number_object(written);
 }
 
-static PyObject *save(Store *store, PyObject *write, uint64_t word)
+static PyObject *save(Store *store, PyObject *write, uint64_t tag)
 {
     hlc_saving saving = HLC_NO_SAVING;
-    uint32_t code = start(store, &saving, word);
+    uint32_t code = start(store, &saving, tag);
     PyObject *written = code == HLC_OK ? write_pieces(store, &saving, write) : refuse(code, 0);
     hlc_saving_drop(&saving);
     return written;
 }
 
 /* A thread that saves the store already keeps the gate. */
-static PyObject *save_gated(Store *store, PyObject *write, uint64_t word)
+static PyObject *save_gated(Store *store, PyObject *write, uint64_t tag)
 {
-    if (is_saver(store)) return save(store, write, word);
+    if (is_saver(store)) return save(store, write, tag);
     Saver *saver = begin(store);
     if (!saver) return PyErr_NoMemory();
-    PyObject *written = save(store, write, word);
+    PyObject *written = save(store, write, tag);
     end(store, saver);
     return written;
 }
 
 PyObject *store_checkpoint_to(PyObject *self, PyObject *args, PyObject *words)
 {
-    static char *names[] = { "file", "word", NULL };
+    static char *names[] = { "file", "tag", NULL };
     PyObject *file;
-    uint64_t word = 0;
-    if (!PyArg_ParseTupleAndKeywords(args, words, "O|O&:checkpoint_to", names, &file, take_u64, &word)) return NULL;
+    uint64_t tag = 0;
+    if (!PyArg_ParseTupleAndKeywords(args, words, "O|O&:checkpoint_to", names, &file, take_u64, &tag)) return NULL;
     PyObject *write = attribute_of(file, "write");
     if (!write) return NULL;
-    PyObject *written = save_gated((Store *)self, write, word);
+    PyObject *written = save_gated((Store *)self, write, tag);
     Py_DECREF(write);
     return written;
 }

@@ -108,7 +108,7 @@ static PyObject *restore_pieces(PyObject *type, PyObject *pieces)
         PyThreadState *thread = lock_to_change(store, LONG);
         code = (int)hlc_restoring_finish(&restoring, &store->handle, &word);
         unlock(store, thread);
-        store->word = word;
+        store->tag = word;
     }
     hlc_restoring_drop(&restoring);
     if (code == HLC_OK) return (PyObject *)store;
@@ -128,7 +128,7 @@ static PyObject *store_restore(PyObject *type, PyObject *from)
         PyThreadState *thread = lock_to_change(store, LONG);
         code = hlc_store_restore(&store->handle, saved.at, saved.len, &word);
         unlock(store, thread);
-        store->word = word;
+        store->tag = word;
     }
     drop_bytes(&saved);
     if (code == HLC_OK) return (PyObject *)store;
@@ -457,15 +457,15 @@ static PyObject *store_close_all(PyObject *self, PyObject *none)
 
 static PyObject *store_checkpoint(PyObject *self, PyObject *args, PyObject *words)
 {
-    static char *names[] = { "word", NULL };
+    static char *names[] = { "tag", NULL };
     Store *store = (Store *)self;
     hlc_output output = HLC_NO_OUTPUT;
-    uint64_t word = 0;
+    uint64_t tag = 0;
     size_t len;
-    if (!PyArg_ParseTupleAndKeywords(args, words, "|O&:checkpoint", names, take_u64, &word)) return NULL;
+    if (!PyArg_ParseTupleAndKeywords(args, words, "|O&:checkpoint", names, take_u64, &tag)) return NULL;
     PyThreadState *thread = lock_to_ask(store, LONG);
     hlc_store mine = store->handle;
-    uint32_t code = hlc_checkpoint_make(&mine, word, &output, &len);
+    uint32_t code = hlc_checkpoint_make(&mine, tag, &output, &len);
     unlock(store, thread);
     return code == HLC_OK ? output_object(&output, len) : refuse(code, 0);
 }
@@ -489,8 +489,8 @@ static PyObject *store_repr(PyObject *self)
 static PyMethodDef store_methods[] = {
     { "restore", store_restore, METH_O | METH_CLASS,
       "restore($type, saved, /)\n--\n\n"
-      "Return a store made of the bytes of a checkpoint, or of an iterable of pieces of them. The word that was saved\n"
-      "is its attribute word.\n\n"
+      "Return a store made of the bytes of a checkpoint, or of an iterable of pieces of them. The tag that was saved\n"
+      "is its attribute tag.\n\n"
       "It continues as the saved store would have: the same next items, open snapshots and answers." },
     { "close", store_close, METH_NOARGS, "close($self, /)\n--\n\nClose the store and free its memory." },
     { "__enter__", store_enter, METH_NOARGS, "__enter__($self, /)\n--\n\nReturn the store." },
@@ -580,11 +580,11 @@ static PyMethodDef store_methods[] = {
       "It shows that no rows with the same answers are fewer or cheaper. NotFewest is raised where a vacuum would\n"
       "drop a row. The store stays as it is." },
     METHOD("checkpoint", store_checkpoint,
-           "checkpoint($self, /, word=0)\n--\n\n"
-           "Return the store's whole state as bytes, with a word of the caller's.\n\n"
-           "The word may be the place in a log up to which the store applied it."),
+           "checkpoint($self, /, tag=0)\n--\n\n"
+           "Return the store's whole state as bytes, with a tag of the caller's.\n\n"
+           "The tag may be the place in a log up to which the store applied it."),
     METHOD("checkpoint_to", store_checkpoint_to,
-           "checkpoint_to($self, /, file, word=0)\n--\n\n"
+           "checkpoint_to($self, /, file, tag=0)\n--\n\n"
            "Write the bytes of checkpoint to a binary file in pieces, and return how many they are.\n\n"
            "In memory are a piece, and the rows of up to 32 keys as bytes. The file is any object whose write takes\n"
            "bytes and returns how many it took; it gets the rest again. None is a BlockingIOError, and 0 an OSError.\n"
@@ -592,7 +592,7 @@ static PyMethodDef store_methods[] = {
            "changes wait for the end; to open or close a snapshot is a change too. So write must not wait for them.\n"
            "Changed is raised where write itself changes the store."),
     METHOD("increment", store_increment,
-           "increment($self, /, since, word=0)\n--\n\n"
+           "increment($self, /, since, tag=0)\n--\n\n"
            "Return an increment as bytes: the whole state, but of the rows only those above a stamp.\n\n"
            "As the stamp choose the floor that the store had at an older checkpoint: of both apply_increment makes a\n"
            "newer one. BelowHorizon is raised where the stamp is below the horizon: then make a whole checkpoint."),
@@ -611,8 +611,8 @@ static PyGetSetDef store_fields[] = {
 };
 
 static PyMemberDef store_members[] = {
-    { "word", T_ULONGLONG, offsetof(Store, word), READONLY,
-      "The word of the checkpoint that the store was restored from, or 0." },
+    { "tag", T_ULONGLONG, offsetof(Store, tag), READONLY,
+      "The tag of the checkpoint that the store was restored from, or 0." },
     { 0 },
 };
 
