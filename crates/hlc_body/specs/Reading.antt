@@ -78,7 +78,7 @@ checkpoint_at bytes = do
   rows ← times_at row_at preamble.0.count preamble.1
   Ok (kept_of preamble.0 rows.0, rows.1)
 
--- all of the bytes are a frame, and all of its body is a checkpoint: the word and the checkpoint
+-- all of the bytes are a frame, and all of its body is a checkpoint: the tag and the checkpoint
 abbrev pub saved : List ℕ → Result (ℕ × StoreView) WireFault
 saved bytes = do
   frame ← opened bytes

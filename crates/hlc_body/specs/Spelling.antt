@@ -68,9 +68,9 @@ kept_of preamble rows = record {
 abbrev pub checkpoint_bytes : StoreView → List ℕ
 checkpoint_bytes kept = preamble_bytes (preamble_of kept) ++ flat_map row_bytes kept.rows
 
--- in a frame, with a word of the caller's
+-- in a frame, with a tag of the caller's
 abbrev pub saved_bytes : ℕ → StoreView → List ℕ
-saved_bytes word kept = frame_bytes word (checkpoint_bytes kept)
+saved_bytes tag kept = frame_bytes tag (checkpoint_bytes kept)
 
 -- What has an encoding: numbers in their ranges, rows in their limits, the greatest head as the greatest stamp.
 pub record LinkFits (link : IntakeView) : Type 0 where
@@ -107,8 +107,8 @@ pub record CheckpointFits (kept : StoreView) : Type 0 where
   pub horizon : kept.horizon < 18446744073709551616
   pub rows : ListFits 18446744073709551616 RowFits kept.rows
 
-pub record SavedFits (word : ℕ) (kept : StoreView) : Type 0 where
-  pub frame : FrameFits word (checkpoint_bytes kept)
+pub record SavedFits (tag : ℕ) (kept : StoreView) : Type 0 where
+  pub frame : FrameFits tag (checkpoint_bytes kept)
   pub checkpoint : CheckpointFits kept
 
 -- rows that have encodings, of this many bytes in all

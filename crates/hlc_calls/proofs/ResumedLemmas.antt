@@ -11,7 +11,7 @@ use Rattle.hlc_calls.specs.Saved.{IsMade, IsNotMade, resume_code, resume_word}
 
 abbrev pub Answers : Result Resumed ResumeError → Result StoreView ℕ → ℕ → Type 0
 Answers resumed result word =
-    MatchResult resumed (λ made. (result ≡ Ok made.core) × (word ≡ made.word))
+    MatchResult resumed (λ made. (result ≡ Ok made.core) × (word ≡ made.tag))
     (λ error. (result ≡ Err (resume_code error)) × (word ≡ resume_word error))
 
 abbrev pub Restores : List ℕ → Result StoreView ℕ → ℕ → Type 0
@@ -37,7 +37,7 @@ is_made bytes (Err error) result word none (e, w) =
     subst (λ (r : Result StoreView ℕ). Restores bytes r word) (sym e) (not_made bytes error word none w)
 
 pub is_past : (saved : ℕ) (past : List Step) (resumed : Result Resumed ResumeError) (result : Result StoreView ℕ)
-    (word : ℕ) → Answers resumed result word → IfOk resumed (λ made. made.word ≡ saved)
+    (word : ℕ) → Answers resumed result word → IfOk resumed (λ made. made.tag ≡ saved)
     → IfOk resumed (λ made. Represents made.core past) → IfErr resumed (λ error. error ≡ NoMemory)
     → LeavesPast saved past result word
 is_past saved past (Ok made) result word (e, w) same represents none =

@@ -11,9 +11,9 @@ use Rattle.hlc_body.specs.Reading.{saved}
 use Rattle.hlc_saved.specs.declared.fault.ResumeError.{ResumeError}
 use Rattle.hlc_saved.specs.declared.fault.ResumeError.TheVariants.{NoMemory, Bytes, Parts}
 
--- the bytes are those of a checkpoint with this word, and the store has exactly its state
+-- the bytes are those of a checkpoint with this tag, and the store has exactly its state
 abbrev pub IsMade : List ℕ → ℕ → StoreView → Type 0
-IsMade bytes word core = (kept : StoreView) × AreOf bytes word kept × IsCopyOf kept core
+IsMade bytes tag core = (kept : StoreView) × AreOf bytes tag kept × IsCopyOf kept core
 
 -- no store was made: out of memory, and all of the bytes are a frame; or the first fault of the bytes is returned, or
 -- the first reason why their content is no checkpoint

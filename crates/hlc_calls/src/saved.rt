@@ -9,14 +9,14 @@ use hlc_core::Core;
 use hlc_saved::{ResumeError, Resumed, resume, save};
 use std::alloc::Global;
 
-/// Saves a store with a word of the caller's. Returns the bytes, or 15.
-pub fn checkpoint(alloc: Global, core: &Core, word: u64) -> Result<Box<Vec<u8>>, u32>
-    ensures saved { IfOk result (λ bytes. AreOfStore bytes.value.items word core.now) }
+/// Saves a store with a tag of the caller's. Returns the bytes, or 15.
+pub fn checkpoint(alloc: Global, core: &Core, tag: u64) -> Result<Box<Vec<u8>>, u32>
+    ensures saved { IfOk result (λ bytes. AreOfStore bytes.value.items tag core.now) }
     ensures represents { IfOk result (λ bytes. (past : List Step) → Represents core.now past
-        → BytesRepresent bytes.value.items word past) }
+        → BytesRepresent bytes.value.items tag past) }
     ensures shortage { IfErr result (λ code. code ≡ 15) }
 {
-    let Ok(bytes) = save(alloc, core, word) else {
+    let Ok(bytes) = save(alloc, core, tag) else {
         return Err(15);
     };
     match Box::new(alloc, bytes) {
@@ -25,7 +25,7 @@ pub fn checkpoint(alloc: Global, core: &Core, word: u64) -> Result<Box<Vec<u8>>,
     }
 }
 
-/// Makes a store from bytes, and writes the word with which they were saved. Returns the store; or 15; or 106 and the
+/// Makes a store from bytes, and writes the tag with which they were saved. Returns the store; or 15; or 106 and the
 /// number of the first fault of the bytes, or 107 and the number of the first reason why they are no checkpoint.
 pub fn restore(alloc: Global, bytes: &[u8], word: &mut u64) -> Result<Core, u32>
     ensures made { MatchResult result (λ core. IsMade bytes.now word.new core)
@@ -37,16 +37,16 @@ pub fn restore(alloc: Global, bytes: &[u8], word: &mut u64) -> Result<Core, u32>
     answered(resume(alloc, bytes), word)
 }
 
-/// Returns a store that was made from bytes, and writes its word; or returns 15; or 106 and the number of the fault of
+/// Returns a store that was made from bytes, and writes its tag; or returns 15; or 106 and the number of the fault of
 /// the bytes, or 107 and the number of the reason.
 pub fn answered(resumed: Result<Resumed, ResumeError>, word: &mut u64) -> Result<Core, u32>
-    ensures { MatchResult resumed (λ made. (result ≡ Ok made.core) × (word.new ≡ made.word))
+    ensures { MatchResult resumed (λ made. (result ≡ Ok made.core) × (word.new ≡ made.tag))
         (λ error. (result ≡ Err (resume_code error)) × (word.new ≡ resume_word error)) }
 {
     *word = 0;
     match resumed {
         Ok(made) => {
-            *word = made.word;
+            *word = made.tag;
             Ok(made.core)
         }
         Err(ResumeError::NoMemory) => Err(15),

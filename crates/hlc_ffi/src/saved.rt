@@ -21,44 +21,44 @@ use hlc_split_calls::merge::joined;
 use hlc_split_calls::split::into_outputs;
 use std::alloc::Global;
 
-/// Saves a store and a word of the caller's as bytes in an output. Returns 0 and how many they are; or 108, or 15.
+/// Saves a store and a tag of the caller's as bytes in an output. Returns 0 and how many they are; or 108, or 15.
 #[unsafe(no_mangle)]
 pub extern "C" fn hlc_checkpoint_make(
     alloc: Global,
     store: &mut Reader,
-    word: u64,
+    tag: u64,
     output: &mut Output,
     len: &mut usize,
 ) -> u32
     ensures saved { OnReader store.old.room.value (result ≡ 100) (λ core. OnOutput output.old.value output.new.value
-        result len.new ⊤ (λ bytes. AreOfStore bytes word core) (result ≡ 15)) }
+        result len.new ⊤ (λ bytes. AreOfStore bytes tag core) (result ≡ 15)) }
     ensures represents { OnReader store.old.room.value (result ≡ 100) (λ core.
         OnOutput output.old.value output.new.value result len.new ⊤
-        (λ bytes. (past : List Step) → Represents core past → BytesRepresent bytes word past) (result ≡ 15)) }
+        (λ bytes. (past : List Step) → Represents core past → BytesRepresent bytes tag past) (result ≡ 15)) }
     ensures nothing { result ≢ 0 → (len.new ≡ 0) × (output.new.value ≡ output.old.value) }
     ensures same { IsGivenBack store.old.room store.new.room }
 {
     *len = 0;
     of_core!(
         store,
-        |core| into_output!(alloc, output, len, saved::checkpoint(alloc, core, word))
+        |core| into_output!(alloc, output, len, saved::checkpoint(alloc, core, tag))
     )
 }
 
-/// Saves the state of a store with the rows above a stamp, and a word of the caller's, as bytes in an output. Returns 0
+/// Saves the state of a store with the rows above a stamp, and a tag of the caller's, as bytes in an output. Returns 0
 /// and how many they are; or 108, 9 and the horizon (GC threshold), or 15.
 #[unsafe(no_mangle)]
 pub extern "C" fn hlc_increment_make(
     alloc: Global,
     store: &mut Reader,
     since: u64,
-    word: u64,
+    tag: u64,
     output: &mut Output,
     len: &mut usize,
     horizon: &mut u64,
 ) -> u32
     ensures saved { OnReader store.old.room.value (result ≡ 100) (λ core.
-        OnOutput output.old.value output.new.value result len.new ⊤ (λ bytes. AreIncrementOf bytes word since core)
+        OnOutput output.old.value output.new.value result len.new ⊤ (λ bytes. AreIncrementOf bytes tag since core)
         (IsRefusedIncrement core since result horizon.new)) }
     ensures nothing { result ≢ 0 → (len.new ≡ 0) × (output.new.value ≡ output.old.value) }
     ensures same { IsGivenBack store.old.room store.new.room }
@@ -72,7 +72,7 @@ pub extern "C" fn hlc_increment_make(
             alloc,
             output,
             len,
-            increment(alloc, core, since, word, horizon)
+            increment(alloc, core, since, tag, horizon)
         )
     )
 }
@@ -133,7 +133,7 @@ pub extern "C" fn hlc_checkpoint_merge(
     into_output!(alloc, output, len, joined(alloc, left, right, word))
 }
 
-/// Opens a closed store from the bytes of `hlc_checkpoint_make`. Returns 0 and their word; or 101 for an open store,
+/// Opens a closed store from the bytes of `hlc_checkpoint_make`. Returns 0 and their tag; or 101 for an open store,
 /// which stays as it is; or 106 and the first fault of the bytes, 107 and the first reason against their content, or
 /// 15.
 #[unsafe(no_mangle)]

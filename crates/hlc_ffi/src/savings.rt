@@ -8,21 +8,21 @@ use hlc_handle::{Reader, Saving, Slot};
 use hlc_handle_calls::savings::{begin, read_on};
 use std::alloc::Global;
 
-/// Begins to save a store and a word of the caller's. Returns 0 and how many bytes it will be; or 119 where a saving is
+/// Begins to save a store and a tag of the caller's. Returns 0 and how many bytes it will be; or 119 where a saving is
 /// under way, which goes on; or 15.
 #[unsafe(no_mangle)]
 pub extern "C" fn hlc_saving_start(
     alloc: Global,
     saving: &mut Saving,
     store: &mut Reader,
-    word: u64,
+    tag: u64,
     len: &mut u64,
 ) -> u32
     ensures answer { OnReader store.old.room.value ((result ≡ 100) × (len.new ≡ 0) × (saving.new.value ≡
-        saving.old.value)) (λ core. HasBegun saving.old.value saving.new.value word core result len.new) }
+        saving.old.value)) (λ core. HasBegun saving.old.value saving.new.value tag core result len.new) }
     ensures same { IsGivenBack store.old.room store.new.room }
 {
-    of_core!(store, [len], |core| begin(alloc, saving, core, word, len))
+    of_core!(store, [len], |core| begin(alloc, saving, core, tag, len))
 }
 
 /// Reads the next bytes of a saving, as many as fit. Returns 0 where they are the last, and the saving has ended; or

@@ -24,7 +24,7 @@ number_long w a b le =
 
 -- the content of twenty bytes, before a rest
 abbrev a_front : ℕ → ℕ → Front
-a_front len word = record { len = len; word = word }
+a_front len tag = record { len = len; tag = tag }
 
 abbrev front_in : List ℕ → Front
 front_in a = a_front (from_be_bytes w64 (take 8 (drop 4 a))) (from_be_bytes w64 (take 8 (drop 8 (drop 4 a))))
@@ -34,7 +34,7 @@ found_if v front rest = cond v (Ok (front, rest)) (Err Version)
 
 -- the numbers after the version
 abbrev numbers_at : List ℕ → Result (Front × List ℕ) WireFault
-numbers_at bytes = number_at w64 bytes >>= λ len. number_at w64 len.1 >>= λ word. Ok (a_front len.0 word.0, word.1)
+numbers_at bytes = number_at w64 bytes >>= λ len. number_at w64 len.1 >>= λ tag. Ok (a_front len.0 tag.0, tag.1)
 
 abbrev after_version : ℕ × List ℕ → Result (List ℕ) WireFault
 after_version version = cond (eqb version.0 1) (Ok version.1) (Err Version)
@@ -69,12 +69,12 @@ number_ok w bytes x e =
 record Parts (bytes : List ℕ) (found : Front × List ℕ) : Type 0 where
   version : ℕ × List ℕ
   len : ℕ × List ℕ
-  word : ℕ × List ℕ
+  tag : ℕ × List ℕ
   version_is : number_at w32 bytes ≡ Ok version
   one : version.0 ≡ 1
   len_is : number_at w64 version.1 ≡ Ok len
-  word_is : number_at w64 len.1 ≡ Ok word
-  found_is : (a_front len.0 word.0, word.1) ≡ found
+  tag_is : number_at w64 len.1 ≡ Ok tag
+  found_is : (a_front len.0 tag.0, tag.1) ≡ found
 
 front_parts : (bytes : List ℕ) (found : Front × List ℕ) → front_at bytes ≡ Ok found → Parts bytes found
 unfolding front_at
@@ -83,17 +83,17 @@ front_parts bytes found e =
     let b = bind_ok (after_version a.0) numbers_at found a.2 in
     let g = guard_ended (eqb a.0.0 1) Version a.0.1 b.0 b.1 in
     let numbers : numbers_at a.0.1 ≡ Ok found = ap numbers_at g.1 ∙ b.2 in
-    let c = bind_ok (number_at w64 a.0.1) (λ len. number_at w64 len.1 >>= λ word. Ok (a_front len.0 word.0, word.1))
+    let c = bind_ok (number_at w64 a.0.1) (λ len. number_at w64 len.1 >>= λ tag. Ok (a_front len.0 tag.0, tag.1))
     found numbers in
-    let d = bind_ok (number_at w64 c.0.1) (λ word. Ok (a_front c.0.0 word.0, word.1)) found c.2 in
+    let d = bind_ok (number_at w64 c.0.1) (λ tag. Ok (a_front c.0.0 tag.0, tag.1)) found c.2 in
     record {
       version = a.0;
       len = c.0;
-      word = d.0;
+      tag = d.0;
       version_is = a.1;
       one = eqb-true _ _ g.0;
       len_is = c.1;
-      word_is = d.1;
+      tag_is = d.1;
       found_is = ok_is (a_front c.0.0 d.0.0, d.0.1) found d.2;
     }
 
@@ -103,7 +103,7 @@ front_ok bytes found e =
     let p = front_parts bytes found e in
     let a = number_ok w32 bytes p.version p.version_is in
     let b = number_ok w64 p.version.1 p.len p.len_is in
-    let c = number_ok w64 p.len.1 p.word p.word_is in
+    let c = number_ok w64 p.len.1 p.tag p.tag_is in
     let x : length (drop 4 bytes) ≡ length p.version.1 = ap length a.1 in
     let y : length (drop 8 p.version.1) ≡ length p.len.1 = ap length b.1 in
     omega (arith, a.0, b.0, c.0, x, y, length-drop 4 bytes, length-drop 8 p.version.1)
@@ -147,14 +147,14 @@ front_cut fed =
 
 pub record FrontFits (front : Front) : Type 0 where
   pub len_fits : front.len < 18446744073709551616
-  pub word_fits : front.word < 18446744073709551616
+  pub tag_fits : front.tag < 18446744073709551616
 
 abbrev pub front_text : Front → List ℕ
-front_text front = front_bytes front.len front.word
+front_text front = front_bytes front.len front.tag
 
-pub length-front : (len word : ℕ) → length (front_bytes len word) ≡ 20
+pub length-front : (len tag : ℕ) → length (front_bytes len tag) ≡ 20
 unfolding front_bytes
-length-front len word = refl
+length-front len tag = refl
 
 abbrev eight : IsReader (number_at w64) (to_be_bytes w64) (λ n. n < 18446744073709551616)
 eight = number_reader w64 18446744073709551616 wide64
@@ -166,24 +166,24 @@ front_takes bytes found fits e =
     let p = front_parts bytes found e in
     let t = (number_reader w32 4294967296 wide32).takes bytes p.version fits p.version_is in
     let u = eight.takes p.version.1 p.len t.0.rest_fits p.len_is in
-    let v = eight.takes p.len.1 p.word u.0.rest_fits p.word_is in
-    let uv = Takes-then p.version.1 (to_be_bytes w64 p.len.0) p.len.1 (to_be_bytes w64 p.word.0) p.word.1 u.0 v.0 in
+    let v = eight.takes p.len.1 p.tag u.0.rest_fits p.tag_is in
+    let uv = Takes-then p.version.1 (to_be_bytes w64 p.len.0) p.len.1 (to_be_bytes w64 p.tag.0) p.tag.1 u.0 v.0 in
     let all' = Takes-then bytes (to_be_bytes w32 p.version.0) p.version.1
-    (to_be_bytes w64 p.len.0 ++ to_be_bytes w64 p.word.0) p.word.1 t.0 uv in
-    let first : Takes bytes (to_be_bytes w32 1 ++ (to_be_bytes w64 p.len.0 ++ to_be_bytes w64 p.word.0)) p.word.1 =
-    subst (λ (n : ℕ). Takes bytes (to_be_bytes w32 n ++ (to_be_bytes w64 p.len.0 ++ to_be_bytes w64 p.word.0)) p.word.1)
+    (to_be_bytes w64 p.len.0 ++ to_be_bytes w64 p.tag.0) p.tag.1 t.0 uv in
+    let first : Takes bytes (to_be_bytes w32 1 ++ (to_be_bytes w64 p.len.0 ++ to_be_bytes w64 p.tag.0)) p.tag.1 =
+    subst (λ (n : ℕ). Takes bytes (to_be_bytes w32 n ++ (to_be_bytes w64 p.len.0 ++ to_be_bytes w64 p.tag.0)) p.tag.1)
     p.one all' in
     subst (λ (y : Front × List ℕ). Takes bytes (front_text y.0) y.1 × FrontFits y.0) p.found_is
-    (first, record { len_fits = u.1; word_fits = v.1 })
+    (first, record { len_fits = u.1; tag_fits = v.1 })
 
 front_again : (front : Front) (rest : List ℕ) → FrontFits front → front_at (front_text front ++ rest) ≡ Ok (front, rest)
 unfolding front_bytes
 front_again front rest fits =
     let len : from_be_bytes w64 (to_be_bytes w64 front.len) ≡ front.len = wide64.again front.len fits.len_fits in
-    let word : from_be_bytes w64 (to_be_bytes w64 front.word) ≡ front.word = wide64.again front.word fits.word_fits in
+    let tag : from_be_bytes w64 (to_be_bytes w64 front.tag) ≡ front.tag = wide64.again front.tag fits.tag_fits in
     front_long (front_text front) rest (omega arith)
-    ∙ ap (λ (n : ℕ). found_if true (a_front n (from_be_bytes w64 (to_be_bytes w64 front.word))) rest) len
-    ∙ ap (λ (n : ℕ). found_if true (a_front front.len n) rest) word
+    ∙ ap (λ (n : ℕ). found_if true (a_front n (from_be_bytes w64 (to_be_bytes w64 front.tag))) rest) len
+    ∙ ap (λ (n : ℕ). found_if true (a_front front.len n) rest) tag
 
 pub front_reader : IsReader front_at front_text FrontFits
 front_reader = record { takes = front_takes; again = front_again }

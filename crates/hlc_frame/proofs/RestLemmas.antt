@@ -12,7 +12,7 @@ use Rattle.hlc_wire.specs.declared.fault.WireFault.TheVariants.{Short, Damaged, 
 use Rattle.hlc_wire.specs.Reading.{◌>>=◌, whole}
 use Rattle.hlc_frame.specs.declared.rest.RestReader.{RestReader}
 use Rattle.hlc_frame.specs.Opening.{sealed_at}
-use Rattle.hlc_frame.specs.Reading.{HasReadRest, word_after}
+use Rattle.hlc_frame.specs.Reading.{HasReadRest, tag_after}
 use Rattle.hlc_frame.proofs.ListLemmas.{take_over, drop_over, take_again, drop_again}
 
 -- ---- a block
@@ -93,7 +93,7 @@ fed_rest old new front len bytes block took has =
 
 -- the result if all of the digest is there
 abbrev pub says : Bool → Bool → ℕ → Result ℕ WireFault
-says same more word = cond same (cond more (Err Trailing) (Ok word)) (Err Damaged)
+says same more tag = cond same (cond more (Err Trailing) (Ok tag)) (Err Damaged)
 
 abbrev opens : List ℕ → List ℕ → List ℕ × List ℕ → Result (List ℕ × List ℕ) WireFault
 opens front body digest = cond (bytes_eq digest.0 (sha256 (front ++ body))) (Ok (body, digest.1)) (Err Damaged)
@@ -101,13 +101,13 @@ opens front body digest = cond (bytes_eq digest.0 (sha256 (front ++ body))) (Ok 
 abbrev said : Bool → List ℕ → List ℕ → Result (List ℕ × List ℕ) WireFault
 said same body rest = cond same (Ok (body, rest)) (Err Damaged)
 
-abbrev worded : ℕ → Result (List ℕ × List ℕ) WireFault → Result ℕ WireFault
-worded word read = whole read >>= λ body. Ok word
+abbrev tagged : ℕ → Result (List ℕ × List ℕ) WireFault → Result ℕ WireFault
+tagged tag read = whole read >>= λ body. Ok tag
 
-says_it : (same : Bool) (word : ℕ) (body rest : List ℕ) → worded word (said same body rest)
-    ≡ says same (ltb 0 (length rest)) word
-says_it false word body rest = refl
-says_it true word body rest =
+says_it : (same : Bool) (tag : ℕ) (body rest : List ℕ) → tagged tag (said same body rest)
+    ≡ says same (ltb 0 (length rest)) tag
+says_it false tag body rest = refl
+says_it true tag body rest =
     elim (cases_lt 0 (length rest)) [
       | inl lt ↦
           let some : eqb (length rest) 0 ≡ false = ne_eqb _ _ (λ e. omega (arith, e)) in
@@ -119,20 +119,20 @@ says_it true word body rest =
           rw (none, ended) refl
     ]
 
-pub no_body : (reader : RestReader) (front : List ℕ) (len : ℕ) (bytes : List ℕ) (word : ℕ)
+pub no_body : (reader : RestReader) (front : List ℕ) (len : ℕ) (bytes : List ℕ) (tag : ℕ)
     → HasReadRest reader front len bytes
-    → 0 < reader.left → Err Short ≡ word_after word front len bytes
+    → 0 < reader.left → Err Short ≡ tag_after tag front len bytes
 unfolding sealed_at
-no_body reader front len bytes word has some =
+no_body reader front len bytes tag has some =
     let left = has.left in
     let short : ltb (length bytes) len ≡ true = lt-ltb _ _ (omega (arith, some, left)) in
     rw short refl
 
-pub no_digest : (reader : RestReader) (front : List ℕ) (len : ℕ) (bytes : List ℕ) (word : ℕ)
+pub no_digest : (reader : RestReader) (front : List ℕ) (len : ℕ) (bytes : List ℕ) (tag : ℕ)
     → HasReadRest reader front len bytes → reader.left ≡ 0 → length reader.digest.items < 32
-    → Err Short ≡ word_after word front len bytes
+    → Err Short ≡ tag_after tag front len bytes
 unfolding sealed_at
-no_digest reader front len bytes word has none few =
+no_digest reader front len bytes tag has none few =
     let left = has.left in
     let digest : length reader.digest.items ≡ length (take 32 (drop len bytes)) = ap length has.digest in
     let long : ltb (length bytes) len ≡ false = le-ltb _ _ (omega (arith, none, left)) in
@@ -140,12 +140,12 @@ no_digest reader front len bytes word has none few =
     lt-ltb _ _ (omega (arith, few, digest, length-take 32 (drop len bytes))) in
     rw (long, short) refl
 
-pub with_digest : (reader : RestReader) (front : List ℕ) (len : ℕ) (bytes : List ℕ) (word : ℕ) (same : Bool)
+pub with_digest : (reader : RestReader) (front : List ℕ) (len : ℕ) (bytes : List ℕ) (tag : ℕ) (same : Bool)
     → HasReadRest reader front len bytes → reader.left ≡ 0 → 32 ≤ length reader.digest.items
     → same ≡ bytes_eq reader.digest.items (sha256 (front ++ take len bytes))
-    → says same reader.more word ≡ word_after word front len bytes
+    → says same reader.more tag ≡ tag_after tag front len bytes
 unfolding sealed_at
-with_digest reader front len bytes word same has none full is =
+with_digest reader front len bytes tag same has none full is =
     let left = has.left in
     let digest : length reader.digest.items ≡ length (take 32 (drop len bytes)) = ap length has.digest in
     let long : ltb (length bytes) len ≡ false = le-ltb _ _ (omega (arith, none, left)) in
@@ -153,6 +153,6 @@ with_digest reader front len bytes word same has none full is =
     le-ltb _ _ (omega (arith, full, digest, length-take 32 (drop len bytes))) in
     let tested : bytes_eq (take 32 (drop len bytes)) (sha256 (front ++ take len bytes)) ≡ same =
     sym (is ∙ ap (λ (l : List ℕ). bytes_eq l (sha256 (front ++ take len bytes))) has.digest) in
-    ap (λ (b : Bool). says same b word) has.more
-    ∙ sym (says_it same word (take len bytes) (drop 32 (drop len bytes)))
+    ap (λ (b : Bool). says same b tag) has.more
+    ∙ sym (says_it same tag (take len bytes) (drop 32 (drop len bytes)))
     ∙ rw (long, enough, tested) refl

@@ -18,13 +18,13 @@ body_after (Err fault) = []
 unfoldable pub body_so_far : List ℕ → List ℕ
 body_so_far fed = body_after (front_at fed)
 
--- the word of the frame, or the first fault
-abbrev pub word_of : List ℕ → Result ℕ WireFault
-word_of fed = opened fed >>= λ frame. Ok frame.0
+-- the tag of the frame, or the first fault
+abbrev pub tag_of : List ℕ → Result ℕ WireFault
+tag_of fed = opened fed >>= λ frame. Ok frame.0
 
--- the word of the frame, if these bytes after its front are a body of this length, its digest, and nothing more
-abbrev pub word_after : ℕ → List ℕ → ℕ → List ℕ → Result ℕ WireFault
-word_after word front len bytes = whole (sealed_at front len bytes) >>= λ body. Ok word
+-- the tag of the frame, if these bytes after its front are a body of this length, its digest, and nothing more
+abbrev pub tag_after : ℕ → List ℕ → ℕ → List ℕ → Result ℕ WireFault
+tag_after tag front len bytes = whole (sealed_at front len bytes) >>= λ body. Ok tag
 
 -- after this front, which promises a body of `len` bytes, the reader has read these bytes
 pub record HasReadRest (rest : RestReader) (front : List ℕ) (len : ℕ) (bytes : List ℕ) : Type 0 where

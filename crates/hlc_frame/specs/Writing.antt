@@ -15,5 +15,5 @@ joined pieces = flat_map (λ (piece : List ℕ). piece) pieces
 
 -- the bytes that the caller and the writer leave after `before`: the front, the pieces, and the digest
 abbrev pub written : List ℕ → ℕ → ℕ → List (List ℕ) → List ℕ
-written before len word pieces =
-    ((before ++ front_bytes len word) ++ joined pieces) ++ sha256 (front_bytes len word ++ joined pieces)
+written before len tag pieces =
+    ((before ++ front_bytes len tag) ++ joined pieces) ++ sha256 (front_bytes len tag ++ joined pieces)

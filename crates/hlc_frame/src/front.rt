@@ -20,8 +20,8 @@ pub const DIGEST_BYTES: usize = 32;
 pub struct Front {
     /// The length of the body in bytes.
     pub len: u64,
-    /// The caller's word.
-    pub word: u64,
+    /// The caller's tag.
+    pub tag: u64,
 }
 
 /// Reads the front at the start of some bytes, and returns it with the bytes after it; or `Short` without four bytes,
@@ -35,18 +35,18 @@ pub fn front_at(bytes: &[u8]) -> Result<(Front, &[u8]), WireFault>
         return Err(WireFault::Version);
     }
     let (len, rest) = u64_at(rest)?;
-    let (word, rest) = u64_at(rest)?;
-    Ok((Front { len, word }, rest))
+    let (tag, rest) = u64_at(rest)?;
+    Ok((Front { len, tag }, rest))
 }
 
 /// Returns the bytes of a front.
 #[tactic(auto, unfolding(crate::specs::Frame::front_bytes))]
-pub fn front_of(len: u64, word: u64) -> [u8; FRONT_BYTES]
-    ensures { result ≡ front_bytes len word }
+pub fn front_of(len: u64, tag: u64) -> [u8; FRONT_BYTES]
+    ensures { result ≡ front_bytes len tag }
 {
     let v = FORMAT_VERSION.to_be_bytes();
     let l = len.to_be_bytes();
-    let w = word.to_be_bytes();
+    let w = tag.to_be_bytes();
     [
         v[0], v[1], v[2], v[3], l[0], l[1], l[2], l[3], l[4], l[5], l[6], l[7], w[0], w[1], w[2],
         w[3], w[4], w[5], w[6], w[7],

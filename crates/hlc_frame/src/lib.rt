@@ -1,4 +1,4 @@
-//! Bytes in a frame: a version, a length, a word of the caller's, the body, and a SHA-256 digest of
+//! Bytes in a frame: a version, a length, a tag of the caller's, the body, and a SHA-256 digest of
 //! all before it, so that damage is reported as damage.
 #![tactic(auto)]
 

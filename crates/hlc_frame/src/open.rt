@@ -12,8 +12,8 @@ use hlc_wire::{WireFault, slice_at};
 /// The content of a frame.
 #[derive(Clone, Copy)]
 pub struct Opened<'a> {
-    /// The caller's word.
-    pub word: u64,
+    /// The caller's tag.
+    pub tag: u64,
     /// The body.
     pub body: &'a [u8],
 }
@@ -25,22 +25,22 @@ pub struct Opened<'a> {
 /// once.
 pub fn open_frame(bytes: &[u8]) -> Result<Opened<'_>, WireFault>
     // The bytes are the encoding of the frame that is read.
-    ensures found { IfOk result (λ frame. FrameFits frame.word frame.body.now
-        × (bytes.now ≡ frame_bytes frame.word frame.body.now)) }
+    ensures found { IfOk result (λ frame. FrameFits frame.tag frame.body.now
+        × (bytes.now ≡ frame_bytes frame.tag frame.body.now)) }
     // The encoding of a frame is read.
-    ensures only { (word : ℕ) (body : List ℕ) → FrameFits word body
-        → bytes.now ≡ frame_bytes word body
-        → Reads {Y = ℕ × List ℕ} (λ frame. (frame.word, frame.body.now)) result
-        (Ok (word, body)) }
+    ensures only { (tag : ℕ) (body : List ℕ) → FrameFits tag body
+        → bytes.now ≡ frame_bytes tag body
+        → Reads {Y = ℕ × List ℕ} (λ frame. (frame.tag, frame.body.now)) result
+        (Ok (tag, body)) }
     // The fault is exactly this one.
-    ensures exact { Reads (λ frame. (frame.word, frame.body.now)) result (opened bytes.now) }
+    ensures exact { Reads (λ frame. (frame.tag, frame.body.now)) result (opened bytes.now) }
 {
     all(bytes)
 }
 
 /// Opens a frame that is all of the bytes.
 fn all(bytes: &[u8]) -> Result<Opened<'_>, WireFault>
-    ensures { Reads (λ frame. (frame.word, frame.body.now)) result (opened bytes.now) }
+    ensures { Reads (λ frame. (frame.tag, frame.body.now)) result (opened bytes.now) }
 {
     let (frame, rest) = frame_at(bytes)?;
     if !rest.is_empty() {
@@ -52,14 +52,14 @@ fn all(bytes: &[u8]) -> Result<Opened<'_>, WireFault>
 /// Opens the frame at the start of some bytes, and returns it with the bytes after it.
 #[tactic(auto, unfolding(crate::specs::Opening::frame_at))]
 fn frame_at(bytes: &[u8]) -> Result<(Opened<'_>, &[u8]), WireFault>
-    ensures { Reads (λ x. ((x.0.word, x.0.body.now), x.1.now)) result (frame_at bytes.now) }
+    ensures { Reads (λ x. ((x.0.tag, x.0.body.now), x.1.now)) result (frame_at bytes.now) }
 {
     let (front, rest) = front_at(bytes)?;
     let (start, _) = cut(FRONT_BYTES as u64, bytes);
     let (body, rest) = sealed_at(start, front.len, rest)?;
     Ok((
         Opened {
-            word: front.word,
+            tag: front.tag,
             body,
         },
         rest,

@@ -1,7 +1,7 @@
 //! A frame, read in blocks of any size.
 ghost use Rattle.std.specs.Prelude.{◌≡◌, ◌++◌, List, ℕ, []};
 ghost use Rattle.hlc_frame.specs.Opening.{front_at};
-ghost use Rattle.hlc_frame.specs.Reading.{HasRead, GoesOn, body_so_far, word_of};
+ghost use Rattle.hlc_frame.specs.Reading.{HasRead, GoesOn, body_so_far, tag_of};
 
 use crate::front::{FRONT_BYTES, front_at};
 use crate::rest::{RestReader, fill};
@@ -30,7 +30,7 @@ impl FrameReader {
     /// Reads the next block, of any size, and returns the part of it that belongs to the body.
     ///
     /// For a block before or after the body, and for each block after a wrong version, that is no
-    /// bytes. It needs no memory. The body is not verified until `finish` returns the word.
+    /// bytes. It needs no memory. The body is not verified until `finish` returns the tag.
     pub fn feed<'b>(&mut self, block: &'b [u8]) -> &'b [u8]
         ensures read { (fed : List ℕ) → HasRead self.old fed
             → HasRead self.new (fed ++ block.now) }
@@ -47,17 +47,17 @@ impl FrameReader {
         }
     }
 
-    /// Ends the reading, and returns the word of the frame or its first fault.
+    /// Ends the reading, and returns the tag of the frame or its first fault.
     ///
     /// Both are what `open_frame` would return for all the bytes that were fed.
     pub fn finish(self) -> Result<u64, WireFault>
-        ensures { (fed : List ℕ) → HasRead self fed → result ≡ word_of fed }
+        ensures { (fed : List ℕ) → HasRead self fed → result ≡ tag_of fed }
     {
         let FrameReader { front, rest } = self;
         let (found, _) = front_at(front.as_slice())?;
         match rest {
             None => Err(WireFault::Short),
-            Some(reader) => reader.finish(found.word),
+            Some(reader) => reader.finish(found.tag),
         }
     }
 }

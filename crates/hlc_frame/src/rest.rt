@@ -1,6 +1,6 @@
 //! The bytes after the front of a frame, read in blocks.
 ghost use Rattle.std.specs.Prelude.{◌≡◌, ◌-◌, ◌++◌, ℕ, List, [], length, take, drop};
-ghost use Rattle.hlc_frame.specs.Reading.{HasReadRest, word_after};
+ghost use Rattle.hlc_frame.specs.Reading.{HasReadRest, tag_after};
 
 use crate::digest::is_digest;
 use crate::front::DIGEST_BYTES;
@@ -49,11 +49,11 @@ impl RestReader {
         body
     }
 
-    /// Returns the word if the bytes are the body, its digest, and nothing more.
+    /// Returns the tag if the bytes are the body, its digest, and nothing more.
     #[tactic(auto, unfolding(crate::specs::Opening::sealed_at))]
-    pub fn finish(self, word: u64) -> Result<u64, WireFault>
+    pub fn finish(self, tag: u64) -> Result<u64, WireFault>
         ensures { (front : List ℕ) (len : ℕ) (bytes : List ℕ) → HasReadRest self front len bytes
-            → result ≡ word_after word front len bytes }
+            → result ≡ tag_after tag front len bytes }
     {
         let RestReader {
             hasher,
@@ -71,7 +71,7 @@ impl RestReader {
         if more {
             return Err(WireFault::Trailing);
         }
-        Ok(word)
+        Ok(tag)
     }
 }
 

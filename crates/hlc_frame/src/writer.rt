@@ -20,12 +20,12 @@ impl FrameWriter {
     /// The caller appends the body, piece by piece, and passes each piece to `put`. If the pieces
     /// do not have `length` bytes in all, the result is no frame, and is not read as one. `out` is
     /// unchanged if memory runs out.
-    pub fn begin(out: &mut Vec<u8>, length: u64, word: u64) -> Result<FrameWriter, AllocError>
-        ensures put { IfOk result (λ writer. HasPut writer (front_bytes length word) []) }
-        ensures front { OnOk result (out.new.items ≡ out.old.items ++ front_bytes length word) }
+    pub fn begin(out: &mut Vec<u8>, length: u64, tag: u64) -> Result<FrameWriter, AllocError>
+        ensures put { IfOk result (λ writer. HasPut writer (front_bytes length tag) []) }
+        ensures front { OnOk result (out.new.items ≡ out.old.items ++ front_bytes length tag) }
         ensures unchanged { OnErr result (out.new.items ≡ out.old.items) }
     {
-        let front = front_of(length, word);
+        let front = front_of(length, tag);
         let mut hasher = Sha256::new();
         hasher.update(front.as_slice());
         out.extend_from_slice(&front)?;

@@ -13,7 +13,7 @@ IsOpening None new count code =
     MatchOption new (MatchOption (new_refusal count) (code ≡ 15) (λ fault. code ≡ 114)) (λ core. (code ≡ 0)
     × (new_refusal count ≡ None) × Represents core (Started count ∷ []))
 
--- A closed store was opened from bytes, with exactly the state that they contain, and their word is returned; or it
+-- A closed store was opened from bytes, with exactly the state that they contain, and their tag is returned; or it
 -- stays closed, for the first reason or because it ran out of memory. An open one is unchanged.
 abbrev pub IsRestoring : Option StoreView → Option StoreView → List ℕ → ℕ → ℕ → Type 0
 IsRestoring (Some before) new bytes code word = (code ≡ 101) × (word ≡ 0) × (new ≡ Some before)

@@ -10,9 +10,9 @@ use Rattle.hlc_saved.specs.Saver.{HasMade, mark_of}
 -- it has begun, nothing was read, and it will be this many bytes; or it did not start, out of memory; one that was
 -- under way goes on
 abbrev pub HasBegun : Option Saver → Option Saver → ℕ → StoreView → ℕ → ℕ → Type 0
-HasBegun (Some before) new word core code len = (code ≡ 119) × (len ≡ 0) × (new ≡ Some before)
-HasBegun None new word core code len = MatchOption new ((code ≡ 15) × (len ≡ 0))
-    (λ saver. (code ≡ 0) × (len ≡ length (saved_bytes word core)) × HasMade saver word core [])
+HasBegun (Some before) new tag core code len = (code ≡ 119) × (len ≡ 0) × (new ≡ Some before)
+HasBegun None new tag core code len = MatchOption new ((code ≡ 15) × (len ≡ 0))
+    (λ saver. (code ≡ 0) × (len ≡ length (saved_bytes tag core)) × HasMade saver tag core [])
 
 -- this many bytes are at the start of the buffer, whose other bytes are as they were
 abbrev pub AreWritten : ℕ → List ℕ → List ℕ → Type 0
@@ -22,13 +22,13 @@ AreWritten len old out = (len ≤ length old) × (drop len out ≡ drop len old)
 abbrev pub ReadsLast : Saver → StoreView → ℕ → ℕ → List ℕ → List ℕ → Type 0
 ReadsLast before core code len old out =
     (code ≡ 0) × AreWritten len old out
-    × ((word : ℕ) (read : List ℕ) → HasMade before word core read → AreOfStore (read ++ take len out) word core)
+    × ((tag : ℕ) (read : List ℕ) → HasMade before tag core read → AreOfStore (read ++ take len out) tag core)
 
 -- the next bytes were read, at least one if the buffer has room; and the saving goes on
 abbrev pub ReadsNext : Saver → Saver → StoreView → ℕ → ℕ → List ℕ → List ℕ → Type 0
 ReadsNext before after core code len old out =
     (code ≡ 104) × AreWritten len old out × ((0 < len) ⊎ (length old ≡ 0))
-    × ((word : ℕ) (read : List ℕ) → HasMade before word core read → HasMade after word core (read ++ take len out))
+    × ((tag : ℕ) (read : List ℕ) → HasMade before tag core read → HasMade after tag core (read ++ take len out))
 
 -- nothing was read, since the store is not as it was at the start, or memory ran out; and the saving is as it was
 abbrev pub ReadsNone : Saver → Saver → StoreView → ℕ → ℕ → List ℕ → List ℕ → Type 0

@@ -32,7 +32,7 @@ pub fn open(alloc: Global, store: &mut Store, count: u16) -> u32
     }
 }
 
-/// Opens a closed store from the bytes of a checkpoint. Returns 0 and their word; or 101 for an open store, which stays
+/// Opens a closed store from the bytes of a checkpoint. Returns 0 and their tag; or 101 for an open store, which stays
 /// unchanged; or 106 and the number of the first fault of the bytes, 107 and that of the first reason against their
 /// content, or 15.
 pub fn restore(alloc: Global, store: &mut Store, bytes: &[u8], word: &mut u64) -> u32

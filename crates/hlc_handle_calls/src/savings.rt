@@ -7,17 +7,17 @@ use hlc_handle::{Saving, Slot};
 use hlc_saved::Saver;
 use std::alloc::Global;
 
-/// Begins to save a store and a word of the caller's, where no saving is under way, and puts into `len` how many bytes
+/// Begins to save a store and a tag of the caller's, where no saving is under way, and puts into `len` how many bytes
 /// it will be. Returns 0; or 119 where one is under way, which goes on; or 15.
-pub fn begin(alloc: Global, saving: &mut Saving, core: &Core, word: u64, len: &mut u64) -> u32
+pub fn begin(alloc: Global, saving: &mut Saving, core: &Core, tag: u64, len: &mut u64) -> u32
     requires { len.old ≡ 0 }
-    ensures { HasBegun saving.old.value saving.new.value word core.now result len.new }
+    ensures { HasBegun saving.old.value saving.new.value tag core.now result len.new }
 {
     if let Some(saver) = saving.take(alloc) {
         saving.put(saver);
         return 119;
     }
-    let Ok((saver, many)) = Saver::start(alloc, core, word) else {
+    let Ok((saver, many)) = Saver::start(alloc, core, tag) else {
         return 15;
     };
     let Ok(boxed) = Box::new(alloc, saver) else {

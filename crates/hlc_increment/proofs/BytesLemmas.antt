@@ -40,16 +40,16 @@ content_takes (suc zero ∷ rest) increment fits e =
     (t.0, ap (λ (l : List ℕ). 1 ∷ l) t.1)
 content_takes (suc (suc b) ∷ rest) increment fits e = absurd cc
 
-abbrev with_word : ℕ → Result IncrementView WireFault → Result (ℕ × IncrementView) WireFault
-with_word word read = read >>= λ increment. Ok (word, increment)
+abbrev with_tag : ℕ → Result IncrementView WireFault → Result (ℕ × IncrementView) WireFault
+with_tag tag read = read >>= λ increment. Ok (tag, increment)
 
 -- the bytes are the encoding of the result
-increment_takes : (bytes : List ℕ) (word : ℕ) (increment : IncrementView) → IsBytes bytes
-    → increment_at bytes ≡ Ok (word, increment)
-    → IncrementFits word increment × (bytes ≡ increment_bytes word increment)
-increment_takes bytes word increment fits e =
-    let a = bind_ok (opened bytes) (λ frame. with_word frame.0 (content_at frame.1)) (word, increment) e in
-    let b = bind_ok (content_at a.0.1) (λ i. Ok (a.0.0, i)) (word, increment) a.2 in
+increment_takes : (bytes : List ℕ) (tag : ℕ) (increment : IncrementView) → IsBytes bytes
+    → increment_at bytes ≡ Ok (tag, increment)
+    → IncrementFits tag increment × (bytes ≡ increment_bytes tag increment)
+increment_takes bytes tag increment fits e =
+    let a = bind_ok (opened bytes) (λ frame. with_tag frame.0 (content_at frame.1)) (tag, increment) e in
+    let b = bind_ok (content_at a.0.1) (λ i. Ok (a.0.0, i)) (tag, increment) a.2 in
     let f = opened_is_frame bytes a.0.0 a.0.1 fits a.1 in
     let inner : IsBytes a.0.1 = body_bytes bytes a.0.0 a.0.1 fits f.1 in
     let c = content_takes a.0.1 b.0 inner b.1 in
@@ -58,7 +58,7 @@ increment_takes bytes word increment fits e =
       f.1 ∙ ap (λ (l : List ℕ). frame_bytes a.0.0 l) c.1,
     ) in
     subst (λ (x : ℕ × IncrementView). IncrementFits x.0 x.1 × (bytes ≡ increment_bytes x.0 x.1))
-    (ok_is (a.0.0, b.0) (word, increment) b.2) made
+    (ok_is (a.0.0, b.0) (tag, increment) b.2) made
 
 content_again : (increment : IncrementView) → SavedFits increment.since increment.state
     → content_at (content_bytes increment) ≡ Ok increment
@@ -67,16 +67,16 @@ content_again increment fits =
     ap (λ (r : Result (ℕ × StoreView) WireFault). r >>= λ made. Ok (made_of made))
     (saved_again increment.since increment.state fits)
 
--- the encoding of a word and an increment is read
-pub increment_again : (word : ℕ) (increment : IncrementView) → IncrementFits word increment
-    → increment_at (increment_bytes word increment) ≡ Ok (word, increment)
-increment_again word increment fits =
-    ap (λ (r : Result (ℕ × List ℕ) WireFault). r >>= λ frame. with_word frame.0 (content_at frame.1))
-    (frame_is_opened word (content_bytes increment) fits.frame)
-    ∙ ap (with_word word) (content_again increment fits.state)
+-- the encoding of a tag and an increment is read
+pub increment_again : (tag : ℕ) (increment : IncrementView) → IncrementFits tag increment
+    → increment_at (increment_bytes tag increment) ≡ Ok (tag, increment)
+increment_again tag increment fits =
+    ap (λ (r : Result (ℕ × List ℕ) WireFault). r >>= λ frame. with_tag frame.0 (content_at frame.1))
+    (frame_is_opened tag (content_bytes increment) fits.frame)
+    ∙ ap (with_tag tag) (content_again increment fits.state)
 
 pub found : (r : Result DecodedIncrement DecodeError) (bytes : List ℕ) → IsBytes bytes
-    → Gives (λ (made : DecodedIncrement). (made.word, made.increment)) r (increment_at bytes)
-    → IfOk r (λ made. IncrementFits made.word made.increment × (bytes ≡ increment_bytes made.word made.increment))
-found (Ok made) bytes fits e = increment_takes bytes made.word made.increment fits e
+    → Gives (λ (made : DecodedIncrement). (made.tag, made.increment)) r (increment_at bytes)
+    → IfOk r (λ made. IncrementFits made.tag made.increment × (bytes ≡ increment_bytes made.tag made.increment))
+found (Ok made) bytes fits e = increment_takes bytes made.tag made.increment fits e
 found (Err error) bytes fits e = tt

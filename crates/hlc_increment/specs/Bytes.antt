@@ -9,17 +9,17 @@ use Rattle.hlc_body.specs.Spelling.{saved_bytes, SavedFits}
 use Rattle.hlc_body.specs.Reading.{saved}
 use Rattle.hlc_increment.specs.Increment.{IncrementView}
 
--- a byte 1, with which no checkpoint begins, and the state, in a frame whose word is the stamp
+-- a byte 1, with which no checkpoint begins, and the state, in a frame whose tag is the stamp
 abbrev pub content_bytes : IncrementView → List ℕ
 content_bytes increment = 1 ∷ saved_bytes increment.since increment.state
 
--- in a frame, with a word of the caller's
+-- in a frame, with a tag of the caller's
 abbrev pub increment_bytes : ℕ → IncrementView → List ℕ
-increment_bytes word increment = frame_bytes word (content_bytes increment)
+increment_bytes tag increment = frame_bytes tag (content_bytes increment)
 
 -- what has an encoding
-pub record IncrementFits (word : ℕ) (increment : IncrementView) : Type 0 where
-  pub frame : FrameFits word (content_bytes increment)
+pub record IncrementFits (tag : ℕ) (increment : IncrementView) : Type 0 where
+  pub frame : FrameFits tag (content_bytes increment)
   pub state : SavedFits increment.since increment.state
 
 -- a state and its stamp

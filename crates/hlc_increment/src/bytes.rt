@@ -18,11 +18,11 @@ use std::alloc::Global;
 #[derive(Debug, Drop)]
 pub struct DecodedIncrement {
     pub increment: Increment,
-    /// The word that it was saved with.
-    pub word: u64,
+    /// The tag that it was saved with.
+    pub tag: u64,
 }
 
-/// Returns the one encoding of an increment and a word of the caller's: for example, the position in its log up to
+/// Returns the one encoding of an increment and a tag of the caller's: for example, the position in its log up to
 /// which the store has applied it.
 ///
 /// Refused for the first reason why the state is no checkpoint; memory, for twice the bytes, is needed only after the
@@ -30,11 +30,11 @@ pub struct DecodedIncrement {
 pub fn encode_increment(
     alloc: Global,
     increment: &Increment,
-    word: u64,
+    tag: u64,
 ) -> Result<Result<Vec<u8>, RestoreFault>, NoMemory>
-    ensures fits { IfOk result (λ made. OnOk made (IncrementFits word increment.now)) }
+    ensures fits { IfOk result (λ made. OnOk made (IncrementFits tag increment.now)) }
     ensures spelled { IfOk result
-        (λ made. IfOk made (λ bytes. bytes.items ≡ increment_bytes word increment.now)) }
+        (λ made. IfOk made (λ bytes. bytes.items ≡ increment_bytes tag increment.now)) }
     ensures err { IfOk result (λ made. IfErr made (IsFirstReason increment.now.state)) }
     ensures memory { OnErr result (IsCheckpoint increment.now.state) }
 {
@@ -44,7 +44,7 @@ pub fn encode_increment(
         Err(fault) => return Ok(Err(fault)),
     };
     let content = content_of(alloc, state.as_slice())?;
-    Ok(Ok(framed(alloc, content.as_slice(), word)?))
+    Ok(Ok(framed(alloc, content.as_slice(), tag)?))
 }
 
 /// Returns the bytes of a state, after the byte with which no checkpoint begins.
@@ -58,42 +58,42 @@ fn content_of(alloc: Global, state: &[u8]) -> Result<Vec<u8>, NoMemory>
 }
 
 /// Returns a frame with this body.
-fn framed(alloc: Global, body: &[u8], word: u64) -> Result<Vec<u8>, NoMemory>
-    ensures frame { IfOk result (λ bytes. bytes.items ≡ frame_bytes word body.now) }
-    ensures fits { FrameFits word body.now }
+fn framed(alloc: Global, body: &[u8], tag: u64) -> Result<Vec<u8>, NoMemory>
+    ensures frame { IfOk result (λ bytes. bytes.items ≡ frame_bytes tag body.now) }
+    ensures fits { FrameFits tag body.now }
 {
     let mut out = Vec::new(alloc);
-    let mut frame = FrameWriter::begin(&mut out, body.len() as u64, word)?;
+    let mut frame = FrameWriter::begin(&mut out, body.len() as u64, tag)?;
     out.extend_from_slice(body)?;
     frame.put(body);
     frame.end(&mut out)?;
     Ok(out)
 }
 
-/// Reads the increment and the word from their encoding, which is all of the bytes.
+/// Reads the increment and the tag from their encoding, which is all of the bytes.
 ///
 /// The frame is checked first, then the first byte of its body, `Kind` where it is not 1; then the state, as by
 /// `decode_checkpoint`. `advance` checks what it says.
 pub fn decode_increment(alloc: Global, bytes: &[u8]) -> Result<DecodedIncrement, DecodeError>
-    ensures found { IfOk result (λ made. IncrementFits made.word made.increment
-        × (bytes.now ≡ increment_bytes made.word made.increment)) }
-    ensures only { (word : ℕ) (increment : IncrementView) → IncrementFits word increment
-        → bytes.now ≡ increment_bytes word increment
-        → Gives {Y = ℕ × IncrementView} (λ made. (made.word, made.increment)) result
-        (Ok (word, increment)) }
-    ensures exact { Gives (λ made. (made.word, made.increment)) result (increment_at bytes.now) }
+    ensures found { IfOk result (λ made. IncrementFits made.tag made.increment
+        × (bytes.now ≡ increment_bytes made.tag made.increment)) }
+    ensures only { (tag : ℕ) (increment : IncrementView) → IncrementFits tag increment
+        → bytes.now ≡ increment_bytes tag increment
+        → Gives {Y = ℕ × IncrementView} (λ made. (made.tag, made.increment)) result
+        (Ok (tag, increment)) }
+    ensures exact { Gives (λ made. (made.tag, made.increment)) result (increment_at bytes.now) }
 {
     all(alloc, bytes)
 }
 
-/// Reads an increment and a word from all of the bytes.
+/// Reads an increment and a tag from all of the bytes.
 fn all(alloc: Global, bytes: &[u8]) -> Result<DecodedIncrement, DecodeError>
-    ensures { Gives (λ made. (made.word, made.increment)) result (increment_at bytes.now) }
+    ensures { Gives (λ made. (made.tag, made.increment)) result (increment_at bytes.now) }
 {
     let frame = open_frame(bytes)?;
     let increment = content_at(alloc, frame.body)?;
-    let word = frame.word;
-    Ok(DecodedIncrement { increment, word })
+    let tag = frame.tag;
+    Ok(DecodedIncrement { increment, tag })
 }
 
 /// Reads an increment from all of the body of a frame.
@@ -113,6 +113,6 @@ fn content_at(alloc: Global, body: &[u8]) -> Result<Increment, DecodeError>
 fn state_at(alloc: Global, bytes: &[u8]) -> Result<Increment, DecodeError>
     ensures { Gives (λ made. made) result (state_at bytes.now) }
 {
-    let Decoded { checkpoint, word } = decode_checkpoint(alloc, bytes)?;
-    Ok(Increment::from_parts(Stamp::from_bits(word), checkpoint))
+    let Decoded { checkpoint, tag } = decode_checkpoint(alloc, bytes)?;
+    Ok(Increment::from_parts(Stamp::from_bits(tag), checkpoint))
 }

@@ -12,13 +12,13 @@ use Rattle.hlc_increment.specs.Increment.{IncrementView, IsIncrementOf, IsAdvanc
 use Rattle.hlc_increment.specs.Faults.{advance_code, advance_word}
 use Rattle.hlc_increment.specs.Bytes.{IncrementFits, increment_at, increment_bytes}
 
--- the bytes are the encoding of this word and of the increment of this state since the stamp
-pub record AreIncrementOf (bytes : List ℕ) (word since : ℕ) (kept : StoreView) : Type 0 where
+-- the bytes are the encoding of this tag and of the increment of this state since the stamp
+pub record AreIncrementOf (bytes : List ℕ) (tag since : ℕ) (kept : StoreView) : Type 0 where
   pub increment : IncrementView
   pub of : IsIncrementOf kept increment
   pub stamp : increment.since ≡ since
-  pub fits : IncrementFits word increment
-  pub spelled : bytes ≡ increment_bytes word increment
+  pub fits : IncrementFits tag increment
+  pub spelled : bytes ≡ increment_bytes tag increment
 
 -- the stamp is below the horizon, which is returned; or out of memory
 abbrev pub IsRefusedIncrement : StoreView → ℕ → ℕ → ℕ → Type 0
@@ -26,13 +26,13 @@ IsRefusedIncrement kept since code horizon =
     ((code ≡ 9) × (since < kept.horizon) × (horizon ≡ kept.horizon))
     ⊎ ((code ≡ 15) × (horizon ≡ 0))
 
--- the bytes are those of this checkpoint, with some word
+-- the bytes are those of this checkpoint, with some tag
 abbrev pub IsRead : List ℕ → StoreView → Type 0
 IsRead bytes kept = (before : ℕ) × (saved bytes ≡ Ok (before, kept))
 
--- the bytes are those of this word and increment
+-- the bytes are those of this tag and increment
 abbrev pub IsReadIncrement : List ℕ → ℕ → IncrementView → Type 0
-IsReadIncrement bytes word increment = increment_at bytes ≡ Ok (word, increment)
+IsReadIncrement bytes tag increment = increment_at bytes ≡ Ok (tag, increment)
 
 -- out of memory
 abbrev pub IsShort : ℕ → ℕ → Type 0
@@ -56,16 +56,16 @@ IsNotJoined older increment code word =
     (reason : AdvanceFault) × IsReason older increment reason × (code ≡ advance_code reason)
     × (word ≡ advance_word reason)
 
--- the bytes are those of the checkpoint that the older one becomes by the increment, with the increment's word
+-- the bytes are those of the checkpoint that the older one becomes by the increment, with the increment's tag
 pub record AreAdvanced (older increment bytes : List ℕ) : Type 0 where
   pub kept : StoreView
-  pub word : ℕ
+  pub tag : ℕ
   pub read : IncrementView
   pub made : StoreView
   pub of_older : IsRead older kept
-  pub of_increment : IsReadIncrement increment word read
+  pub of_increment : IsReadIncrement increment tag read
   pub advanced : IsAdvanced kept read made
-  pub spelled : AreOf bytes word made
+  pub spelled : AreOf bytes tag made
 
 -- what both make is no checkpoint, for a reason: the increment is not of a later state; or out of memory, and it is one
 abbrev pub MakesNone : StoreView → IncrementView → ℕ → ℕ → Type 0

@@ -31,9 +31,9 @@ fn read_older(alloc: Global, bytes: &[u8], word: &mut u64) -> Result<Checkpoint,
     }
 }
 
-/// Reads the increment. Returns it and its word; or 110 and the number of the first fault of its bytes, or 15.
+/// Reads the increment. Returns it and its tag; or 110 and the number of the first fault of its bytes, or 15.
 fn read_increment(alloc: Global, bytes: &[u8], word: &mut u64) -> Result<DecodedIncrement, u32>
-    ensures { MatchResult result (λ made. IsReadIncrement bytes.now made.word made.increment)
+    ensures { MatchResult result (λ made. IsReadIncrement bytes.now made.tag made.increment)
         (λ code. IsNotReadIncrement bytes.now code word.new) }
 {
     *word = 0;
@@ -71,7 +71,7 @@ fn joined(older: Checkpoint, increment: Increment, word: &mut u64) -> Result<Che
     }
 }
 
-/// Makes the bytes of a newer checkpoint of those of an older one and of an increment, with the word of the increment.
+/// Makes the bytes of a newer checkpoint of those of an older one and of an increment, with the tag of the increment.
 /// Returns them; or, in this order: 106, the older bytes are no encoding, and the number of their first fault; 110, the
 /// increment is none, and the number; 107, one of both is no checkpoint, and the number of the reason; 111, the
 /// increment is not of a later state; 8, its stamp is above the floor of the older checkpoint, and that; 110, its stamp
@@ -94,7 +94,7 @@ pub fn apply(
     let kept = read_older(alloc, older, word)?;
     let DecodedIncrement {
         increment: read,
-        word: after,
+        tag: after,
     } = read_increment(alloc, increment, word)?;
     let made = joined(kept, read, word)?;
     *word = 0;

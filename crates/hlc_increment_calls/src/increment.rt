@@ -16,16 +16,16 @@ fn refuse(fault: &IncrementFault, word: &mut u64) -> u32
     fault.code()
 }
 
-/// Saves an increment of a store since a stamp, with a word of the caller's. Returns the bytes; or 9, and writes the
+/// Saves an increment of a store since a stamp, with a tag of the caller's. Returns the bytes; or 9, and writes the
 /// horizon; or 15.
 pub fn increment(
     alloc: Global,
     core: &Core,
     since: Stamp,
-    word: u64,
+    tag: u64,
     horizon: &mut u64,
 ) -> Result<Box<Vec<u8>>, u32>
-    ensures saved { IfOk result (λ bytes. AreIncrementOf bytes.value.items word since core.now) }
+    ensures saved { IfOk result (λ bytes. AreIncrementOf bytes.value.items tag since core.now) }
     ensures nothing { IfOk result (λ _. horizon.new ≡ 0) }
     ensures err { IfErr result (λ code. IsRefusedIncrement core.now since code horizon.new) }
 {
@@ -34,7 +34,7 @@ pub fn increment(
         Ok(increment) => increment,
         Err(fault) => return Err(refuse(&fault, horizon)),
     };
-    let Ok(Ok(bytes)) = encode_increment(alloc, &increment, word) else {
+    let Ok(Ok(bytes)) = encode_increment(alloc, &increment, tag) else {
         return Err(15);
     };
     match Box::new(alloc, bytes) {

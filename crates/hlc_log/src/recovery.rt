@@ -14,8 +14,8 @@ use std::alloc::Global;
 #[derive(Drop)]
 pub struct Recovered {
     pub core: Core,
-    /// The word that the checkpoint was saved with.
-    pub word: u64,
+    /// The tag that the checkpoint was saved with.
+    pub tag: u64,
     /// How far the records of the log were applied.
     pub applied: Applied,
 }
@@ -26,13 +26,13 @@ pub struct Recovered {
 /// Records before that place are passed over (`a_log_may_be_read_again`). Refused as by `resume`; where a record is not
 /// applied, the store has those before it, and `applied.end` says why.
 pub fn recover(alloc: Global, checkpoint: &[u8], log: &[u8]) -> Result<Recovered, ResumeError>
-    ensures represents { (word : ℕ) (past : List Step) → BytesRepresent checkpoint.now word past
-        → MatchResult result (λ made. (made.word ≡ word)
+    ensures represents { (tag : ℕ) (past : List Step) → BytesRepresent checkpoint.now tag past
+        → MatchResult result (λ made. (made.tag ≡ tag)
         × AreApplied made.core log.now past 0 made.applied)
         (λ error. error ≡ no_memory) }
     ensures err { IfErr result (SpellNone checkpoint.now) }
 {
-    let Resumed { core, word } = match resume(alloc, checkpoint) {
+    let Resumed { core, tag } = match resume(alloc, checkpoint) {
         Ok(made) => made,
         Err(error) => return Err(error),
     };
@@ -40,7 +40,7 @@ pub fn recover(alloc: Global, checkpoint: &[u8], log: &[u8]) -> Result<Recovered
     let applied = apply_records(&mut core, log, Stamp::ZERO);
     Ok(Recovered {
         core,
-        word,
+        tag,
         applied,
     })
 }

@@ -11,7 +11,7 @@ use Rattle.hlc_wire.specs.Reading.{◌>>=◌, whole}
 use Rattle.hlc_wire.proofs.FieldLemmas.{IsBytes, bind_ok, ok_is, done}
 use Rattle.hlc_frame.specs.declared.front.Front.{Front}
 use Rattle.hlc_frame.specs.Opening.{front_at, opened}
-use Rattle.hlc_frame.specs.Reading.{body_after, body_so_far, word_of}
+use Rattle.hlc_frame.specs.Reading.{body_after, body_so_far, tag_of}
 use Rattle.hlc_frame.specs.Reading as frames
 use Rattle.hlc_frame.proofs.ListLemmas.{drop_over}
 use Rattle.hlc_frame.proofs.FrontLemmas.{with_rest}
@@ -159,20 +159,20 @@ fed_not P (Err e) fed block piece len room body enough full =
 
 -- ---- the end
 
-word_read : (fed : List ℕ) (word : ℕ) → word_of fed ≡ Ok word
-    → saved fed ≡ (whole (checkpoint_at (body_so_far fed)) >>= λ kept. Ok (word, kept))
-word_read fed word e =
-    let x = bind_ok (opened fed) (λ frame. Ok frame.0) word e in
-    let same : x.0.0 ≡ word = ok_is x.0.0 word x.2 in
+tag_read : (fed : List ℕ) (tag : ℕ) → tag_of fed ≡ Ok tag
+    → saved fed ≡ (whole (checkpoint_at (body_so_far fed)) >>= λ kept. Ok (tag, kept))
+tag_read fed tag e =
+    let x = bind_ok (opened fed) (λ frame. Ok frame.0) tag e in
+    let same : x.0.0 ≡ tag = ok_is x.0.0 tag x.2 in
     let body : body_so_far fed ≡ x.0.1 = opened_body fed x.0.0 x.0.1 x.1 in
     ap (λ (r : Result (ℕ × List ℕ) WireFault). r >>= λ frame. whole (checkpoint_at frame.1) >>= λ kept. done
     (frame.0, kept)) x.1
     ∙ ap (λ (l : List ℕ). whole (checkpoint_at l) >>= λ kept. done (x.0.0, kept)) (sym body)
     ∙ ap (λ (n : ℕ). whole (checkpoint_at (body_so_far fed)) >>= λ kept. done (n, kept)) same
 
--- what was fed, from the word and the body
-pub saved_fed : (fed : List ℕ) (word : ℕ) → word_of fed ≡ Ok word
-    → saved fed ≡ (whole (checkpoint_at (body_so_far fed ++ [])) >>= λ kept. Ok (word, kept))
-saved_fed fed word e =
-    word_read fed word e
-    ∙ ap (λ (l : List ℕ). whole (checkpoint_at l) >>= λ kept. done (word, kept)) (sym (append-nil (body_so_far fed)))
+-- what was fed, from the tag and the body
+pub saved_fed : (fed : List ℕ) (tag : ℕ) → tag_of fed ≡ Ok tag
+    → saved fed ≡ (whole (checkpoint_at (body_so_far fed ++ [])) >>= λ kept. Ok (tag, kept))
+saved_fed fed tag e =
+    tag_read fed tag e
+    ∙ ap (λ (l : List ℕ). whole (checkpoint_at l) >>= λ kept. done (tag, kept)) (sym (append-nil (body_so_far fed)))

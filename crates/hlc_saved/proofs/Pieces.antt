@@ -12,15 +12,15 @@ use Rattle.hlc_frame.proofs.FrontLemmas.{length-front}
 use Rattle.hlc_body.specs.Spelling.{row_bytes, Preamble, preamble_bytes, preamble_of, checkpoint_bytes, saved_bytes}
 use Rattle.hlc_saved.specs.Writing.{front_of, body_to, begin_bytes, end_bytes}
 
-pub pieces : (word : ℕ) (kept : StoreView)
-    → (begin_bytes word kept ++ flat_map row_bytes kept.rows) ++ end_bytes word kept kept.rows ≡ saved_bytes word kept
-pieces word kept =
-    ap (λ (l : List ℕ). l ++ end_bytes word kept kept.rows)
-    (append_assoc (front_of word kept) (preamble_bytes (preamble_of kept)) (flat_map row_bytes kept.rows))
+pub pieces : (tag : ℕ) (kept : StoreView)
+    → (begin_bytes tag kept ++ flat_map row_bytes kept.rows) ++ end_bytes tag kept kept.rows ≡ saved_bytes tag kept
+pieces tag kept =
+    ap (λ (l : List ℕ). l ++ end_bytes tag kept kept.rows)
+    (append_assoc (front_of tag kept) (preamble_bytes (preamble_of kept)) (flat_map row_bytes kept.rows))
 
 -- the bytes after the front
-pub front_dropped : (len word : ℕ) (rest : List ℕ) → drop 20 (front_bytes len word ++ rest) ≡ rest
-front_dropped len word rest = drop_at (front_bytes len word) rest 20 (length-front len word)
+pub front_dropped : (len tag : ℕ) (rest : List ℕ) → drop 20 (front_bytes len tag ++ rest) ≡ rest
+front_dropped len tag rest = drop_at (front_bytes len tag) rest 20 (length-front len tag)
 
 -- one more row
 pub row_more : (rows : List Row) (i : ℕ) (row : Row) → i < length rows → row ≡ get_or rows i row
@@ -28,38 +28,38 @@ pub row_more : (rows : List Row) (i : ℕ) (row : Row) → i < length rows → r
 row_more rows i row lt is = sym (take_more rows i row lt ∙ ap (λ (r : Row). take i rows ++ r ∷ []) (sym is))
 
 -- the part before the rows was hashed
-pub noted : (writer : FrameWriter) (size word : ℕ) (kept : StoreView) (body : List ℕ) → size
+pub noted : (writer : FrameWriter) (size tag : ℕ) (kept : StoreView) (body : List ℕ) → size
     ≡ length (checkpoint_bytes kept)
-    → body ≡ preamble_bytes (preamble_of kept) → HasPut writer (front_bytes size word) body
-    → HasPut writer (front_of word kept) (body_to kept [])
-noted writer size word kept body sized is has =
+    → body ≡ preamble_bytes (preamble_of kept) → HasPut writer (front_bytes size tag) body
+    → HasPut writer (front_of tag kept) (body_to kept [])
+noted writer size tag kept body sized is has =
     let all' : body ≡ body_to kept [] = is ∙ sym (append-nil (preamble_bytes (preamble_of kept))) in
-    subst (λ (l : List ℕ). HasPut writer (front_of word kept) l) all'
-    (subst (λ (n : ℕ). HasPut writer (front_bytes n word) body) sized has)
+    subst (λ (l : List ℕ). HasPut writer (front_of tag kept) l) all'
+    (subst (λ (n : ℕ). HasPut writer (front_bytes n tag) body) sized has)
 
 -- a front, and the part before the rows after it
-pub after_front : (p : Preamble) (size word : ℕ) (none front piece : List ℕ) → none ≡ []
-    → front ≡ none ++ front_bytes size word
+pub after_front : (p : Preamble) (size tag : ℕ) (none front piece : List ℕ) → none ≡ []
+    → front ≡ none ++ front_bytes size tag
     → piece ≡ front ++ preamble_bytes p → drop 20 piece ≡ preamble_bytes p
-after_front p size word none front piece is1 is2 is3 =
+after_front p size tag none front piece is1 is2 is3 =
     ap (drop 20) (is3 ∙ ap (λ (l : List ℕ). l ++ preamble_bytes p) (is2
-    ∙ ap (λ (l : List ℕ). l ++ front_bytes size word) is1))
-    ∙ front_dropped size word (preamble_bytes p)
+    ∙ ap (λ (l : List ℕ). l ++ front_bytes size tag) is1))
+    ∙ front_dropped size tag (preamble_bytes p)
 
 -- both are the first piece
-pub first_piece : (p : Preamble) (kept : StoreView) (size word : ℕ) (old new : List ℕ) → p ≡ preamble_of kept
-    → size ≡ length (checkpoint_bytes kept) → new ≡ old ++ (front_bytes size word ++ preamble_bytes p)
-    → new ≡ old ++ begin_bytes word kept
-first_piece p kept size word old new same sized is =
-    is ∙ ap₂ (λ (n : ℕ) (q : Preamble). old ++ (front_bytes n word ++ preamble_bytes q)) sized same
+pub first_piece : (p : Preamble) (kept : StoreView) (size tag : ℕ) (old new : List ℕ) → p ≡ preamble_of kept
+    → size ≡ length (checkpoint_bytes kept) → new ≡ old ++ (front_bytes size tag ++ preamble_bytes p)
+    → new ≡ old ++ begin_bytes tag kept
+first_piece p kept size tag old new same sized is =
+    is ∙ ap₂ (λ (n : ℕ) (q : Preamble). old ++ (front_bytes n tag ++ preamble_bytes q)) sized same
 
 -- the pieces, one after the other
-pub written : (word : ℕ) (kept : StoreView) (none first rows end : List ℕ) → none ≡ []
-    → first ≡ none ++ begin_bytes word kept
-    → rows ≡ first ++ flat_map row_bytes kept.rows → end ≡ rows ++ end_bytes word kept kept.rows
-    → end ≡ saved_bytes word kept
-written word kept none first rows end is1 is2 is3 is4 =
-    is4 ∙ ap (λ (l : List ℕ). l ++ end_bytes word kept kept.rows)
+pub written : (tag : ℕ) (kept : StoreView) (none first rows end : List ℕ) → none ≡ []
+    → first ≡ none ++ begin_bytes tag kept
+    → rows ≡ first ++ flat_map row_bytes kept.rows → end ≡ rows ++ end_bytes tag kept kept.rows
+    → end ≡ saved_bytes tag kept
+written tag kept none first rows end is1 is2 is3 is4 =
+    is4 ∙ ap (λ (l : List ℕ). l ++ end_bytes tag kept kept.rows)
     (is3 ∙ ap (λ (l : List ℕ). l ++ flat_map row_bytes kept.rows) (is2
-    ∙ ap (λ (l : List ℕ). l ++ begin_bytes word kept) is1))
-    ∙ pieces word kept
+    ∙ ap (λ (l : List ℕ). l ++ begin_bytes tag kept) is1))
+    ∙ pieces tag kept

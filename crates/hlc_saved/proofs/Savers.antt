@@ -49,15 +49,15 @@ none_low (row ∷ rows) low =
     (key_high row.key row.value (All-head IsInLimits row rows low))
     ∙ none_low rows (All-tail IsInLimits row rows low)
 
-pub started : (writer : StoreWriter) (saver : Saver) (word : ℕ) (kept : StoreView) → saver.mark ≡ mark_of kept
+pub started : (writer : StoreWriter) (saver : Saver) (tag : ℕ) (kept : StoreView) → saver.mark ≡ mark_of kept
     → saver.frame ≡ writer.frame → saver.last.items ≡ [] → saver.is_whole ≡ false → saver.at ≡ 0
-    → saver.made.items ≡ begin_bytes word kept → HasSaved writer word kept (begin_bytes word kept)
-    → HasMade saver word kept []
+    → saver.made.items ≡ begin_bytes tag kept → HasSaved writer tag kept (begin_bytes tag kept)
+    → HasMade saver tag kept []
 unfolding IsStrictlySortedBy
-started writer saver word kept mark frame last more at made has =
+started writer saver tag kept mark frame last more at made has =
     let none : flat_map row_bytes has.rows ≡ [] =
-    sym (append_cancel_left (begin_bytes word kept) [] (flat_map row_bytes has.rows)
-    (append-nil (begin_bytes word kept) ∙ has.spelled)) in
+    sym (append_cancel_left (begin_bytes tag kept) [] (flat_map row_bytes has.rows)
+    (append-nil (begin_bytes tag kept) ∙ has.spelled)) in
     let low : rows_upto false [] kept.rows ≡ [] = none_low kept.rows has.leaves.store.limits in
     record {
       store = has.leaves.store;
@@ -67,40 +67,40 @@ started writer saver word kept mark frame last more at made has =
       same = subst (λ l. IsPermutation l []) (sym (ap₂ (λ b l. rows_upto b l kept.rows) more last ∙ low))
           (IsPermutation-refl []);
       ascend = tt;
-      spelled = ap₂ (λ (n : ℕ) (l : List ℕ). drop n l) at made ∙ sym (append-nil (begin_bytes word kept))
-          ∙ ap (λ b. bytes_upto b word kept []) (sym more);
-      put = subst (λ f. HasPut f (front_of word kept) (body_to kept [])) (sym frame)
-          (subst (λ (l : List ℕ). HasPut writer.frame (front_of word kept)
+      spelled = ap₂ (λ (n : ℕ) (l : List ℕ). drop n l) at made ∙ sym (append-nil (begin_bytes tag kept))
+          ∙ ap (λ b. bytes_upto b tag kept []) (sym more);
+      put = subst (λ f. HasPut f (front_of tag kept) (body_to kept [])) (sym frame)
+          (subst (λ (l : List ℕ). HasPut writer.frame (front_of tag kept)
           (preamble_bytes (preamble_of kept) ++ l)) none has.put);
     }
 
-pub saved_length : (word : ℕ) (kept : StoreView) → length (saved_bytes word kept) ≡ length (checkpoint_bytes kept) + 52
-saved_length word kept =
+pub saved_length : (tag : ℕ) (kept : StoreView) → length (saved_bytes tag kept) ≡ length (checkpoint_bytes kept) + 52
+saved_length tag kept =
     let body : List ℕ = checkpoint_bytes kept in
-    let front : List ℕ = front_bytes (length body) word in
+    let front : List ℕ = front_bytes (length body) tag in
     let a = length-append (front ++ body) (sha256 (front ++ body)) in
     let b = length-append front body in
-    let c = length-front (length body) word in
+    let c = length-front (length body) tag in
     let d = length-sha256 (front ++ body) in
     omega (arith, a, b, c, d)
 
 -- ---- the rows and the digest
 
 -- where all that was made was read, the bytes are those up to the rows
-read_all : (saver : Saver) (word : ℕ) (kept : StoreView) (read : List ℕ) → length saver.made.items ≤ saver.at
-    → (has : HasMade saver word kept read) → read ≡ bytes_upto saver.is_whole word kept has.rows
-read_all saver word kept read all' has =
+read_all : (saver : Saver) (tag : ℕ) (kept : StoreView) (read : List ℕ) → length saver.made.items ≤ saver.at
+    → (has : HasMade saver tag kept read) → read ≡ bytes_upto saver.is_whole tag kept has.rows
+read_all saver tag kept read all' has =
     sym (append-nil read) ∙ ap (λ (l : List ℕ). read ++ l) (sym (drop_all saver.at saver.made.items all')) ∙ has.spelled
 
-pub rows_made : (old new : Saver) (word : ℕ) (kept : StoreView) (read : List ℕ) (most : ℕ) (columns : List KeyCells)
+pub rows_made : (old new : Saver) (tag : ℕ) (kept : StoreView) (read : List ℕ) (most : ℕ) (columns : List KeyCells)
     → length old.made.items ≤ old.at → old.is_whole ≡ false → new.mark ≡ old.mark → new.is_whole ≡ old.is_whole
     → new.last.items ≡ last_key old.last.items columns → new.at ≡ 0 → 0 < length columns
     → AreNext kept.rows old.last.items most columns → HasColumns columns [] new.made.items
     → ((front body : List ℕ) → HasPut old.frame front body → HasPut new.frame front (body ++ new.made.items))
-    → HasMade old word kept read → HasMade new word kept read
-rows_made old new word kept read most [] all' more mark whole last at some next made put has =
+    → HasMade old tag kept read → HasMade new tag kept read
+rows_made old new tag kept read most [] all' more mark whole last at some next made put has =
     absurd (omega (arith, some))
-rows_made old new word kept read most (one ∷ others) all' more mark whole last at some next (rows, listed, is) put has =
+rows_made old new tag kept read most (one ∷ others) all' more mark whole last at some next (rows, listed, is) put has =
     let fm : List ℕ = flat_map row_bytes rows in
     let follow = rows_follow kept.rows old.last.items most one others next has.rows rows
     (subst (λ b. IsPermutation (rows_upto b old.last.items kept.rows) has.rows) more has.same) has.ascend listed in
@@ -118,21 +118,21 @@ rows_made old new word kept read most (one ∷ others) all' more mark whole last
           (sym (ap₂ (λ b l. rows_upto b l kept.rows) more' last)) follow.0;
       ascend = follow.1;
       spelled = ap₂ (λ (a b : List ℕ). a ++ b)
-          (read_all old word kept read all' has ∙ ap (λ b. bytes_upto b word kept has.rows) more)
+          (read_all old tag kept read all' has ∙ ap (λ b. bytes_upto b tag kept has.rows) more)
           (ap (λ n. drop n new.made.items) at ∙ is)
-          ∙ append_assoc (begin_bytes word kept) (flat_map row_bytes has.rows) fm
-          ∙ ap (λ (l : List ℕ). begin_bytes word kept ++ l) (sym (flat_map-append row_bytes has.rows rows))
-          ∙ ap (λ b. bytes_upto b word kept (has.rows ++ rows)) (sym more');
-      put = subst (λ (l : List ℕ). HasPut new.frame (front_of word kept) l) body
-          (put (front_of word kept) (body_to kept has.rows) has.put);
+          ∙ append_assoc (begin_bytes tag kept) (flat_map row_bytes has.rows) fm
+          ∙ ap (λ (l : List ℕ). begin_bytes tag kept ++ l) (sym (flat_map-append row_bytes has.rows rows))
+          ∙ ap (λ b. bytes_upto b tag kept (has.rows ++ rows)) (sym more');
+      put = subst (λ (l : List ℕ). HasPut new.frame (front_of tag kept) l) body
+          (put (front_of tag kept) (body_to kept has.rows) has.put);
     }
 
-pub digest_made : (old new : Saver) (word : ℕ) (kept : StoreView) (read : List ℕ) (most : ℕ)
+pub digest_made : (old new : Saver) (tag : ℕ) (kept : StoreView) (read : List ℕ) (most : ℕ)
     → length old.made.items ≤ old.at → old.is_whole ≡ false → new.mark ≡ old.mark → new.frame ≡ old.frame
     → new.is_whole ≡ true → new.at ≡ 0 → nat_lt 0 most ≡ true → AreNext kept.rows old.last.items most []
     → ((front body : List ℕ) → HasPut old.frame front body → new.made.items ≡ [] ++ sha256 (front ++ body))
-    → HasMade old word kept read → HasMade new word kept read
-digest_made old new word kept read most all' more mark frame whole at some next made has = record {
+    → HasMade old tag kept read → HasMade new tag kept read
+digest_made old new tag kept read most all' more mark frame whole at some next made has = record {
   store = has.store;
   fits = has.fits;
   mark = mark ∙ has.mark;
@@ -142,19 +142,19 @@ digest_made old new word kept read most all' more mark frame whole at some next 
       (subst (λ b. IsPermutation (rows_upto b old.last.items kept.rows) has.rows) more has.same));
   ascend = has.ascend;
   spelled = ap₂ (λ (a b : List ℕ). a ++ b)
-      (read_all old word kept read all' has ∙ ap (λ b. bytes_upto b word kept has.rows) more)
-      (ap (λ n. drop n new.made.items) at ∙ made (front_of word kept) (body_to kept has.rows) has.put)
-      ∙ ap (λ b. bytes_upto b word kept has.rows) (sym whole);
-  put = subst (λ f. HasPut f (front_of word kept) (body_to kept has.rows)) (sym frame) has.put;
+      (read_all old tag kept read all' has ∙ ap (λ b. bytes_upto b tag kept has.rows) more)
+      (ap (λ n. drop n new.made.items) at ∙ made (front_of tag kept) (body_to kept has.rows) has.put)
+      ∙ ap (λ b. bytes_upto b tag kept has.rows) (sym whole);
+  put = subst (λ f. HasPut f (front_of tag kept) (body_to kept has.rows)) (sym frame) has.put;
 }
 
 -- all that was read, at the end
-pub whole_read : (saver : Saver) (word : ℕ) (kept : StoreView) (read : List ℕ) → saver.is_whole ≡ true
-    → length saver.made.items ≤ saver.at → HasMade saver word kept read → AreOfStore read word kept
-whole_read saver word kept read whole all' has =
-    subst (λ (l : List ℕ). AreOfStore l word kept)
-    (sym (read_all saver word kept read all' has ∙ ap (λ b. bytes_upto b word kept has.rows) whole))
-    (sorted_whole word kept has.rows has.store has.fits
+pub whole_read : (saver : Saver) (tag : ℕ) (kept : StoreView) (read : List ℕ) → saver.is_whole ≡ true
+    → length saver.made.items ≤ saver.at → HasMade saver tag kept read → AreOfStore read tag kept
+whole_read saver tag kept read whole all' has =
+    subst (λ (l : List ℕ). AreOfStore l tag kept)
+    (sym (read_all saver tag kept read all' has ∙ ap (λ b. bytes_upto b tag kept has.rows) whole))
+    (sorted_whole tag kept has.rows has.store has.fits
     (subst (λ b. IsPermutation (rows_upto b saver.last.items kept.rows) has.rows) whole has.same) has.ascend)
 
 -- ---- what is read
@@ -166,9 +166,9 @@ drop_on (suc i) n (x ∷ l) =
     let so : suc i + n ≡ suc (i + n) = omega arith in
     ap (λ k. drop k (x ∷ l)) so ∙ drop_on i n l
 
-pub some_read : (old : Saver) (n : ℕ) (word : ℕ) (kept : StoreView) (read : List ℕ) → HasMade old word kept read
-    → HasMade (record old { at = old.at + n }) word kept (read ++ take n (drop old.at old.made.items))
-some_read old n word kept read has =
+pub some_read : (old : Saver) (n : ℕ) (tag : ℕ) (kept : StoreView) (read : List ℕ) → HasMade old tag kept read
+    → HasMade (record old { at = old.at + n }) tag kept (read ++ take n (drop old.at old.made.items))
+some_read old n tag kept read has =
     let left : List ℕ = drop old.at old.made.items in
     record {
       store = has.store;
@@ -236,7 +236,7 @@ pub record Reads (core : StoreView) (first now : Saver) (old new : List ℕ) (le
   pub long : length new ≡ length old
   pub rest : drop len new ≡ drop len old
   pub done : (len ≡ all') ⊎ (length now.made.items ≤ now.at)
-  pub made : (word : ℕ) (read : List ℕ) → HasMade first word core read → HasMade now word core (read ++ take len new)
+  pub made : (tag : ℕ) (read : List ℕ) → HasMade first tag core read → HasMade now tag core (read ++ take len new)
   pub some : 0 < turns → 0 < len
   pub fresh : len ≡ 0 → (now ≡ first) × (new ≡ old)
 
@@ -246,7 +246,7 @@ pub takes : (core : StoreView) (first mid now : Saver) (old out new : List ℕ) 
     → n ≡ min (length (drop mid.at mid.made.items)) (length out - len)
     → new ≡ take len out ++ (take n (drop mid.at mid.made.items) ++ drop (len + n) out)
     → now ≡ record mid { at = mid.at + n }
-    → ((word : ℕ) (read : List ℕ) → HasMade first word core read → HasMade mid word core (read ++ take len out))
+    → ((tag : ℕ) (read : List ℕ) → HasMade first tag core read → HasMade mid tag core (read ++ take len out))
     → (0 < turns → 0 < len + n) → (len + n ≡ 0 → (now ≡ first) × (new ≡ old))
     → Reads core first now old new (len + n) room turns
 takes core first mid now old out new len room n turns is_room within long rest many put is made some fresh =
@@ -270,12 +270,12 @@ takes core first mid now old out new len room n turns is_room within long rest m
           ∙ sym (drop_on len n old);
       done = subst (λ (s : Saver). (len + n ≡ room) ⊎ (length s.made.items ≤ s.at)) (sym is)
           (either (len + n) room (length mid.made.items) (mid.at + n) (omega (arith, many, g, inside, is_room, long)));
-      made = λ word read has.
-          subst (λ (s : Saver). HasMade s word core (read ++ take (len + n) new)) (sym is)
-          (subst (λ (l : List ℕ). HasMade (record mid { at = mid.at + n }) word core l)
+      made = λ tag read has.
+          subst (λ (s : Saver). HasMade s tag core (read ++ take (len + n) new)) (sym is)
+          (subst (λ (l : List ℕ). HasMade (record mid { at = mid.at + n }) tag core l)
           (append_assoc read (take len out) piece
           ∙ ap (λ (l : List ℕ). read ++ l) (sym (put_front out new piece len n inside is_long put)))
-          (some_read mid n word core (read ++ take len out) (made word read has)));
+          (some_read mid n tag core (read ++ take len out) (made tag read has)));
       some = some;
       fresh = fresh;
     }
@@ -288,7 +288,7 @@ pub takes_first : (core : StoreView) (first now : Saver) (old new : List ℕ) (n
 takes_first core first now old new n many put is =
     subst (λ k. Reads core first now old new k (length old) 0) (zero-add n)
     (takes core first first now old old new 0 (length old) n 0 refl (omega arith) refl refl many put is
-    (λ word read has. subst (HasMade first word core) (sym (append-nil read)) has) (λ lt. absurd (omega (arith, lt)))
+    (λ tag read has. subst (HasMade first tag core) (sym (append-nil read)) has) (λ lt. absurd (omega (arith, lt)))
     (λ none.
     let zero : n ≡ 0 = omega (arith, none) in
     let stays : first.at + n ≡ first.at = omega (arith, zero) in (
@@ -300,7 +300,7 @@ takes_first core first now old new n many put is =
 pub takes_more : (core : StoreView) (first before mid now : Saver) (old out new : List ℕ) (len n turns : ℕ)
     → Reads core first before old out len (length old) turns → (len ≡ length old → ⊥)
     → (mid.at ≡ 0) × (0 < length mid.made.items)
-    → ((word : ℕ) (read : List ℕ) → HasMade before word core read → HasMade mid word core read)
+    → ((tag : ℕ) (read : List ℕ) → HasMade before tag core read → HasMade mid tag core read)
     → n ≡ min (length (drop mid.at mid.made.items)) (length out - len)
     → new ≡ take len out ++ (take n (drop mid.at mid.made.items) ++ drop (len + n) out)
     → now ≡ record mid { at = mid.at + n } → Reads core first now old new (len + n) (length old) (turns + 1)
@@ -310,5 +310,5 @@ takes_more core first before mid now old out new len n turns so not_full (start,
     let long = so.long in
     let more : 0 < len + n = omega (arith, left, start, some, many, within, long, not_full) in
     takes core first mid now old out new len (length old) n (turns + 1) refl so.within so.long so.rest many put is
-    (λ word read has. made word (read ++ take len out) (so.made word read has)) (λ _. more)
+    (λ tag read has. made tag (read ++ take len out) (so.made tag read has)) (λ _. more)
     (λ none. absurd (omega (arith, none, more)))

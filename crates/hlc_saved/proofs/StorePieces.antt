@@ -85,16 +85,16 @@ columns_all leaf i a b past so =
 -- ---- leaves
 
 abbrev pub SavesMore : StoreWriter → ℕ → StoreView → List ℕ → List ℕ → List ℕ → Type 0
-SavesMore writer word kept bytes before after =
-    (piece : List ℕ) × (after ≡ before ++ piece) × HasSaved writer word kept (bytes ++ piece)
+SavesMore writer tag kept bytes before after =
+    (piece : List ℕ) × (after ≡ before ++ piece) × HasSaved writer tag kept (bytes ++ piece)
 
 -- one more leaf
-pub leaf_saved : (old new : StoreWriter) (word : ℕ) (kept : StoreView) (bytes : List ℕ) (leaf : List KeyCells)
+pub leaf_saved : (old new : StoreWriter) (tag : ℕ) (kept : StoreView) (bytes : List ℕ) (leaf : List KeyCells)
     (before after piece : List ℕ) → new.leaves ≡ old.leaves → new.next ≡ old.next + 1
     → slice_get old.leaves old.next ≡ Some leaf → HasColumns leaf before after → piece ≡ drop (length before) after
     → ((front body : List ℕ) → HasPut old.frame front body → HasPut new.frame front (body ++ piece))
-    → HasSaved old word kept bytes → SavesMore new word kept bytes before after
-leaf_saved old new word kept bytes leaf before after piece same next at (rows, listed, is) cut put has =
+    → HasSaved old tag kept bytes → SavesMore new tag kept bytes before after
+leaf_saved old new tag kept bytes leaf before after piece same next at (rows, listed, is) cut put has =
     let fm : List ℕ = flat_map row_bytes rows in
     let piece_is : piece ≡ fm = cut ∙ ap (drop (length before)) is ∙ drop_at before fm (length before) refl in
     let body : body_to kept has.rows ++ piece ≡ body_to kept (has.rows ++ rows) =
@@ -107,32 +107,32 @@ leaf_saved old new word kept bytes leaf before after piece same next at (rows, l
       fm,
       is,
       record {
-        leaves = subst (λ (leaves : List (List KeyCells)). AreLeavesOf leaves word kept) (sym same) has.leaves;
+        leaves = subst (λ (leaves : List (List KeyCells)). AreLeavesOf leaves tag kept) (sym same) has.leaves;
         rows = has.rows ++ rows;
         listed = subst (λ (cs : List KeyCells). AreListOf cs (has.rows ++ rows)) (sym columns)
             (list-append (columns_in (take old.next old.leaves)) leaf has.rows rows has.listed listed);
         spelled = ap (λ (l : List ℕ). l ++ fm) has.spelled
-            ∙ append_assoc (begin_bytes word kept) (flat_map row_bytes has.rows) fm
-            ∙ ap (λ (l : List ℕ). begin_bytes word kept ++ l) (sym (flat_map-append row_bytes has.rows rows));
-        put = subst (λ (l : List ℕ). HasPut new.frame (front_of word kept) l) body
-            (put (front_of word kept) (body_to kept has.rows) has.put);
+            ∙ append_assoc (begin_bytes tag kept) (flat_map row_bytes has.rows) fm
+            ∙ ap (λ (l : List ℕ). begin_bytes tag kept ++ l) (sym (flat_map-append row_bytes has.rows rows));
+        put = subst (λ (l : List ℕ). HasPut new.frame (front_of tag kept) l) body
+            (put (front_of tag kept) (body_to kept has.rows) has.put);
       },
     )
 
-pub saves_none : (writer : StoreWriter) (word : ℕ) (kept : StoreView) (bytes before : List ℕ)
-    → HasSaved writer word kept bytes → SavesMore writer word kept bytes before before
-saves_none writer word kept bytes before has =
-    ([], sym (append-nil before), subst (HasSaved writer word kept) (sym (append-nil bytes)) has)
+pub saves_none : (writer : StoreWriter) (tag : ℕ) (kept : StoreView) (bytes before : List ℕ)
+    → HasSaved writer tag kept bytes → SavesMore writer tag kept bytes before before
+saves_none writer tag kept bytes before has =
+    ([], sym (append-nil before), subst (HasSaved writer tag kept) (sym (append-nil bytes)) has)
 
-pub saves_then : (mid new : StoreWriter) (word : ℕ) (kept : StoreView) (bytes a b c : List ℕ)
-    → SavesMore mid word kept bytes a b
-    → ((all' : List ℕ) → HasSaved mid word kept all' → SavesMore new word kept all' b c)
-    → SavesMore new word kept bytes a c
-saves_then mid new word kept bytes a b c (x, is, has) step =
+pub saves_then : (mid new : StoreWriter) (tag : ℕ) (kept : StoreView) (bytes a b c : List ℕ)
+    → SavesMore mid tag kept bytes a b
+    → ((all' : List ℕ) → HasSaved mid tag kept all' → SavesMore new tag kept all' b c)
+    → SavesMore new tag kept bytes a c
+saves_then mid new tag kept bytes a b c (x, is, has) step =
     let more = step (bytes ++ x) has in (
       x ++ more.0,
       more.1 ∙ ap (λ (l : List ℕ). l ++ more.0) is ∙ append_assoc a x more.0,
-      subst (HasSaved new word kept) (append_assoc bytes x more.0) more.2,
+      subst (HasSaved new tag kept) (append_assoc bytes x more.0) more.2,
     )
 
 -- ---- the whole
@@ -145,10 +145,10 @@ rows_take rows others moved =
     ∙ sym (sum_by-IsPermutation (λ (row : Row). length (row_bytes row)) rows others moved)
     ∙ sym (length-flat_map row_bytes others)
 
-pub sorted_whole : (word : ℕ) (kept : StoreView) (rows : List Row) → IsStore kept → SavedFits word kept
+pub sorted_whole : (tag : ℕ) (kept : StoreView) (rows : List Row) → IsStore kept → SavedFits tag kept
     → IsPermutation kept.rows rows → RowsAscend rows
-    → AreOfStore ((begin_bytes word kept ++ flat_map row_bytes rows) ++ end_bytes word kept rows) word kept
-sorted_whole word kept rows store fits moved ascend =
+    → AreOfStore ((begin_bytes tag kept ++ flat_map row_bytes rows) ++ end_bytes tag kept rows) tag kept
+sorted_whole tag kept rows store fits moved ascend =
     let made : StoreView = with_rows_left kept rows kept.horizon in
     let is : IsCheckpointOf kept made = record {
       copy = record { same = refl; rows = moved };
@@ -173,17 +173,17 @@ sorted_whole word kept rows store fits moved ascend =
     a ∙ ap₂ (λ (m n : ℕ). m + n) (ap (λ (p : Preamble). length (preamble_bytes p)) same)
     (rows_take kept.rows rows moved)
     ∙ sym b in
-    let front : front_of word kept ≡ front_of word made = ap (λ (n : ℕ). front_bytes n word) long in
-    let begin : begin_bytes word kept ≡ begin_bytes word made =
+    let front : front_of tag kept ≡ front_of tag made = ap (λ (n : ℕ). front_bytes n tag) long in
+    let begin : begin_bytes tag kept ≡ begin_bytes tag made =
     ap₂ (λ (f : List ℕ) (p : Preamble). f ++ preamble_bytes p) front same in
-    let end : end_bytes word kept rows ≡ end_bytes word made rows =
+    let end : end_bytes tag kept rows ≡ end_bytes tag made rows =
     ap₂ (λ (f : List ℕ) (p : Preamble). sha256 (f ++ (preamble_bytes p ++ flat_map row_bytes rows))) front same in
-    let spelled : (begin_bytes word kept ++ flat_map row_bytes rows) ++ end_bytes word kept rows
-    ≡ saved_bytes word made =
-    ap₂ (λ (l m : List ℕ). (l ++ flat_map row_bytes rows) ++ m) begin end ∙ pieces word made in
-    let fit : SavedFits word made = record {
+    let spelled : (begin_bytes tag kept ++ flat_map row_bytes rows) ++ end_bytes tag kept rows
+    ≡ saved_bytes tag made =
+    ap₂ (λ (l m : List ℕ). (l ++ flat_map row_bytes rows) ++ m) begin end ∙ pieces tag made in
+    let fit : SavedFits tag made = record {
       frame = record {
-        word_fits = fits.frame.word_fits;
+        tag_fits = fits.frame.tag_fits;
         length_fits = subst (λ (n : ℕ). n < 18446744073709551616) long fits.frame.length_fits;
       };
       checkpoint = record {
@@ -201,10 +201,10 @@ sorted_whole word kept rows store fits moved ascend =
     } in
     (made, record { spelled = spelled; fits = fit; sound = store-checkpoint kept made store is }, is)
 
-pub saved_whole : (writer : StoreWriter) (word : ℕ) (kept : StoreView) (bytes : List ℕ)
-    → (has : HasSaved writer word kept bytes) → leaves_left writer ≡ 0
-    → AreOfStore (bytes ++ end_bytes word kept has.rows) word kept
-saved_whole writer word kept bytes has none =
+pub saved_whole : (writer : StoreWriter) (tag : ℕ) (kept : StoreView) (bytes : List ℕ)
+    → (has : HasSaved writer tag kept bytes) → leaves_left writer ≡ 0
+    → AreOfStore (bytes ++ end_bytes tag kept has.rows) tag kept
+saved_whole writer tag kept bytes has none =
     let rows : List Row = has.rows in
     let listed : AreListOf (columns_in writer.leaves) rows =
     subst (λ (leaves : List (List KeyCells)). AreListOf (columns_in leaves) rows)
@@ -212,46 +212,46 @@ saved_whole writer word kept bytes has none =
     let moved : IsPermutation kept.rows rows =
     subst (λ (xs : List Row). IsPermutation xs rows) has.leaves.rows
     (list-same (columns_in writer.leaves) rows listed) in
-    subst (λ (l : List ℕ). AreOfStore (l ++ end_bytes word kept rows) word kept) (sym has.spelled)
-    (sorted_whole word kept rows has.leaves.store has.leaves.fits moved
+    subst (λ (l : List ℕ). AreOfStore (l ++ end_bytes tag kept rows) tag kept) (sym has.spelled)
+    (sorted_whole tag kept rows has.leaves.store has.leaves.fits moved
     (list-ascend (columns_in writer.leaves) rows has.leaves.ascend listed))
 
 -- and they represent what the store does
-pub bytes_represent : (bytes : List ℕ) (word : ℕ) (kept : StoreView) (past : List Step) → AreOfStore bytes word kept
-    → Represents kept past → BytesRepresent bytes word past
-bytes_represent bytes word kept past (made, of, is) h = (made, of, copy-represents kept made past h is.copy)
+pub bytes_represent : (bytes : List ℕ) (tag : ℕ) (kept : StoreView) (past : List Step) → AreOfStore bytes tag kept
+    → Represents kept past → BytesRepresent bytes tag past
+bytes_represent bytes tag kept past (made, of, is) h = (made, of, copy-represents kept made past h is.copy)
 
 -- a writer that has begun
-pub begun : (writer : StoreWriter) (word : ℕ) (kept : StoreView) → AreLeavesOf writer.leaves word kept
-    → writer.next ≡ 0 → HasPut writer.frame (front_of word kept) (preamble_bytes (preamble_of kept))
-    → HasSaved writer word kept (begin_bytes word kept)
-begun writer word kept of next put = record {
+pub begun : (writer : StoreWriter) (tag : ℕ) (kept : StoreView) → AreLeavesOf writer.leaves tag kept
+    → writer.next ≡ 0 → HasPut writer.frame (front_of tag kept) (preamble_bytes (preamble_of kept))
+    → HasSaved writer tag kept (begin_bytes tag kept)
+begun writer tag kept of next put = record {
   leaves = of;
   rows = [];
   listed = subst (λ (n : ℕ). AreListOf (columns_in (take n writer.leaves)) []) (sym next) refl;
-  spelled = sym (append-nil (begin_bytes word kept));
-  put = subst (λ (l : List ℕ). HasPut writer.frame (front_of word kept) l)
+  spelled = sym (append-nil (begin_bytes tag kept));
+  put = subst (λ (l : List ℕ). HasPut writer.frame (front_of tag kept) l)
       (sym (append-nil (preamble_bytes (preamble_of kept)))) put;
 }
 
 -- the front and the part before the rows were hashed
-pub front_put : (frame : FrameWriter) (size word : ℕ) (p : Preamble) (kept : StoreView) → p ≡ preamble_of kept
-    → size ≡ length (checkpoint_bytes kept) → HasPut frame (front_bytes size word) (preamble_bytes p)
-    → HasPut frame (front_of word kept) (preamble_bytes (preamble_of kept))
-front_put frame size word p kept same sized put =
-    subst (λ (q : Preamble). HasPut frame (front_of word kept) (preamble_bytes q)) same
-    (subst (λ (n : ℕ). HasPut frame (front_bytes n word) (preamble_bytes p)) sized put)
+pub front_put : (frame : FrameWriter) (size tag : ℕ) (p : Preamble) (kept : StoreView) → p ≡ preamble_of kept
+    → size ≡ length (checkpoint_bytes kept) → HasPut frame (front_bytes size tag) (preamble_bytes p)
+    → HasPut frame (front_of tag kept) (preamble_bytes (preamble_of kept))
+front_put frame size tag p kept same sized put =
+    subst (λ (q : Preamble). HasPut frame (front_of tag kept) (preamble_bytes q)) same
+    (subst (λ (n : ℕ). HasPut frame (front_bytes n tag) (preamble_bytes p)) sized put)
 
 -- all pieces, from no bytes on
-pub all_saved : (writer : StoreWriter) (word : ℕ) (kept : StoreView) (none first second third : List ℕ) → none ≡ []
-    → first ≡ none ++ begin_bytes word kept
-    → SavesMore writer word kept (begin_bytes word kept) first second
-    → ((bytes : List ℕ) → HasSaved writer word kept bytes
-    → (piece : List ℕ) × (third ≡ second ++ piece) × AreOfStore (bytes ++ piece) word kept)
-    → AreOfStore third word kept
-all_saved writer word kept none first second third is1 is2 (x, is3, has) last =
-    let end = last (begin_bytes word kept ++ x) has in
-    let same : third ≡ (begin_bytes word kept ++ x) ++ end.0 =
+pub all_saved : (writer : StoreWriter) (tag : ℕ) (kept : StoreView) (none first second third : List ℕ) → none ≡ []
+    → first ≡ none ++ begin_bytes tag kept
+    → SavesMore writer tag kept (begin_bytes tag kept) first second
+    → ((bytes : List ℕ) → HasSaved writer tag kept bytes
+    → (piece : List ℕ) × (third ≡ second ++ piece) × AreOfStore (bytes ++ piece) tag kept)
+    → AreOfStore third tag kept
+all_saved writer tag kept none first second third is1 is2 (x, is3, has) last =
+    let end = last (begin_bytes tag kept ++ x) has in
+    let same : third ≡ (begin_bytes tag kept ++ x) ++ end.0 =
     end.1 ∙ ap (λ (l : List ℕ). l ++ end.0) (is3 ∙ ap (λ (l : List ℕ). l ++ x) (is2
-    ∙ ap (λ (l : List ℕ). l ++ begin_bytes word kept) is1)) in
-    subst (λ (l : List ℕ). AreOfStore l word kept) (sym same) end.2
+    ∙ ap (λ (l : List ℕ). l ++ begin_bytes tag kept) is1)) in
+    subst (λ (l : List ℕ). AreOfStore l tag kept) (sym same) end.2

@@ -11,19 +11,19 @@ use Rattle.hlc_saved.specs.declared.saving.Resumed.{Resumed}
 use Rattle.hlc_body.specs.Spelling.{saved_bytes, SavedFits}
 use Rattle.hlc_body.specs.Reading.{saved}
 
--- the bytes are the encoding of a word and a checkpoint
-pub record AreOf (bytes : List ℕ) (word : ℕ) (kept : StoreView) : Type 0 where
-  pub spelled : bytes ≡ saved_bytes word kept
-  pub fits : SavedFits word kept
+-- the bytes are the encoding of a tag and a checkpoint
+pub record AreOf (bytes : List ℕ) (tag : ℕ) (kept : StoreView) : Type 0 where
+  pub spelled : bytes ≡ saved_bytes tag kept
+  pub fits : SavedFits tag kept
   pub sound : IsCheckpoint kept
 
 -- and the checkpoint represents the past
 abbrev pub BytesRepresent : List ℕ → ℕ → List Step → Type 0
-BytesRepresent bytes word past = (kept : StoreView) × AreOf bytes word kept × Represents kept past
+BytesRepresent bytes tag past = (kept : StoreView) × AreOf bytes tag kept × Represents kept past
 
--- the bytes are the encoding of a word and a checkpoint of a store with this state
+-- the bytes are the encoding of a tag and a checkpoint of a store with this state
 abbrev pub AreOfStore : List ℕ → ℕ → StoreView → Type 0
-AreOfStore bytes word kept = (made : StoreView) × AreOf bytes word made × IsCheckpointOf kept made
+AreOfStore bytes tag kept = (made : StoreView) × AreOf bytes tag made × IsCheckpointOf kept made
 
 -- all of the bytes are one frame, whatever its body is
 abbrev pub AreFrame : List ℕ → Type 0
@@ -35,12 +35,12 @@ abbrev pub SpellNone : List ℕ → ResumeError → Type 0
 SpellNone bytes NoMemory = AreFrame bytes
 SpellNone bytes (Bytes fault) = saved bytes ≡ Err fault
 SpellNone bytes (Parts fault) =
-    (word : ℕ) × (kept : StoreView) × (saved bytes ≡ Ok (word, kept)) × IsFirstReason kept fault
+    (tag : ℕ) × (kept : StoreView) × (saved bytes ≡ Ok (tag, kept)) × IsFirstReason kept fault
 
 -- A store was made from the bytes, with exactly the state in them; or why not: the first fault of the bytes, or else
 -- the first reason why their content is no checkpoint; or, of a frame, out of memory.
 abbrev pub Resumes : List ℕ → Result Resumed ResumeError → Type 0
-Resumes bytes (Ok made) = (kept : StoreView) × AreOf bytes made.word kept × IsCopyOf kept made.core
+Resumes bytes (Ok made) = (kept : StoreView) × AreOf bytes made.tag kept × IsCopyOf kept made.core
 Resumes bytes (Err error) = SpellNone bytes error
 
 -- a store was made with exactly the state that was read; or why not: the fault of the reading, or else the first reason
@@ -52,7 +52,7 @@ Ends read (Err (Bytes fault)) = read ≡ Err fault
 Ends read (Err (Parts fault)) =
     (kept : StoreView) × (read ≡ Ok kept) × IsFirstReason kept fault
 
--- the same, with the word
+-- the same, with the tag
 abbrev pub EndsWith : Result StoreView WireFault → ℕ → Result Resumed ResumeError → Type 0
-EndsWith read word (Ok made) = Ends read (Ok made.core) × (made.word ≡ word)
-EndsWith read word (Err error) = Ends read (Err error)
+EndsWith read tag (Ok made) = Ends read (Ok made.core) × (made.tag ≡ tag)
+EndsWith read tag (Err error) = Ends read (Err error)

@@ -37,20 +37,20 @@ rows_upto false last rows = filter (λ row. is_le (slice_cmp nat_cmp row.key las
 
 -- the bytes up to these rows; with the digest, once all were made
 abbrev pub bytes_upto : Bool → ℕ → StoreView → List Row → List ℕ
-bytes_upto false word kept rows = begin_bytes word kept ++ flat_map row_bytes rows
-bytes_upto true word kept rows = (begin_bytes word kept ++ flat_map row_bytes rows) ++ end_bytes word kept rows
+bytes_upto false tag kept rows = begin_bytes tag kept ++ flat_map row_bytes rows
+bytes_upto true tag kept rows = (begin_bytes tag kept ++ flat_map row_bytes rows) ++ end_bytes tag kept rows
 
--- Of this word and this state, these bytes were read, and those that the saver still has come next: the first piece,
+-- Of this tag and this state, these bytes were read, and those that the saver still has come next: the first piece,
 -- the rows of the keys up to some key, by key, stamp and node, and at last the digest.
-pub record HasMade (saver : Saver) (word : ℕ) (kept : StoreView) (read : List ℕ) : Type 0 where
+pub record HasMade (saver : Saver) (tag : ℕ) (kept : StoreView) (read : List ℕ) : Type 0 where
   pub store : IsStore kept
-  pub fits : SavedFits word kept
+  pub fits : SavedFits tag kept
   pub mark : saver.mark ≡ mark_of kept
   pub rows : List Row
   pub same : IsPermutation (rows_upto saver.is_whole saver.last.items kept.rows) rows
   pub ascend : RowsAscend rows
-  pub spelled : read ++ drop saver.at saver.made.items ≡ bytes_upto saver.is_whole word kept rows
-  pub put : HasPut saver.frame (front_of word kept) (body_to kept rows)
+  pub spelled : read ++ drop saver.at saver.made.items ≡ bytes_upto saver.is_whole tag kept rows
+  pub put : HasPut saver.frame (front_of tag kept) (body_to kept rows)
 
 -- all bytes were made, and read
 abbrev pub IsRead : Saver → Type 0

@@ -17,39 +17,39 @@ use std::alloc::Global;
 pub struct Decoded {
     /// The checkpoint. `Checkpoint::fault` says whether it is one.
     pub checkpoint: Checkpoint,
-    /// The word that it was saved with.
-    pub word: u64,
+    /// The tag that it was saved with.
+    pub tag: u64,
 }
 
-/// Reads the checkpoint and the word from their encoding, which is all of the bytes.
+/// Reads the checkpoint and the tag from their encoding, which is all of the bytes.
 ///
 /// The frame is checked first: `Short`, `Version`, `Damaged` or `Trailing`. Then comes the first
 /// fault of its body from the left, `Trailing` at last. Memory runs out only where the frame is whole.
 pub fn decode_checkpoint(alloc: Global, bytes: &[u8]) -> Result<Decoded, DecodeError>
     // The bytes are the encoding of the result.
-    ensures found { IfOk result (λ made. SavedFits made.word made.checkpoint
-        × (bytes.now ≡ saved_bytes made.word made.checkpoint)) }
-    // The encoding of a word and a checkpoint is read, unless memory runs out.
-    ensures only { (word : ℕ) (kept : StoreView) → SavedFits word kept
-        → bytes.now ≡ saved_bytes word kept
-        → Gives {Y = ℕ × StoreView} (λ made. (made.word, made.checkpoint)) result (Ok (word, kept)) }
+    ensures found { IfOk result (λ made. SavedFits made.tag made.checkpoint
+        × (bytes.now ≡ saved_bytes made.tag made.checkpoint)) }
+    // The encoding of a tag and a checkpoint is read, unless memory runs out.
+    ensures only { (tag : ℕ) (kept : StoreView) → SavedFits tag kept
+        → bytes.now ≡ saved_bytes tag kept
+        → Gives {Y = ℕ × StoreView} (λ made. (made.tag, made.checkpoint)) result (Ok (tag, kept)) }
     // The fault is exactly this one.
-    ensures exact { Gives (λ made. (made.word, made.checkpoint)) result (saved bytes.now) }
+    ensures exact { Gives (λ made. (made.tag, made.checkpoint)) result (saved bytes.now) }
     // Memory runs out only after the frame was found whole.
     ensures memory { IsErrOf result DecodeError.NoMemory → AreFrame bytes.now }
 {
     all(alloc, bytes)
 }
 
-/// Reads a checkpoint and a word from all of the bytes.
+/// Reads a checkpoint and a tag from all of the bytes.
 fn all(alloc: Global, bytes: &[u8]) -> Result<Decoded, DecodeError>
-    ensures read { Gives (λ made. (made.word, made.checkpoint)) result (saved bytes.now) }
+    ensures read { Gives (λ made. (made.tag, made.checkpoint)) result (saved bytes.now) }
     ensures memory { IsErrOf result DecodeError.NoMemory → AreFrame bytes.now }
 {
     let frame = open_frame(bytes)?;
     let checkpoint = body_of(alloc, frame.body)?;
-    let word = frame.word;
-    Ok(Decoded { checkpoint, word })
+    let tag = frame.tag;
+    Ok(Decoded { checkpoint, tag })
 }
 
 /// Reads a checkpoint from all of the body of a frame.

@@ -8,7 +8,7 @@ ghost use Rattle.hlc_saved.specs.Writing.{begin_bytes, end_bytes};
 
 /// All that a `CheckpointWriter` appends, for the rows of the checkpoint in turn, are the bytes of the checkpoint.
 pub fn pieces_are_the_bytes()
-    ensures { (word : ℕ) (kept : StoreView) (rows : List ARow) → rows ≡ kept.rows
-        → (begin_bytes word kept ++ flat_map row_bytes rows) ++ end_bytes word kept rows
-        ≡ saved_bytes word kept }
+    ensures { (tag : ℕ) (kept : StoreView) (rows : List ARow) → rows ≡ kept.rows
+        → (begin_bytes tag kept ++ flat_map row_bytes rows) ++ end_bytes tag kept rows
+        ≡ saved_bytes tag kept }
 {}

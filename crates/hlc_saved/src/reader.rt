@@ -5,7 +5,7 @@ ghost use Rattle.hlc_saved.specs.Blocks.{HasRead};
 
 use crate::fault::ResumeError;
 use crate::parts::PartsReader;
-use crate::saving::{Resumed, with_word};
+use crate::saving::{Resumed, with_tag};
 use hlc_frame::FrameReader;
 use hlc_values::NoMemory;
 use std::alloc::Global;
@@ -48,16 +48,16 @@ impl CheckpointReader {
         self.parts.take(piece)
     }
 
-    /// Returns the store and the word, or the first fault, as `resume` returns them for all that
+    /// Returns the store and the tag, or the first fault, as `resume` returns them for all that
     /// was fed.
     pub fn finish(self) -> Result<Resumed, ResumeError>
         ensures { (fed : List ℕ) → HasRead self fed → Resumes fed result }
     {
         let CheckpointReader { frame, parts } = self;
-        let word = match frame.finish() {
-            Ok(word) => word,
+        let tag = match frame.finish() {
+            Ok(tag) => tag,
             Err(fault) => return Err(ResumeError::Bytes(fault)),
         };
-        with_word(parts.finish(), word)
+        with_tag(parts.finish(), tag)
     }
 }

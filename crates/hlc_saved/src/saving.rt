@@ -19,20 +19,20 @@ use std::alloc::Global;
 #[derive(Drop)]
 pub struct Resumed {
     pub core: Core,
-    /// The word that the bytes were saved with.
-    pub word: u64,
+    /// The tag that the bytes were saved with.
+    pub tag: u64,
 }
 
-/// Returns the bytes of a store and of a word: they represent every past that the store represents.
+/// Returns the bytes of a store and of a tag: they represent every past that the store represents.
 ///
 /// Refused only if memory runs out. It needs memory for the bytes, once, and little more: the rows are not copied.
-pub fn save(alloc: Global, core: &Core, word: u64) -> Result<Vec<u8>, NoMemory>
-    ensures kept { IfOk result (λ bytes. AreOfStore bytes.items word core.now) }
+pub fn save(alloc: Global, core: &Core, tag: u64) -> Result<Vec<u8>, NoMemory>
+    ensures kept { IfOk result (λ bytes. AreOfStore bytes.items tag core.now) }
     ensures represents { (past : List Step) → Represents core.now past
-        → IfOk result (λ bytes. BytesRepresent bytes.items word past) }
+        → IfOk result (λ bytes. BytesRepresent bytes.items tag past) }
 {
     let mut out = Vec::new(alloc);
-    let mut writer = StoreWriter::begin(&mut out, core, word)?;
+    let mut writer = StoreWriter::begin(&mut out, core, tag)?;
     out.reserve(whole_size(writer.size)?.saturating_sub(out.len()))?;
     let left = writer.left();
     for _ in 0..left {
@@ -50,11 +50,11 @@ pub fn save(alloc: Global, core: &Core, word: u64) -> Result<Vec<u8>, NoMemory>
 /// fault is found. Bytes that `save` returned are refused only if memory runs out.
 pub fn resume(alloc: Global, bytes: &[u8]) -> Result<Resumed, ResumeError>
     ensures exact { Resumes bytes.now result }
-    ensures word { (word : ℕ) (kept : StoreView) → AreOf bytes.now word kept
-        → IfOk result (λ made. made.word ≡ word) }
-    ensures represents { (word : ℕ) (past : List Step) → BytesRepresent bytes.now word past
+    ensures tag { (tag : ℕ) (kept : StoreView) → AreOf bytes.now tag kept
+        → IfOk result (λ made. made.tag ≡ tag) }
+    ensures represents { (tag : ℕ) (past : List Step) → BytesRepresent bytes.now tag past
         → IfOk result (λ made. Represents made.core past) }
-    ensures only { (word : ℕ) (kept : StoreView) → AreOf bytes.now word kept
+    ensures only { (tag : ℕ) (kept : StoreView) → AreOf bytes.now tag kept
         → IfErr result (λ error. error ≡ no_memory) }
 {
     resume_exactly(alloc, bytes)
@@ -68,16 +68,16 @@ fn resume_exactly(alloc: Global, bytes: &[u8]) -> Result<Resumed, ResumeError>
         Ok(frame) => frame,
         Err(fault) => return Err(ResumeError::Bytes(fault)),
     };
-    let word = frame.word;
-    with_word(finish(alloc, Stage::Start, frame.body), word)
+    let tag = frame.tag;
+    with_tag(finish(alloc, Stage::Start, frame.body), tag)
 }
 
-/// Returns a store with the word that its bytes were saved with, or why there is none.
-pub(crate) fn with_word(made: Result<Core, ResumeError>, word: u64) -> Result<Resumed, ResumeError>
-    ensures { (read : Result StoreView AFault) → Ends read made → EndsWith read word result }
+/// Returns a store with the tag that its bytes were saved with, or why there is none.
+pub(crate) fn with_tag(made: Result<Core, ResumeError>, tag: u64) -> Result<Resumed, ResumeError>
+    ensures { (read : Result StoreView AFault) → Ends read made → EndsWith read tag result }
 {
     match made {
-        Ok(core) => Ok(Resumed { core, word }),
+        Ok(core) => Ok(Resumed { core, tag }),
         Err(error) => Err(error),
     }
 }

@@ -45,17 +45,17 @@ pub struct Saver {
 }
 
 impl Saver {
-    /// Begins to save a store and a word of the caller's, and returns how many bytes it will be in all. It looks at
+    /// Begins to save a store and a tag of the caller's, and returns how many bytes it will be in all. It looks at
     /// each row, to add up its length.
     ///
     /// Refused only if memory runs out. It needs memory for a list of the leaves of the index of the keys, 16 bytes
     /// each, which is freed at once.
-    pub fn start(alloc: Global, core: &Core, word: u64) -> Result<(Saver, u64), NoMemory>
-        ensures made { IfOk result (λ begun. HasMade begun.0 word core.now []) }
-        ensures len { IfOk result (λ begun. begun.1 ≡ length (saved_bytes word core.now)) }
+    pub fn start(alloc: Global, core: &Core, tag: u64) -> Result<(Saver, u64), NoMemory>
+        ensures made { IfOk result (λ begun. HasMade begun.0 tag core.now []) }
+        ensures len { IfOk result (λ begun. begun.1 ≡ length (saved_bytes tag core.now)) }
     {
         let mut made = Vec::new(alloc);
-        let (frame, size) = StoreWriter::begin(&mut made, core, word)?.into_frame();
+        let (frame, size) = StoreWriter::begin(&mut made, core, tag)?.into_frame();
         let saver = Saver {
             mark: mark_of(&core.lent()),
             frame,
@@ -70,8 +70,8 @@ impl Saver {
     /// Returns whether all bytes were read.
     pub fn is_read(&self) -> bool
         ensures exact { IsTrue result ↔ IsRead self.now }
-        ensures whole { IsTrue result → (word : ℕ) (kept : StoreView) (read : List ℕ)
-            → HasMade self.now word kept read → AreOfStore read word kept }
+        ensures whole { IsTrue result → (tag : ℕ) (kept : StoreView) (read : List ℕ)
+            → HasMade self.now tag kept read → AreOfStore read tag kept }
     {
         self.is_whole && self.made.len() <= self.at
     }
@@ -81,8 +81,8 @@ impl Saver {
     ///
     /// Refused if the store changed since the start; then if memory ran out before any byte. Nothing is changed then.
     pub fn read(&mut self, core: &Core, out: &mut [u8]) -> Result<usize, SaverError>
-        ensures made { IfOk result (λ len. (word : ℕ) (read : List ℕ) → HasMade self.old word core.now read
-            → HasMade self.new word core.now (read ++ take len out.new)) }
+        ensures made { IfOk result (λ len. (tag : ℕ) (read : List ℕ) → HasMade self.old tag core.now read
+            → HasMade self.new tag core.now (read ++ take len out.new)) }
         ensures some { IfOk result
             (λ len. (0 < len) ⊎ (length out.old ≡ 0) ⊎ IsRead self.new) }
         ensures room { IfOk result (λ len. len ≤ length out.old) }
@@ -134,8 +134,8 @@ impl Saver {
         requires store { IsStore store.now }
         requires read { length self.old.made.items ≤ self.old.at }
         requires more { self.old.is_whole ≡ false }
-        ensures made { OnOk result ((word : ℕ) (read : List ℕ) → HasMade self.old word store.now read
-            → HasMade self.new word store.now read) }
+        ensures made { OnOk result ((tag : ℕ) (read : List ℕ) → HasMade self.old tag store.now read
+            → HasMade self.new tag store.now read) }
         ensures some { OnOk result ((self.new.at ≡ 0) × (0 < length self.new.made.items)) }
         ensures unchanged { OnErr result (self.new ≡ self.old) }
     {
@@ -151,9 +151,9 @@ impl Saver {
     fn make_digest(&mut self) -> Result<(), NoMemory>
         requires read { length self.old.made.items ≤ self.old.at }
         requires more { self.old.is_whole ≡ false }
-        ensures made { OnOk result ((word : ℕ) (kept : StoreView) (read : List ℕ)
-            → AreNext kept.rows self.old.last.items 32 [] → HasMade self.old word kept read
-            → HasMade self.new word kept read) }
+        ensures made { OnOk result ((tag : ℕ) (kept : StoreView) (read : List ℕ)
+            → AreNext kept.rows self.old.last.items 32 [] → HasMade self.old tag kept read
+            → HasMade self.new tag kept read) }
         ensures some { OnOk result ((self.new.at ≡ 0) × (0 < length self.new.made.items)) }
         ensures unchanged { OnErr result (self.new ≡ self.old) }
     {
@@ -171,9 +171,9 @@ impl Saver {
         requires writable { All IsWritable columns.now }
         requires read { length self.old.made.items ≤ self.old.at }
         requires more { self.old.is_whole ≡ false }
-        ensures made { OnOk result ((word : ℕ) (kept : StoreView) (read : List ℕ)
-            → AreNext kept.rows self.old.last.items 32 columns.now → HasMade self.old word kept read
-            → HasMade self.new word kept read) }
+        ensures made { OnOk result ((tag : ℕ) (kept : StoreView) (read : List ℕ)
+            → AreNext kept.rows self.old.last.items 32 columns.now → HasMade self.old tag kept read
+            → HasMade self.new tag kept read) }
         ensures some { All (λ one. 0 < length one.cells) columns.now
             → OnOk result ((self.new.at ≡ 0) × (0 < length self.new.made.items)) }
         ensures unchanged { OnErr result (self.new ≡ self.old) }

@@ -35,10 +35,10 @@ impl<'a> StoreWriter<'a> {
     /// Appends everything before the rows. It looks at each row, to add up its length.
     ///
     /// Refused only if memory runs out. `out` is unchanged then.
-    pub fn begin(out: &mut Vec<u8>, core: &'a Core, word: u64) -> Result<StoreWriter<'a>, NoMemory>
+    pub fn begin(out: &mut Vec<u8>, core: &'a Core, tag: u64) -> Result<StoreWriter<'a>, NoMemory>
         ensures written { IfOk result
-            (λ writer. HasSaved writer word core.now (begin_bytes word core.now)) }
-        ensures ok { OnOk result (out.new.items ≡ out.old.items ++ begin_bytes word core.now) }
+            (λ writer. HasSaved writer tag core.now (begin_bytes tag core.now)) }
+        ensures ok { OnOk result (out.new.items ≡ out.old.items ++ begin_bytes tag core.now) }
         ensures size { IfOk result (λ writer. writer.size ≡ length (checkpoint_bytes core.now)) }
         ensures unchanged { OnErr result (out.new.items ≡ out.old.items) }
     {
@@ -47,7 +47,7 @@ impl<'a> StoreWriter<'a> {
         let count = count_of(&store).ok_or(NoMemory)?;
         let preamble = PreambleRef::of_store(&store, count);
         let size = store_size(&store, &preamble, &leaves).ok_or(NoMemory)?;
-        let frame = begin_frame(out, &preamble, size, word)?;
+        let frame = begin_frame(out, &preamble, size, tag)?;
         let alloc = *out.allocator();
         Ok(StoreWriter {
             frame,
@@ -70,13 +70,13 @@ impl<'a> StoreWriter<'a> {
     ///
     /// Refused only if memory runs out. `out` and the writer are as before then, so that the call may be repeated.
     pub fn more(&mut self, out: &mut Vec<u8>) -> Result<bool, NoMemory>
-        ensures written { (word : ℕ) (kept : StoreView) (bytes : List ℕ)
-            → HasSaved self.old word kept bytes
+        ensures written { (tag : ℕ) (kept : StoreView) (bytes : List ℕ)
+            → HasSaved self.old tag kept bytes
             → OnOk result ((piece : List ℕ) × (out.new.items ≡ out.old.items ++ piece)
-            × HasSaved self.new word kept (bytes ++ piece)) }
-        ensures waits { (word : ℕ) (kept : StoreView) (bytes : List ℕ)
-            → HasSaved self.old word kept bytes
-            → OnErr result (HasSaved self.new word kept bytes) }
+            × HasSaved self.new tag kept (bytes ++ piece)) }
+        ensures waits { (tag : ℕ) (kept : StoreView) (bytes : List ℕ)
+            → HasSaved self.old tag kept bytes
+            → OnErr result (HasSaved self.new tag kept bytes) }
         ensures unchanged { OnErr result (out.new.items ≡ out.old.items) }
         ensures fewer { OnOk result (leaves_left self.new ≡ leaves_left self.old - 1) }
         ensures left { IfOk result (λ more. IsTrue more ↔ (0 < leaves_left self.new)) }
@@ -101,10 +101,10 @@ impl<'a> StoreWriter<'a> {
     ///
     /// Refused only if memory runs out. `out` is unchanged then.
     pub fn end(self, out: &mut Vec<u8>) -> Result<(), NoMemory>
-        ensures whole { (word : ℕ) (kept : StoreView) (bytes : List ℕ)
-            → HasSaved self.entry word kept bytes → leaves_left self.entry ≡ 0
+        ensures whole { (tag : ℕ) (kept : StoreView) (bytes : List ℕ)
+            → HasSaved self.entry tag kept bytes → leaves_left self.entry ≡ 0
             → OnOk result ((piece : List ℕ) × (out.new.items ≡ out.old.items ++ piece)
-            × AreOfStore (bytes ++ piece) word kept) }
+            × AreOfStore (bytes ++ piece) tag kept) }
         ensures unchanged { OnErr result (out.new.items ≡ out.old.items) }
     {
         let (frame, _) = self.into_frame();

@@ -21,7 +21,7 @@ use hlc_frame::{DIGEST_BYTES, FRONT_BYTES, FrameWriter};
 use hlc_values::NoMemory;
 use std::alloc::Global;
 
-/// Returns the one encoding of a checkpoint and a word of the caller's: for example, the position in its log up to
+/// Returns the one encoding of a checkpoint and a tag of the caller's: for example, the position in its log up to
 /// which the store has applied it.
 ///
 /// Refused for the first reason why it is no checkpoint; memory is needed only after the check. The bytes are allocated
@@ -29,12 +29,12 @@ use std::alloc::Global;
 pub fn encode_checkpoint(
     alloc: Global,
     checkpoint: &Checkpoint,
-    word: u64,
+    tag: u64,
 ) -> Result<Result<Vec<u8>, RestoreFault>, NoMemory>
     ensures sound { IfOk result (λ made. OnOk made (IsCheckpoint checkpoint.now)) }
-    ensures fits { IfOk result (λ made. OnOk made (SavedFits word checkpoint.now)) }
+    ensures fits { IfOk result (λ made. OnOk made (SavedFits tag checkpoint.now)) }
     ensures spelled { IfOk result
-        (λ made. IfOk made (λ bytes. bytes.items ≡ saved_bytes word checkpoint.now)) }
+        (λ made. IfOk made (λ bytes. bytes.items ≡ saved_bytes tag checkpoint.now)) }
     ensures err { IfOk result (λ made. IfErr made (IsFirstReason checkpoint.now)) }
     ensures memory { OnErr result (IsCheckpoint checkpoint.now) }
 {
@@ -43,7 +43,7 @@ pub fn encode_checkpoint(
     }
     let size = checkpoint_size(checkpoint).ok_or(NoMemory)?;
     let mut out = Vec::with_capacity(alloc, whole_size(size)?)?;
-    let frame = begin_frame(&mut out, &PreambleRef::of(checkpoint), size, word)?;
+    let frame = begin_frame(&mut out, &PreambleRef::of(checkpoint), size, tag)?;
     let piece = Vec::new(alloc);
     let mut writer = CheckpointWriter { frame, piece };
     writer.rows(&mut out, checkpoint.rows())?;
@@ -56,19 +56,19 @@ pub(crate) fn begin_frame(
     out: &mut Vec<u8>,
     preamble: &PreambleRef<'_>,
     size: u64,
-    word: u64,
+    tag: u64,
 ) -> Result<FrameWriter, NoMemory>
     requires links { length preamble.now.links.now < 65536 }
     requires snapshots { length preamble.now.snapshots.now < 65536 }
     ensures put { IfOk result
-        (λ frame. HasPut frame (front_bytes size word) (preamble_bytes (seen preamble.now))) }
+        (λ frame. HasPut frame (front_bytes size tag) (preamble_bytes (seen preamble.now))) }
     ensures ok { OnOk result (out.new.items
-        ≡ out.old.items ++ (front_bytes size word ++ preamble_bytes (seen preamble.now))) }
+        ≡ out.old.items ++ (front_bytes size tag ++ preamble_bytes (seen preamble.now))) }
     ensures small { size < 18446744073709551616 }
     ensures unchanged { OnErr result (out.new.items ≡ out.old.items) }
 {
     let mut piece = Vec::new(*out.allocator());
-    let mut frame = FrameWriter::begin(&mut piece, size, word)?;
+    let mut frame = FrameWriter::begin(&mut piece, size, tag)?;
     put_preamble(&mut piece, preamble)?;
     frame.put(bytes_from(piece.as_slice(), FRONT_BYTES));
     out.extend_from_slice(piece.as_slice())?;
@@ -104,14 +104,14 @@ impl CheckpointWriter {
     pub fn begin(
         out: &mut Vec<u8>,
         checkpoint: &Checkpoint,
-        word: u64,
+        tag: u64,
     ) -> Result<Result<CheckpointWriter, RestoreFault>, NoMemory>
         ensures sound { IfOk result (λ made. OnOk made (IsCheckpoint checkpoint.now)) }
-        ensures fits { IfOk result (λ made. OnOk made (SavedFits word checkpoint.now)) }
+        ensures fits { IfOk result (λ made. OnOk made (SavedFits tag checkpoint.now)) }
         ensures written { IfOk result
-            (λ made. IfOk made (λ writer. HasWritten writer word checkpoint.now [])) }
+            (λ made. IfOk made (λ writer. HasWritten writer tag checkpoint.now [])) }
         ensures ok { IfOk result (λ made. OnOk made
-            (out.new.items ≡ out.old.items ++ begin_bytes word checkpoint.now)) }
+            (out.new.items ≡ out.old.items ++ begin_bytes tag checkpoint.now)) }
         ensures err { IfOk result (λ made. IfErr made (IsFirstReason checkpoint.now)) }
         ensures refused { IfOk result (λ made. OnErr made (out.new.items ≡ out.old.items)) }
         ensures memory { OnErr result (IsCheckpoint checkpoint.now) }
@@ -121,7 +121,7 @@ impl CheckpointWriter {
             return Ok(Err(fault));
         }
         let size = checkpoint_size(checkpoint).ok_or(NoMemory)?;
-        let frame = begin_frame(out, &PreambleRef::of(checkpoint), size, word)?;
+        let frame = begin_frame(out, &PreambleRef::of(checkpoint), size, tag)?;
         let piece = Vec::new(*out.allocator());
         Ok(Ok(CheckpointWriter { frame, piece }))
     }
@@ -130,13 +130,13 @@ impl CheckpointWriter {
     /// passed in again.
     pub fn row(&mut self, out: &mut Vec<u8>, row: &Row) -> Result<(), NoMemory>
         requires { IsInLimits row.now }
-        ensures written { (word : ℕ) (kept : StoreView) (rows : List ARow)
-            → HasWritten self.old word kept rows
-            → OnOk result (HasWritten self.new word kept (rows ++ row.now ∷ [])) }
+        ensures written { (tag : ℕ) (kept : StoreView) (rows : List ARow)
+            → HasWritten self.old tag kept rows
+            → OnOk result (HasWritten self.new tag kept (rows ++ row.now ∷ [])) }
         ensures ok { OnOk result (out.new.items ≡ out.old.items ++ row_bytes row.now) }
-        ensures waits { (word : ℕ) (kept : StoreView) (rows : List ARow)
-            → HasWritten self.old word kept rows
-            → OnErr result (HasWritten self.new word kept rows) }
+        ensures waits { (tag : ℕ) (kept : StoreView) (rows : List ARow)
+            → HasWritten self.old tag kept rows
+            → OnErr result (HasWritten self.new tag kept rows) }
         ensures unchanged { OnErr result (out.new.items ≡ out.old.items) }
     {
         append_row(out, &mut self.piece, &RowRef::of(row))?;
@@ -147,8 +147,8 @@ impl CheckpointWriter {
     /// Appends some rows.
     fn rows(&mut self, out: &mut Vec<u8>, rows: &[Row]) -> Result<(), NoMemory>
         requires { AreInLimits rows.now }
-        ensures written { (word : ℕ) (kept : StoreView) → HasWritten self.old word kept []
-            → OnOk result (HasWritten self.new word kept rows.now) }
+        ensures written { (tag : ℕ) (kept : StoreView) → HasWritten self.old tag kept []
+            → OnOk result (HasWritten self.new tag kept rows.now) }
         ensures ok { OnOk result (out.new.items ≡ out.old.items ++ flat_map row_bytes rows.now) }
     {
         for row in rows {
@@ -159,8 +159,8 @@ impl CheckpointWriter {
 
     /// Appends the digest, which ends the frame. `out` is unchanged if memory runs out.
     pub fn end(self, out: &mut Vec<u8>) -> Result<(), NoMemory>
-        ensures ok { (word : ℕ) (kept : StoreView) (rows : List ARow) → HasWritten self word kept rows
-            → OnOk result (out.new.items ≡ out.old.items ++ end_bytes word kept rows) }
+        ensures ok { (tag : ℕ) (kept : StoreView) (rows : List ARow) → HasWritten self tag kept rows
+            → OnOk result (out.new.items ≡ out.old.items ++ end_bytes tag kept rows) }
         ensures unchanged { OnErr result (out.new.items ≡ out.old.items) }
     {
         let CheckpointWriter { frame, piece: _ } = self;

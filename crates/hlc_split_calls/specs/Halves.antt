@@ -13,9 +13,9 @@ use Rattle.hlc_split.specs.Merge.{IsReason, merge_code}
 use Rattle.hlc_split.specs.declared.joining.MergeFault.{MergeFault}
 use Rattle.hlc_split.specs.declared.joining.MergeFault.TheVariants as faults
 
--- the bytes are those of this word and checkpoint
+-- the bytes are those of this tag and checkpoint
 abbrev pub IsRead : List ℕ → ℕ → StoreView → Type 0
-IsRead bytes word kept = saved bytes ≡ Ok (word, kept)
+IsRead bytes tag kept = saved bytes ≡ Ok (tag, kept)
 
 -- out of memory
 abbrev pub IsShort : ℕ → ℕ → Type 0
@@ -34,13 +34,13 @@ IsNoCheckpoint kept code word =
     ⊎ ((reason : RestoreFault) × IsFirstReason kept reason × (code ≡ 107) × (word ≡ reason_code reason))
 
 -- the bytes are those of the two parts of the checkpoint of these bytes: that of the keys below this one, and that of
--- the others; each has the word of the whole
+-- the others; each has the tag of the whole
 pub record AreHalves (bytes key left right : List ℕ) : Type 0 where
-  pub word : ℕ
+  pub tag : ℕ
   pub kept : StoreView
-  pub of : IsRead bytes word kept
-  pub below : AreOf left word (part_of (is_under key) kept)
-  pub rest : AreOf right word (part_of (is_from key) kept)
+  pub of : IsRead bytes tag kept
+  pub below : AreOf left tag (part_of (is_under key) kept)
+  pub rest : AreOf right tag (part_of (is_from key) kept)
 
 -- no bytes were made: the checkpoint was not read, or a part of it is none; or memory ran out
 abbrev pub IsNotDivided : List ℕ → List ℕ → ℕ → ℕ → Type 0
@@ -54,17 +54,17 @@ IsNotDivided bytes key code word =
 abbrev pub join_of : StoreView → StoreView → StoreView
 join_of left right = with_rows_left left (left.rows ++ right.rows) left.horizon
 
--- the bytes are those of the checkpoint into which those of the left and of the right bytes are joined, with the word
+-- the bytes are those of the checkpoint into which those of the left and of the right bytes are joined, with the tag
 -- of the left ones; nothing but memory was a reason against it
 pub record AreJoined (left right bytes : List ℕ) : Type 0 where
-  pub word : ℕ
+  pub tag : ℕ
   pub other : ℕ
   pub lower : StoreView
   pub upper : StoreView
-  pub of_left : IsRead left word lower
+  pub of_left : IsRead left tag lower
   pub of_right : IsRead right other upper
   pub fit : IsReason lower upper faults.NoMemory
-  pub spelled : AreOf bytes word (join_of lower upper)
+  pub spelled : AreOf bytes tag (join_of lower upper)
 
 -- the answer for a reason why two checkpoints are not joined, or for out of memory, and its word
 abbrev pub merge_answer : MergeFault → ℕ

@@ -8,9 +8,9 @@ use hlc_saved::{Decoded, decode_checkpoint, encode_checkpoint};
 use hlc_wire::DecodeError;
 use std::alloc::Global;
 
-/// Reads a checkpoint and its word. Returns them; or 106 and the number of the first fault of the bytes, or 15.
+/// Reads a checkpoint and its tag. Returns them; or 106 and the number of the first fault of the bytes, or 15.
 pub(crate) fn read(alloc: Global, bytes: &[u8], word: &mut u64) -> Result<Decoded, u32>
-    ensures { MatchResult result (λ made. IsRead bytes.now made.word made.checkpoint)
+    ensures { MatchResult result (λ made. IsRead bytes.now made.tag made.checkpoint)
         (λ code. IsNotRead bytes.now code word.new) }
 {
     *word = 0;
@@ -24,7 +24,7 @@ pub(crate) fn read(alloc: Global, bytes: &[u8], word: &mut u64) -> Result<Decode
     }
 }
 
-/// Writes a checkpoint with a word of its own. Returns the bytes; or 107 and the number of the first reason why it is
+/// Writes a checkpoint with a tag of its own. Returns the bytes; or 107 and the number of the first reason why it is
 /// no checkpoint, or 15.
 pub(crate) fn written(
     alloc: Global,

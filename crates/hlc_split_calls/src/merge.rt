@@ -8,7 +8,7 @@ use hlc_saved::Decoded;
 use hlc_split::{MergeFault, merge};
 use std::alloc::Global;
 
-/// Joins the bytes of two checkpoints, of which the left one has the lower keys, with the word of the left one. Returns
+/// Joins the bytes of two checkpoints, of which the left one has the lower keys, with the tag of the left one. Returns
 /// the bytes; or 106 and the number of the first fault of the left bytes, or else of the right ones; or 113 and the
 /// number of the first reason why both are not joined; or 107 and the number of the first reason why what both make is
 /// no checkpoint; or 15.
@@ -19,11 +19,11 @@ pub fn joined(alloc: Global, left: &[u8], right: &[u8], word: &mut u64) -> Resul
 {
     let Decoded {
         checkpoint: lower,
-        word: own,
+        tag: own,
     } = read(alloc, left, word)?;
     let Decoded {
         checkpoint: upper,
-        word: _,
+        tag: _,
     } = read(alloc, right, word)?;
     *word = 0;
     let made = match merge(lower, upper) {

@@ -10,7 +10,7 @@ use hlc_split::split;
 use std::alloc::Global;
 
 /// Divides the bytes of a checkpoint at a key: those of the rows with lower keys, and those of the others, both with
-/// the word of the whole. Returns them; or 106 and the number of the first fault of the bytes; or 107 and the number of
+/// the tag of the whole. Returns them; or 106 and the number of the first fault of the bytes; or 107 and the number of
 /// the first reason why a half is no checkpoint; or 15.
 pub fn halves(
     alloc: Global,
@@ -24,7 +24,7 @@ pub fn halves(
 {
     let Decoded {
         checkpoint,
-        word: own,
+        tag: own,
     } = read(alloc, bytes, word)?;
     *word = 0;
     let Ok((below, rest)) = split(alloc, checkpoint, key) else {

@@ -33,15 +33,15 @@ impl Saved {
     }
 
     /// Holds the bytes of a store, and prints them.
-    pub(crate) fn save(&mut self, rt: &HostRuntime, core: &Core, word: u64) -> Option<()> {
-        self.bytes = save(rt.alloc(), core, word).ok();
+    pub(crate) fn save(&mut self, rt: &HostRuntime, core: &Core, tag: u64) -> Option<()> {
+        self.bytes = save(rt.alloc(), core, tag).ok();
         say_bytes(rt, "saved", self.bytes.as_ref()?.as_slice())
     }
 
     /// Holds the bytes of the checkpoint.
-    pub(crate) fn encode(&mut self, rt: &HostRuntime, word: u64) -> Option<()> {
+    pub(crate) fn encode(&mut self, rt: &HostRuntime, tag: u64) -> Option<()> {
         let checkpoint = self.checkpoint.as_ref()?;
-        self.bytes = encode_checkpoint(rt.alloc(), checkpoint, word).ok()?.ok();
+        self.bytes = encode_checkpoint(rt.alloc(), checkpoint, tag).ok()?.ok();
         say(rt, "encoded", &self.bytes.as_ref()?.len())
     }
 
@@ -87,10 +87,10 @@ impl Stored {
 
     /// Puts a store in place of this one, made of pieces: they are written from the store, and read in blocks of at
     /// most this size.
-    pub(crate) fn move_in_pieces(&mut self, rt: &HostRuntime, word: u64, size: u64) -> Option<()> {
+    pub(crate) fn move_in_pieces(&mut self, rt: &HostRuntime, tag: u64, size: u64) -> Option<()> {
         let core = self.core.as_ref()?;
         let mut reader = CheckpointReader::new(rt.alloc());
-        write_store(rt, &mut reader, core, word, (size as usize).max(1)).ok()?;
+        write_store(rt, &mut reader, core, tag, (size as usize).max(1)).ok()?;
         self.replace(rt, reader.finish())
     }
 
@@ -115,12 +115,12 @@ impl Stored {
         say(rt, "copied", &())
     }
 
-    /// Replaces the store by the one that was made of bytes, and prints the word with it; or prints why none was made.
+    /// Replaces the store by the one that was made of bytes, and prints the tag with it; or prints why none was made.
     fn replace(&mut self, rt: &HostRuntime, made: Result<Resumed, ResumeError>) -> Option<()> {
         match made {
             Ok(made) => {
                 self.core = Some(made.core);
-                say(rt, "resumed", &made.word)
+                say(rt, "resumed", &made.tag)
             }
             Err(ResumeError::NoMemory) => None,
             Err(error) => say(rt, "refused", &error),
@@ -133,13 +133,13 @@ fn write_store(
     rt: &HostRuntime,
     reader: &mut CheckpointReader,
     core: &Core,
-    word: u64,
+    tag: u64,
     size: usize,
 ) -> Result<(), NoMemory>
     requires { 0 < size }
 {
     let mut out = Vec::new(rt.alloc());
-    let mut writer = StoreWriter::begin(&mut out, core, word)?;
+    let mut writer = StoreWriter::begin(&mut out, core, tag)?;
     for _ in 0..writer.left() {
         writer.more(&mut out)?;
         if out.len() >= size {

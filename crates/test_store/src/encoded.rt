@@ -2,7 +2,7 @@
 //! compared with bytes that were written by hand, and a checkpoint that is written in pieces.
 ghost use Rattle.std.specs.Prelude.{◌≡◌, ◌⊎◌, ◌++◌, ◌<◌, List, ℕ, IfOk, IfSome, OnOk, IsErrOf, length};
 ghost use Rattle.hlc_frame.specs.Frame.{frame_bytes};
-ghost use Rattle.hlc_frame.specs.Reading.{word_of};
+ghost use Rattle.hlc_frame.specs.Reading.{tag_of};
 ghost use Rattle.hlc_core.specs.Past.{Step};
 ghost use Rattle.hlc_core.specs.StoreView.{Represents};
 ghost use Rattle.hlc_witness.specs.Cost.{IsInLimits};
@@ -31,19 +31,19 @@ pub(crate) fn written_again(alloc: Global, bytes: &[u8]) -> Option<Vec<u8>>
 }
 
 /// Writes the frame of a body that is in memory.
-pub(crate) fn put_frame(out: &mut Vec<u8>, word: u64, body: &[u8]) -> Result<(), AllocError>
-    ensures { OnOk result (out.new.items ≡ out.old.items ++ frame_bytes word body.now) }
+pub(crate) fn put_frame(out: &mut Vec<u8>, tag: u64, body: &[u8]) -> Result<(), AllocError>
+    ensures { OnOk result (out.new.items ≡ out.old.items ++ frame_bytes tag body.now) }
 {
-    let mut writer = FrameWriter::begin(out, body.len() as u64, word)?;
+    let mut writer = FrameWriter::begin(out, body.len() as u64, tag)?;
     out.extend_from_slice(body)?;
     writer.put(body);
     writer.end(out)?;
     Ok(())
 }
 
-/// Returns the word of a frame that comes in two blocks.
-pub(crate) fn word_of_two(first: &[u8], second: &[u8]) -> Result<u64, WireFault>
-    ensures { result ≡ word_of (first.now ++ second.now) }
+/// Returns the tag of a frame that comes in two blocks.
+pub(crate) fn tag_of_two(first: &[u8], second: &[u8]) -> Result<u64, WireFault>
+    ensures { result ≡ tag_of (first.now ++ second.now) }
 {
     let mut reader = FrameReader::new();
     let _ = reader.feed(first);
@@ -73,7 +73,7 @@ pub(crate) fn resume_two(alloc: Global, first: &[u8], second: &[u8]) -> Result<R
 
 /// Restores a store from a checkpoint and a log, if all of the log was applied.
 pub(crate) fn restart(alloc: Global, checkpoint: &[u8], log: &[u8]) -> Option<Core>
-    ensures { (word : ℕ) (past : List Step) → BytesRepresent checkpoint.now word past
+    ensures { (tag : ℕ) (past : List Step) → BytesRepresent checkpoint.now tag past
         → IfSome result (λ core. (records : List ARecord) × (log.now ≡ log_bytes records)
         × Represents core (with_records records past)) }
 {
@@ -104,11 +104,11 @@ fn a_message_as_bytes(rt: HostRuntime) {
 fn in_pieces(
     alloc: Global,
     checkpoint: &Checkpoint,
-    word: u64,
+    tag: u64,
 ) -> Result<Result<Vec<u8>, RestoreFault>, AllocError> {
     let mut piece = Vec::new(alloc);
     let mut whole = Vec::new(alloc);
-    let mut writer = match CheckpointWriter::begin(&mut piece, checkpoint, word)? {
+    let mut writer = match CheckpointWriter::begin(&mut piece, checkpoint, tag)? {
         Ok(writer) => writer,
         Err(fault) => return Ok(Err(fault)),
     };

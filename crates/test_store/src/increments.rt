@@ -40,7 +40,7 @@ fn an_increment_makes_an_older_checkpoint_newer(rt: HostRuntime) {
     let read = decode_increment(alloc, bytes.as_slice())
         .ok()
         .expect(&rt, "an increment");
-    assert!(&rt; read.word == 7);
+    assert!(&rt; read.tag == 7);
     let newer = advance(older, read.increment)
         .ok()
         .expect(&rt, "a checkpoint");

@@ -7,5 +7,5 @@ returns-clause-made c = is_made _ _ _ _ c.resume.ensures.exact c.answered.ensure
 
 pub returns-clause-represents : goal.returns-clause-represents
 returns-clause-represents c = λ saved past bytes.
-    is_past _ _ _ _ _ c.answered.ensures (c.resume.ensures.word saved bytes.0 bytes.1)
+    is_past _ _ _ _ _ c.answered.ensures (c.resume.ensures.tag saved bytes.0 bytes.1)
     (c.resume.ensures.represents saved past bytes) (c.resume.ensures.only saved bytes.0 bytes.1)

@@ -2,7 +2,7 @@
 use Rattle.std.proofs.Common.{sym, subst}
 use Rattle.hlc_saved.specs.declared.reader.CheckpointReader.{CheckpointReader}
 use Rattle.hlc_saved.specs.Blocks.{HasRead}
-use Rattle.hlc_saved.proofs.SaveLemmas.{resumed_word, resumed_represents, resumed_only}
+use Rattle.hlc_saved.proofs.SaveLemmas.{resumed_tag, resumed_represents, resumed_only}
 use Rattle.hlc_calls.proofs.ResumedLemmas.{is_made, is_past}
 use Rattle.hlc_handle_calls.proofs.Openings.{restores, restores_past}
 use Rattle.hlc_handle_calls.proofs.restorings.finish.Goals as goal
@@ -23,5 +23,5 @@ returns-clause-represents c =
     let resumed = c.finish.ensures fed
     (subst (λ (reader : CheckpointReader). HasRead reader fed) (sym c.into_inner.ensures) read) in
     restores_past saved past _ _ _ _ _ (is_past saved past _ _ _ c.answered-made.ensures
-    (resumed_word _ fed saved of.0 of.1 resumed) (resumed_represents _ fed saved past of resumed)
+    (resumed_tag _ fed saved of.0 of.1 resumed) (resumed_represents _ fed saved past of resumed)
     (resumed_only _ fed saved of.0 of.1 resumed)) c.opened.ensures)

@@ -9,11 +9,11 @@ returns-then-is_read c =
     rw (c.in-Some.ensures.boxed, c.take.ensures.closed) (
       refl,
       (c.in-Ok.ensures.room, c.in-Ok.ensures.rest),
-      λ word read has.
+      λ tag read has.
           let all' : List ℕ = read ++ take c.in-Ok.many c.read.new.out in
-          c.is_read.ensures.whole c.if-is_read.true word c.args.core.now all'
-          (subst (λ (saver : Saver). HasMade saver word c.args.core.now all')
+          c.is_read.ensures.whole c.if-is_read.true tag c.args.core.now all'
+          (subst (λ (saver : Saver). HasMade saver tag c.args.core.now all')
           (sym c.deref.ensures)
-          (c.in-Ok.ensures.made word read
-          (subst (λ (saver : Saver). HasMade saver word c.args.core.now read) (sym c.deref_mut.ensures.value) has))),
+          (c.in-Ok.ensures.made tag read
+          (subst (λ (saver : Saver). HasMade saver tag c.args.core.now read) (sym c.deref_mut.ensures.value) has))),
     )

@@ -10,6 +10,6 @@ pub returns-clause-found : goal.returns-clause-found
 returns-clause-found c = found c.all.result c.args.bytes.now (λ i. omega (arith, c.type_inv.bytes i)) c.all.ensures
 
 pub returns-clause-only : goal.returns-clause-only
-returns-clause-only c = λ word increment fits e.
-    subst (λ r. Gives (λ (made : DecodedIncrement). (made.word, made.increment)) c.all.result r)
-    (ap increment_at e ∙ increment_again word increment fits) c.all.ensures
+returns-clause-only c = λ tag increment fits e.
+    subst (λ r. Gives (λ (made : DecodedIncrement). (made.tag, made.increment)) c.all.result r)
+    (ap increment_at e ∙ increment_again tag increment fits) c.all.ensures

@@ -17,7 +17,7 @@ returns-in-Err c = record {
   represents = λ before after kept newer read past more of h spelled fits is g. tt;
   err = inr (inr (
     c.in_ok-kept.kept,
-    c.in_ok-read.field-0.word,
+    c.in_ok-read.field-0.tag,
     c.in_ok-read.field-0.increment,
     c.in_ok-kept.ensures,
     c.in_ok-read.ensures,
@@ -40,17 +40,17 @@ returns-in-Ok-new-clause-represents c = λ before after kept newer read past mor
     ok_is (before', kept') (before, kept)
     (sym c.in_ok-kept.ensures.1 ∙ ap saved of.spelled ∙ saved_again before kept of.fits) in
     let same : kept' ≡ kept = ap (λ (x : ℕ × StoreView). x.1) older in
-    let after' : ℕ = c.in_ok-read.field-0.word in
+    let after' : ℕ = c.in_ok-read.field-0.tag in
     let read' : IncrementView = c.in_ok-read.field-0.increment in
     let both : (after', read') ≡ (after, read) =
     ok_is (after', read') (after, read)
     (sym c.in_ok-read.ensures ∙ ap increment_at spelled ∙ increment_again after read fits) in
-    let word : c.in_ok-read.after ≡ after = sym c.in_ok-read.after-is ∙ ap (λ (x : ℕ × IncrementView). x.0) both in
+    let tag : c.in_ok-read.after ≡ after = sym c.in_ok-read.after-is ∙ ap (λ (x : ℕ × IncrementView). x.0) both in
     let found : read' ≡ read = ap (λ (x : ℕ × IncrementView). x.1) both in
     let bytes : AreOf c.in-Ok-new.boxed.value.items c.in_ok-read.after c.in_ok-made.made =
     search (rules, common_steps) in (
       c.in_ok-made.made,
-      subst (λ w. AreOf c.in-Ok-new.boxed.value.items w c.in_ok-made.made) word bytes,
+      subst (λ w. AreOf c.in-Ok-new.boxed.value.items w c.in_ok-made.made) tag bytes,
       c.in_ok-made.ensures.represents past more newer
           (subst (λ (k : StoreView). Represents k past) (sym same) h) g
           (subst (λ (i : IncrementView). IsIncrementOf newer i) (sym found) is),

@@ -10,6 +10,6 @@ pub returns-clause-found : goal.returns-clause-found
 returns-clause-found c = found c.all.result c.args.bytes.now (λ i. omega (arith, c.type_inv.bytes i)) c.all.ensures.read
 
 pub returns-clause-only : goal.returns-clause-only
-returns-clause-only c = λ word kept fits e.
-    subst (λ r. Gives (λ (made : Decoded). (made.word, made.checkpoint)) c.all.result r)
-    (ap saved e ∙ saved_again word kept fits) c.all.ensures.read
+returns-clause-only c = λ tag kept fits e.
+    subst (λ r. Gives (λ (made : Decoded). (made.tag, made.checkpoint)) c.all.result r)
+    (ap saved e ∙ saved_again tag kept fits) c.all.ensures.read

@@ -10,10 +10,10 @@ returns-in-Err c = saved_fault c.args.bytes.now c.in-Err.fault c.in-Err.ensures.
 
 pub returns : goal.returns
 returns c =
-    resumes c.with_word.result (whole (checkpoint_at (c.in-Ok.frame.body.now ++ []))) c.in-Ok.frame.word
+    resumes c.with_tag.result (whole (checkpoint_at (c.in-Ok.frame.body.now ++ []))) c.in-Ok.frame.tag
     c.args.bytes.now
     (λ i. omega (arith, c.type_inv.bytes i))
-    (saved_body c.args.bytes.now c.in-Ok.frame.word c.in-Ok.frame.body.now c.in-Ok.ensures.exact)
-    ((c.in-Ok.frame.word, c.in-Ok.frame.body.now), c.in-Ok.ensures.exact)
-    (c.with_word.ensures (whole (checkpoint_at (c.in-Ok.frame.body.now ++ [])))
+    (saved_body c.args.bytes.now c.in-Ok.frame.tag c.in-Ok.frame.body.now c.in-Ok.ensures.exact)
+    ((c.in-Ok.frame.tag, c.in-Ok.frame.body.now), c.in-Ok.ensures.exact)
+    (c.with_tag.ensures (whole (checkpoint_at (c.in-Ok.frame.body.now ++ [])))
     (c.finish.ensures (λ more. checkpoint_at (c.in-Ok.frame.body.now ++ more)) (λ more. refl)))

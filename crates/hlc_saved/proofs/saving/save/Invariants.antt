@@ -6,6 +6,6 @@ use Rattle.hlc_saved.proofs.saving.save.Given as goal
 
 abbrev pub invariant-loop : goal.invariant-loop
 invariant-loop l = record {
-  saved : SavesMore l.writer l.word l.core (begin_bytes l.word l.core) (begin_bytes l.word l.core) l.out.items;
+  saved : SavesMore l.writer l.tag l.core (begin_bytes l.tag l.core) (begin_bytes l.tag l.core) l.out.items;
   fewer : leaves_left l.writer ≡ l.left - l.counter;
 }

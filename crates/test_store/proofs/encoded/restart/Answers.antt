@@ -3,5 +3,5 @@ use Rattle.hlc_log.proofs.LogLemmas.{whole-log}
 use Rattle.test_store.proofs.encoded.restart.Goals as goal
 
 pub returns-in-None : goal.returns-in-None
-returns-in-None c = λ word past of.
-    whole-log _ c.args.log.now past 0 _ (c.in-Ok.ensures.represents word past of).1 c.in-None.is
+returns-in-None c = λ tag past of.
+    whole-log _ c.args.log.now past 0 _ (c.in-Ok.ensures.represents tag past of).1 c.in-None.is

@@ -13,8 +13,8 @@ returns-then-is_empty-clause-made c =
     let none : c.in_ok-columns.columns.items ≡ [] =
     nil_from_length c.in_ok-columns.columns.items (omega (arith, zero, long)) in
     on_ok c.make_digest.result
-    (λ made word read has.
-    made word c.args.store.now read
+    (λ made tag read has.
+    made tag c.args.store.now read
     (subst (AreNext c.args.store.now.rows c.args.self.now.last.items 32) none
     (subst (λ l. AreNext c.args.store.now.rows l 32 c.in_ok-columns.columns.items) c.as_slice.ensures.value
     c.in_ok-columns.ensures.next)) has)

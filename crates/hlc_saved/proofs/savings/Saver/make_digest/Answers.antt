@@ -5,8 +5,8 @@ use Rattle.hlc_saved.proofs.Savers.{digest_made}
 use Rattle.hlc_saved.proofs.savings.Saver.make_digest.Goals as goal
 
 pub returns-clause-made : goal.returns-clause-made
-returns-clause-made c = λ word kept read next has.
-    digest_made c.args.self.now _ word kept read 32 c.requires.read c.requires.more refl refl refl refl refl next
+returns-clause-made c = λ tag kept read next has.
+    digest_made c.args.self.now _ tag kept read 32 c.requires.read c.requires.more refl refl refl refl refl next
     (λ front body put.
     c.in_ok-append_digest.ensures.ok front body put
     ∙ ap (λ (l : List ℕ). l ++ sha256 (front ++ body)) c.new-made.ensures.items) has

@@ -10,9 +10,9 @@ use Rattle.hlc_saved.proofs.Savers.{rows_made}
 use Rattle.hlc_saved.proofs.savings.Saver.make_rows.Goals as goal
 
 pub returns-clause-made : goal.returns-clause-made
-returns-clause-made c = λ word kept read next has.
+returns-clause-made c = λ tag kept read next has.
     let columns : List KeyCells = c.args.columns.now in
-    rows_made c.args.self.now _ word kept read 32 columns c.requires.read c.requires.more refl refl
+    rows_made c.args.self.now _ tag kept read 32 columns c.requires.read c.requires.more refl refl
     (c.in_ok-last.ensures.items ∙ c.key.ensures
     ∙ last_at c.args.self.now.last.items columns c.index-columns-columns.result c.requires.some
     c.index-columns-columns.is)

@@ -16,7 +16,7 @@ loop-preserved c =
     c.loop.out c.take-len-in-loop.new.out c.loop.len c.take-len-in-loop.result c.loop.counter c.loop.invariant
     c.if-len-room.false
     (of_ok c.make.result c.is_err.result c.is_err.ensures.value c.if-is_err.false c.make.ensures.some)
-    (subst (λ (core : StoreView). (word : ℕ) (read : List ℕ) → HasMade c.loop.self word core read
-    → HasMade c.make.new.self word core read) c.lent-store.ensures.same
+    (subst (λ (core : StoreView). (tag : ℕ) (read : List ℕ) → HasMade c.loop.self tag core read
+    → HasMade c.make.new.self tag core read) c.lent-store.ensures.same
     (of_ok c.make.result c.is_err.result c.is_err.ensures.value c.if-is_err.false c.make.ensures.made))
     c.take-len-in-loop.ensures.len c.take-len-in-loop.ensures.copied c.take-len-in-loop.ensures.passed

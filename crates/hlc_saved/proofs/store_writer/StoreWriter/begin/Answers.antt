@@ -19,12 +19,12 @@ pub returns-clause-written : goal.returns-clause-written
 returns-clause-written c =
     let at = (goal.at.returns-clause-written c).In_ok-size in
     let same = c.lent-store.ensures.same in
-    begun _ c.args.word c.args.core.now
+    begun _ c.args.tag c.args.core.now
     (record {
       store = c.lent-store.ensures.sound;
       fits = record {
         frame = record {
-          word_fits = c.ranges.word.fits;
+          tag_fits = c.ranges.tag.fits;
           length_fits = subst (λ (n : ℕ). n < 18446744073709551616) (is_sized at) c.begin_frame.ensures.small;
         };
         checkpoint = subst CheckpointFits same
@@ -35,13 +35,13 @@ returns-clause-written c =
       ascend = c.in_ok-leaves.ensures.ascend;
     })
     refl
-    (front_put c.in_ok-frame.frame c.in_ok-size.size c.args.word (seen c.of_store-preamble.result) c.args.core.now
+    (front_put c.in_ok-frame.frame c.in_ok-size.size c.args.tag (seen c.of_store-preamble.result) c.args.core.now
     (c.of_store-preamble.ensures ∙ ap preamble_of same) (is_sized at) c.in_ok-frame.ensures.put)
 
 pub returns-clause-ok : goal.returns-clause-ok
 returns-clause-ok c =
     let at = (goal.at.returns-clause-ok c).In_ok-size in
-    first_piece (seen c.of_store-preamble.result) c.args.core.now c.in_ok-size.size c.args.word c.args.out.now.items
+    first_piece (seen c.of_store-preamble.result) c.args.core.now c.in_ok-size.size c.args.tag c.args.out.now.items
     c.begin_frame.new.out.items (c.of_store-preamble.ensures ∙ ap preamble_of c.lent-store.ensures.same)
     (is_sized at) c.in_ok-frame.ensures.ok
 

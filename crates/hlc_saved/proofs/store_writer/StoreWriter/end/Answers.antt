@@ -7,10 +7,10 @@ use Rattle.hlc_saved.proofs.StorePieces.{saved_whole}
 use Rattle.hlc_saved.proofs.store_writer.StoreWriter.end.Goals as goal
 
 pub returns-clause-whole : goal.returns-clause-whole
-returns-clause-whole c = λ word kept bytes has none. (
-  end_bytes word kept has.rows,
-  c.in_ok-end.ensures.ok (front_of word kept) (body_to kept has.rows)
-      (subst (λ (frame : FrameWriter). HasPut frame (front_of word kept) (body_to kept has.rows))
+returns-clause-whole c = λ tag kept bytes has none. (
+  end_bytes tag kept has.rows,
+  c.in_ok-end.ensures.ok (front_of tag kept) (body_to kept has.rows)
+      (subst (λ (frame : FrameWriter). HasPut frame (front_of tag kept) (body_to kept has.rows))
       (sym c.into_frame.ensures.frame) has.put),
-  saved_whole c.args.self word kept bytes has none,
+  saved_whole c.args.self tag kept bytes has none,
 )

@@ -4,8 +4,8 @@ use Rattle.hlc_saved.proofs.StorePieces.{leaf_saved}
 use Rattle.hlc_saved.proofs.store_writer.StoreWriter.more.Goals as goal
 
 pub returns-clause-written : goal.returns-clause-written
-returns-clause-written c = λ word kept bytes has.
+returns-clause-written c = λ tag kept bytes has.
     let long : c.len-before.result ≡ length c.args.out.now.items = omega (arith, c.len-before.ensures) in
-    leaf_saved c.args.self.now _ word kept bytes c.at-leaf.result.now c.args.out.now.items
+    leaf_saved c.args.self.now _ tag kept bytes c.at-leaf.result.now c.args.out.now.items
     c.append_leaf.new.out.items c.bytes_from.result.now refl refl c.at-leaf.ensures.leaf c.in_default.ensures.ok
     (c.bytes_from.ensures ∙ ap₂ (λ (n : ℕ) (l : List ℕ). drop n l) long c.as_slice.ensures.value) c.put.ensures has

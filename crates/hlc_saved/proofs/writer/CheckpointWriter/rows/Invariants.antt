@@ -8,7 +8,7 @@ use Rattle.hlc_saved.proofs.writer.CheckpointWriter.rows.Given as goal
 
 abbrev pub invariant-loop-row : goal.invariant-loop-row
 invariant-loop-row l = record {
-  written : (word : ℕ) (kept : StoreView) → HasWritten l.fn.self word kept []
-      → HasWritten l.self word kept (take l.row-index l.rows);
+  written : (tag : ℕ) (kept : StoreView) → HasWritten l.fn.self tag kept []
+      → HasWritten l.self tag kept (take l.row-index l.rows);
   returned : l.out.items ≡ l.fn.out.items ++ flat_map row_bytes (take l.row-index l.rows);
 }
