@@ -1,23 +1,23 @@
 //! The certificates of stored rows, before a vacuum and after it, compared with numbers by hand.
-use crate::changes::{says, second};
-use hlc_core::{CertificateFault, Core, CoreFault};
+use crate::items::{new_store, says};
+use hlc_core::{CertificateFault, CoreFault};
 use std::test::*;
+use test_support::makers::at_second;
 
 #[test]
 fn a_vacuum_leaves_a_certificate(rt: HostRuntime) {
-    let alloc = rt.alloc();
-    let mut core = Core::new(alloc, 1).ok().expect(&rt, "a store");
-    says(&rt, alloc, &mut core, 0, b"a", Some(b"1"));
-    says(&rt, alloc, &mut core, 1, b"a", Some(b"22"));
-    says(&rt, alloc, &mut core, 2, b"b", None);
+    let mut core = new_store(&rt);
+    says(&rt, &mut core, 0, b"a", Some(b"1"));
+    says(&rt, &mut core, 1, b"a", Some(b"22"));
+    says(&rt, &mut core, 2, b"b", None);
     let first = core
-        .certificate(second(1))
+        .certificate(at_second(1))
         .ok()
         .expect(&rt, "a certificate");
     assert!(&rt; (first.kept, first.bytes, first.dropped) == (1, 12, 0));
-    let floor = second(3);
+    let floor = at_second(3);
     let above = CertificateFault::Vacuum(CoreFault::AboveFloor { floor });
-    assert!(&rt; core.certificate(second(4)).err() == Some(above));
+    assert!(&rt; core.certificate(at_second(4)).err() == Some(above));
     assert!(&rt; core.certificate(floor).err() == Some(CertificateFault::NotFewest));
     let report = core.vacuum().ok().expect(&rt, "a vacuum");
     let left = core.certificate(floor).ok().expect(&rt, "a certificate");
@@ -25,5 +25,5 @@ fn a_vacuum_leaves_a_certificate(rt: HostRuntime) {
     assert!(&rt; (left.kept, left.bytes, left.dropped) == (1, 13, 0));
     assert!(&rt; (left.points, left.witnesses) == (report.points, report.witnesses));
     let below = CertificateFault::Vacuum(CoreFault::BelowHorizon { horizon: floor });
-    assert!(&rt; core.certificate(second(1)).err() == Some(below));
+    assert!(&rt; core.certificate(at_second(1)).err() == Some(below));
 }

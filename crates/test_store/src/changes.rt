@@ -1,43 +1,15 @@
 //! The changes between open snapshots, and the versions of a key, compared with values by hand.
-use crate::items::bytes;
-use hlc_core::{Body, Changes, Core, Item, Stamp, Versions};
-use std::alloc::Global;
+use crate::items::{new_store, says};
+use hlc_core::{Changes, Core, Stamp, Versions};
 use std::process::Abort;
 use std::test::*;
+use test_support::makers::at_second;
 
 /// A key and its value, or none if it was deleted.
 type Change<'a> = (&'a [u8], Option<&'a [u8]>);
 
 /// The seconds of a row's stamp, and the row's value, or none for a deletion.
-type Version<'a> = (u64, Option<&'a [u8]>);
-
-/// Returns a stamp of this many seconds.
-pub(crate) fn second(seconds: u64) -> Stamp {
-    Stamp::from_bits(seconds.wrapping_mul(65_536))
-}
-
-/// Lets the node write a key, or delete it where there is no value, as its item of this number, a second later each.
-pub(crate) fn says<R: Abort>(
-    rt: &R,
-    alloc: Global,
-    core: &mut Core,
-    number: u64,
-    key: &[u8],
-    value: Option<&[u8]>,
-) {
-    let value = match value {
-        None => None,
-        Some(text) => Some(bytes(rt, alloc, text)),
-    };
-    let key = bytes(rt, alloc, key);
-    let item = Item {
-        node: 0,
-        number,
-        stamp: second(number.wrapping_add(1)),
-        body: Body::Write { key, value },
-    };
-    assert!(rt; core.accept(item).is_ok());
-}
+type Version<'a> = (u8, Option<&'a [u8]>);
 
 /// Checks that these changes come next, and then none.
 fn are<R: Abort>(rt: &R, mut changes: Changes<'_>, expected: &[Change<'_>]) {
@@ -64,21 +36,20 @@ fn differ<R: Abort>(rt: &R, core: &Core, early: u64, late: u64) {
 
 #[test]
 fn changes_are_those_between_two_snapshots(rt: HostRuntime) {
-    let alloc = rt.alloc();
-    let mut core = Core::new(alloc, 1).ok().expect(&rt, "a store");
-    says(&rt, alloc, &mut core, 0, b"a", Some(b"1"));
-    says(&rt, alloc, &mut core, 1, b"b", Some(b"2"));
-    says(&rt, alloc, &mut core, 2, b"c", Some(b"3"));
-    let early = core.open(second(3)).ok().expect(&rt, "a snapshot");
-    says(&rt, alloc, &mut core, 3, b"b", None);
-    says(&rt, alloc, &mut core, 4, b"a", Some(b"1"));
-    says(&rt, alloc, &mut core, 5, b"c", Some(b"6"));
-    says(&rt, alloc, &mut core, 6, b"d", Some(b"7"));
-    let late = core.open(second(7)).ok().expect(&rt, "a snapshot");
+    let mut core = new_store(&rt);
+    says(&rt, &mut core, 0, b"a", Some(b"1"));
+    says(&rt, &mut core, 1, b"b", Some(b"2"));
+    says(&rt, &mut core, 2, b"c", Some(b"3"));
+    let early = core.open(at_second(3)).ok().expect(&rt, "a snapshot");
+    says(&rt, &mut core, 3, b"b", None);
+    says(&rt, &mut core, 4, b"a", Some(b"1"));
+    says(&rt, &mut core, 5, b"c", Some(b"6"));
+    says(&rt, &mut core, 6, b"d", Some(b"7"));
+    let late = core.open(at_second(7)).ok().expect(&rt, "a snapshot");
     differ(&rt, &core, early, late);
     assert!(&rt; core.vacuum().is_ok());
     differ(&rt, &core, early, late);
-    assert!(&rt; core.close(early) == Ok(second(3)));
+    assert!(&rt; core.close(early) == Ok(at_second(3)));
     assert!(&rt; core.changes(early, late).is_none());
     assert!(&rt; core.changes(late, early).is_none());
 }
@@ -89,7 +60,7 @@ fn list<R: Abort>(rt: &R, mut versions: Versions<'_>, expected: &[Version<'_>]) 
         let Some((at, node, value)) = versions.next() else {
             return assert!(rt; false);
         };
-        assert!(rt; at == second(version.0));
+        assert!(rt; at == at_second(version.0));
         assert!(rt; node == 0);
         assert!(rt; value == version.1);
     }
@@ -98,24 +69,27 @@ fn list<R: Abort>(rt: &R, mut versions: Versions<'_>, expected: &[Version<'_>]) 
 
 #[test]
 fn versions_come_newest_first(rt: HostRuntime) {
-    let alloc = rt.alloc();
-    let mut core = Core::new(alloc, 1).ok().expect(&rt, "a store");
-    says(&rt, alloc, &mut core, 0, b"a", Some(b"1"));
-    says(&rt, alloc, &mut core, 1, b"b", Some(b"2"));
-    says(&rt, alloc, &mut core, 2, b"a", None);
-    says(&rt, alloc, &mut core, 3, b"a", Some(b"4"));
+    let mut core = new_store(&rt);
+    says(&rt, &mut core, 0, b"a", Some(b"1"));
+    says(&rt, &mut core, 1, b"b", Some(b"2"));
+    says(&rt, &mut core, 2, b"a", None);
+    says(&rt, &mut core, 3, b"a", Some(b"4"));
     list(
         &rt,
-        core.versions(b"a", Stamp::ZERO, second(4)),
+        core.versions(b"a", Stamp::ZERO, at_second(4)),
         &[(4, Some(b"4")), (3, None), (1, Some(b"1"))],
     );
-    list(&rt, core.versions(b"a", second(1), second(3)), &[(3, None)]);
-    list(&rt, core.versions(b"a", second(4), second(9)), &[]);
-    list(&rt, core.versions(b"c", Stamp::ZERO, second(9)), &[]);
+    list(
+        &rt,
+        core.versions(b"a", at_second(1), at_second(3)),
+        &[(3, None)],
+    );
+    list(&rt, core.versions(b"a", at_second(4), at_second(9)), &[]);
+    list(&rt, core.versions(b"c", Stamp::ZERO, at_second(9)), &[]);
     assert!(&rt; core.vacuum().is_ok());
     list(
         &rt,
-        core.versions(b"a", Stamp::ZERO, second(4)),
+        core.versions(b"a", Stamp::ZERO, at_second(4)),
         &[(4, Some(b"4"))],
     );
 }

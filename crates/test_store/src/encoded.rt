@@ -11,7 +11,8 @@ ghost use Rattle.hlc_saved.specs.Saved.{BytesRepresent, Resumes};
 ghost use Rattle.hlc_log.specs.declared.record.Record.{Record as ARecord};
 ghost use Rattle.hlc_log.specs.Log.{log_bytes, with_records};
 
-use crate::changes::says;
+use crate::items::{new_store, says};
+use crate::parts::copied;
 use hlc_body::{Row, RowRef, append_row};
 use hlc_clock::Stamp;
 use hlc_core::{Checkpoint, Core, RestoreFault};
@@ -125,10 +126,10 @@ fn in_pieces(
 #[test]
 fn a_checkpoint_in_pieces(rt: HostRuntime) {
     let alloc = rt.alloc();
-    let mut core = Core::new(alloc, 1).ok().expect(&rt, "a store");
-    says(&rt, alloc, &mut core, 0, b"a", Some(b"1"));
-    says(&rt, alloc, &mut core, 1, b"b", None);
-    let checkpoint = core.checkpoint().ok().expect(&rt, "a checkpoint");
+    let mut core = new_store(&rt);
+    says(&rt, &mut core, 0, b"a", Some(b"1"));
+    says(&rt, &mut core, 1, b"b", None);
+    let checkpoint = copied(&rt, &core);
     let pieces = in_pieces(alloc, &checkpoint, 7).expect(&rt, "memory");
     let whole = encode_checkpoint(alloc, &checkpoint, 7).expect(&rt, "memory");
     let pieces = pieces.expect(&rt, "a checkpoint");

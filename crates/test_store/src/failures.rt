@@ -15,13 +15,13 @@ use std::test::*;
 
 /// What a run or a check reads.
 #[derive(Clone, Copy, Debug)]
-pub(crate) enum Input {
-    Script(&'static [u8]),
-    Certificate(&'static [u8]),
+enum Input<'a> {
+    Script(&'a [u8]),
+    Certificate(&'a [u8]),
 }
 
-impl Input {
-    pub(crate) fn text(self) -> &'static [u8] {
+impl<'a> Input<'a> {
+    fn text(self) -> &'a [u8] {
         match self {
             Input::Script(text) | Input::Certificate(text) => text,
         }
@@ -29,12 +29,12 @@ impl Input {
 }
 
 /// Runs or checks the input, and returns the exit status with the reader and the writer.
-pub(crate) fn run<R: Read + Drop>(
+fn run<R: Read + Drop, W: Write + Drop>(
     alloc: Global,
-    input: Input,
+    input: Input<'_>,
     reader: R,
-    writer: Taking,
-) -> (u8, R, Taking) {
+    writer: W,
+) -> (u8, R, W) {
     let mut reader = Watched::new(reader);
     let mut writer = Watched::new(writer);
     let status = match input {
@@ -45,7 +45,7 @@ pub(crate) fn run<R: Read + Drop>(
 }
 
 /// An input, and what is written for it.
-type Case = (Input, &'static [u8]);
+type Case = (Input<'static>, &'static [u8]);
 
 const CASES: [Case; 2] = [
     (Input::Script(SCRIPT), REPLIES),
@@ -71,7 +71,7 @@ impl Read for Letters {
 }
 
 /// Takes all, and counts the blocks of fewer than 32,768 bytes.
-#[derive(Drop)]
+#[derive(Default, Drop)]
 struct Counting {
     blocks: u64,
     small: u64,
@@ -98,10 +98,10 @@ fn reads_fail<H: AllocGlobal + Abort>(rt: &H, case: Case, kind: ErrorKind, most:
     let reads = text.len().div_ceil(most.max(1)) as u64 + 1;
     for at in 1..reads + 2 {
         let reader = Giving {
-            text,
             most,
             kind,
             calls: Calls::new(at),
+            ..Giving::whole(text)
         };
         let (status, reader, writer) = run(rt.alloc(), input, reader, Taking::whole(rt.alloc()));
         let seen = (status, writer.taken.as_slice(), reader.calls.made);
@@ -120,7 +120,7 @@ trait Written {
     fn write(&self, alloc: Global, writer: Taking) -> (u8, Taking);
 }
 
-impl Written for Input {
+impl Written for Input<'_> {
     fn write(&self, alloc: Global, writer: Taking) -> (u8, Taking) {
         let (status, _, writer) = run(alloc, *self, Giving::whole(self.text()), writer);
         (status, writer)
@@ -146,10 +146,10 @@ fn writes_fail<W: Written, H: AllocGlobal + Abort>(
     let writes = output.len().div_ceil(most.max(1)) as u64;
     for at in 1..writes + 2 {
         let writer = Taking {
-            taken: Vec::new(rt.alloc()),
             most,
             fault,
             calls: Calls::new(at),
+            ..Taking::whole(rt.alloc())
         };
         let (status, writer) = written.write(rt.alloc(), writer);
         let before = output.len().min(most.saturating_mul(at as usize - 1));
@@ -178,8 +178,8 @@ fn each_write_fails<W: Written, H: AllocGlobal + Abort>(rt: &H, written: &W, out
 
 fn pair<H: AllocGlobal + Abort>(rt: &H, key: &[u8], value: &[u8]) -> Pair {
     Pair {
-        key: bytes(rt, rt.alloc(), key),
-        value: bytes(rt, rt.alloc(), value),
+        key: bytes(rt, key),
+        value: bytes(rt, value),
     }
 }
 
@@ -255,17 +255,17 @@ fn the_longest_input(rt: HostRuntime) {
     }
 }
 
-/// Runs a script, and returns how many blocks were written, and how many of them had fewer than 32,768 bytes.
-fn blocks_of<H: AllocGlobal + Abort>(rt: &H, text: &[u8]) -> (u64, u64) {
-    let mut reader = Watched::new(Giving::whole(text));
-    let mut writer = Watched::new(Counting {
-        blocks: 0,
-        small: 0,
-    });
-    let end = run_script(rt.alloc(), &mut reader, &mut writer);
-    assert_eq!(rt; end.status(), 0);
-    let Counting { blocks, small } = writer.into_inner();
-    (blocks, small)
+/// Runs a script whose replies leave in this many blocks, at least and at most. At most one of them has fewer than
+/// 32,768 bytes.
+fn leaves_in_blocks<H: AllocGlobal + Abort>(rt: &H, text: &[u8], least: u64, most: u64) {
+    let (reader, writer) = (Giving::whole(text), Counting::default());
+    let (status, _, counted) = run(rt.alloc(), Input::Script(text), reader, writer);
+    let Counting { blocks, small } = counted;
+    assert_eq!(rt; status, 0);
+    assert!(rt;
+        least <= blocks && blocks <= most && small <= 1,
+        "{blocks} {small}"
+    );
 }
 
 #[test]
@@ -274,11 +274,7 @@ fn replies_leave_in_blocks(rt: HostRuntime) -> Result<(), Fail> {
     for _ in 0..3000 {
         text.extend_from_slice(b"write 0 5 a x\n")?;
     }
-    let (blocks, small) = blocks_of(&rt, text.as_slice());
-    assert!(rt;
-        2 <= blocks && blocks <= 16 && small <= 1,
-        "{blocks} {small}"
-    );
+    leaves_in_blocks(&rt, text.as_slice(), 2, 16);
     Ok(())
 }
 
@@ -293,10 +289,6 @@ fn long_values_leave_in_blocks(rt: HostRuntime) -> Result<(), Fail> {
     for _ in 0..20 {
         text.extend_from_slice(b"floor\nread 1 a\n")?;
     }
-    let (blocks, small) = blocks_of(&rt, text.as_slice());
-    assert!(rt;
-        20 <= blocks && blocks <= 41 && small <= 1,
-        "{blocks} {small}"
-    );
+    leaves_in_blocks(&rt, text.as_slice(), 20, 41);
     Ok(())
 }

@@ -4,10 +4,12 @@ ghost use Rattle.hlc_core.specs.Past.{Step};
 ghost use Rattle.hlc_core.specs.StoreView.{Represents};
 ghost use Rattle.hlc_increment.specs.Increment.{without_drops};
 
-use crate::changes::{says, second};
+use crate::items::{new_store, says};
+use crate::parts::{copied, restored};
 use hlc_core::{Checkpoint, Core};
 use hlc_increment::{Increment, IncrementFault, advance, decode_increment, encode_increment};
 use std::test::*;
+use test_support::makers::at_second;
 
 /// Returns the checkpoint that an older one becomes by an increment of a store, whose floor it had.
 pub(crate) fn next(core: &Core, older: Checkpoint) -> Option<Checkpoint>
@@ -26,13 +28,13 @@ pub(crate) fn next(core: &Core, older: Checkpoint) -> Option<Checkpoint>
 #[test]
 fn an_increment_makes_an_older_checkpoint_newer(rt: HostRuntime) {
     let alloc = rt.alloc();
-    let mut core = Core::new(alloc, 1).ok().expect(&rt, "a store");
-    says(&rt, alloc, &mut core, 0, b"a", Some(b"1"));
-    says(&rt, alloc, &mut core, 1, b"b", Some(b"2"));
-    let older = core.checkpoint().ok().expect(&rt, "a checkpoint");
-    says(&rt, alloc, &mut core, 2, b"a", Some(b"3"));
-    says(&rt, alloc, &mut core, 3, b"c", Some(b"4"));
-    let since = Increment::of(&core, second(2))
+    let mut core = new_store(&rt);
+    says(&rt, &mut core, 0, b"a", Some(b"1"));
+    says(&rt, &mut core, 1, b"b", Some(b"2"));
+    let older = copied(&rt, &core);
+    says(&rt, &mut core, 2, b"a", Some(b"3"));
+    says(&rt, &mut core, 3, b"c", Some(b"4"));
+    let since = Increment::of(&core, at_second(2))
         .ok()
         .expect(&rt, "an increment");
     let bytes = encode_increment(alloc, &since, 7).expect(&rt, "memory");
@@ -44,14 +46,17 @@ fn an_increment_makes_an_older_checkpoint_newer(rt: HostRuntime) {
     let newer = advance(older, read.increment)
         .ok()
         .expect(&rt, "a checkpoint");
-    let copy = Core::from_checkpoint(alloc, newer).expect(&rt, "memory");
-    let mut copy = copy.expect(&rt, "a store");
+    let mut copy = restored(&rt, newer);
     assert!(&rt; copy.rows() == 4);
     let (id, at) = copy.open_floor().ok().expect(&rt, "a snapshot");
-    assert!(&rt; at == second(4));
+    assert!(&rt; at == at_second(4));
     assert!(&rt; copy.read(id, b"a") == Ok(Some(b"3".as_slice())));
     assert!(&rt; copy.read(id, b"b") == Ok(Some(b"2".as_slice())));
     assert!(&rt; core.vacuum().is_ok());
-    let late = Increment::of(&core, second(2)).err();
-    assert!(&rt; late == Some(IncrementFault::BelowHorizon { horizon: second(4) }));
+    let late = Increment::of(&core, at_second(2)).err();
+    assert!(&rt;
+        late == Some(IncrementFault::BelowHorizon {
+            horizon: at_second(4)
+        })
+    );
 }

@@ -1,25 +1,42 @@
 //! Values to pass in.
-use hlc_core::{Body, Bytes, Item, Stamp};
-use std::alloc::Global;
+use hlc_core::{Body, Bytes, Core, Item};
 use std::process::Abort;
 use std::test::*;
+use test_support::makers::said;
 
 /// Returns a copy of the text.
-pub(crate) fn bytes<R: Abort>(rt: &R, alloc: Global, text: &[u8]) -> Bytes {
-    Bytes::from_slice(alloc, text).expect(rt, "memory")
+pub(crate) fn bytes<H: Abort + AllocGlobal>(rt: &H, text: &[u8]) -> Bytes {
+    Bytes::from_slice(rt.alloc(), text).expect(rt, "memory")
 }
 
-/// Returns the first item of node 0, a write to this key at 1.0, or a deletion where there is no value.
-pub(crate) fn item<R: Abort>(rt: &R, alloc: Global, key: &[u8], value: Option<&[u8]>) -> Item {
-    let key = bytes(rt, alloc, key);
+/// Returns the item of this number of node 0, a write to this key a second later than the one before, or a deletion
+/// where there is no value.
+pub(crate) fn item<H: Abort + AllocGlobal>(
+    rt: &H,
+    number: u8,
+    key: &[u8],
+    value: Option<&[u8]>,
+) -> Item {
     let value = match value {
         None => None,
-        Some(text) => Some(bytes(rt, alloc, text)),
+        Some(text) => Some(bytes(rt, text)),
     };
-    Item {
-        node: 0,
-        number: 0,
-        stamp: Stamp::from_bits(65_536),
-        body: Body::Write { key, value },
-    }
+    let key = bytes(rt, key);
+    said(0, number, Body::Write { key, value })
+}
+
+/// Returns a store of one node.
+pub(crate) fn new_store<H: Abort + AllocGlobal>(rt: &H) -> Core {
+    Core::new(rt.alloc(), 1).ok().expect(rt, "a store")
+}
+
+/// Lets node 0 write a key, or delete it where there is no value, as its item of this number.
+pub(crate) fn says<H: Abort + AllocGlobal>(
+    rt: &H,
+    core: &mut Core,
+    number: u8,
+    key: &[u8],
+    value: Option<&[u8]>,
+) {
+    assert!(rt; core.accept(item(rt, number, key, value)).is_ok());
 }

@@ -1,6 +1,5 @@
 //! What machines refuse of writes: each reason, the first one where two hold, and that a refusal changes nothing. The
 //! numbers are those of docs/refusals.md.
-use crate::changes::second;
 use crate::items::bytes;
 use hlc_node::{NodeCore, Write};
 use hlc_routing::{Division, Machine};
@@ -8,6 +7,7 @@ use hlc_rows::Stamp;
 use hlc_values::Listed;
 use std::process::Abort;
 use std::test::*;
+use test_support::makers::at_second;
 
 /// A reading that no clock takes.
 const LATE: u64 = 281_474_976_710_656;
@@ -17,8 +17,7 @@ type Refused<'a> = (&'a [u8], usize, u64, u32);
 
 /// Divides the keys by ranges: those below "h", those below "p", and the others.
 fn names<H: Abort + AllocGlobal>(rt: &H) -> Division {
-    let alloc = rt.alloc();
-    let boundaries = vec![in alloc; bytes(rt, alloc, b"h"), bytes(rt, alloc, b"p")];
+    let boundaries = vec![in rt.alloc(); bytes(rt, b"h"), bytes(rt, b"p")];
     Division::by_keys(boundaries.ok().expect(rt, "memory")).expect(rt, "a division")
 }
 
@@ -44,8 +43,8 @@ fn is_new<R: Abort>(rt: &R, machine: &Machine, last: Stamp) {
 fn refuses_write<H: Abort + AllocGlobal>(rt: &H, machine: &mut Machine, refused: Refused<'_>) {
     let (key, length, reading, code) = refused;
     let value = vec![in rt.alloc(); b'x'; length].ok().expect(rt, "memory");
-    let text = bytes(rt, rt.alloc(), value.as_slice());
-    let key_copy = bytes(rt, rt.alloc(), key);
+    let text = bytes(rt, value.as_slice());
+    let key_copy = bytes(rt, key);
     match machine.write(&names(rt), reading, key_copy, Some(text)) {
         Ok(_) => assert!(rt; false, "{code}"),
         Err(back) => {
@@ -67,8 +66,8 @@ fn refuses_batch<H: Abort + AllocGlobal>(
     let mut writes = Vec::new(rt.alloc());
     for key in keys {
         let write = Write {
-            key: bytes(rt, rt.alloc(), key),
-            value: Some(bytes(rt, rt.alloc(), b"x")),
+            key: bytes(rt, key),
+            value: Some(bytes(rt, b"x")),
         };
         assert!(rt; writes.push(write).is_ok());
     }
@@ -84,7 +83,7 @@ fn refuses_batch<H: Abort + AllocGlobal>(
 #[test]
 fn a_machine_refuses_writes_for_the_first_reason(rt: HostRuntime) {
     let long = vec![in rt.alloc(); b'z'; 256].ok().expect(&rt, "memory");
-    let mut some = machine(&rt, second(5));
+    let mut some = machine(&rt, at_second(5));
     for refused in [
         (b"rome".as_slice(), 1, 6, 120),
         (long.as_slice(), 65_536, LATE, 120),
@@ -94,7 +93,7 @@ fn a_machine_refuses_writes_for_the_first_reason(rt: HostRuntime) {
     ] {
         refuses_write(&rt, &mut some, refused);
     }
-    is_new(&rt, &some, second(5));
+    is_new(&rt, &some, at_second(5));
     let mut full = machine(&rt, Stamp::from_bits(u64::MAX));
     refuses_write(&rt, &mut full, (b"lyon", 1, 6, 3));
     is_new(&rt, &full, Stamp::from_bits(u64::MAX));
@@ -102,7 +101,7 @@ fn a_machine_refuses_writes_for_the_first_reason(rt: HostRuntime) {
 
 #[test]
 fn a_machine_refuses_batches_for_the_first_reason(rt: HostRuntime) {
-    let mut some = machine(&rt, second(5));
+    let mut some = machine(&rt, at_second(5));
     let none: [&[u8]; 0] = [];
     refuses_batch(&rt, &mut some, &none, LATE, 28);
     refuses_batch(&rt, &mut some, &[b"rome", b"bonn"], LATE, 122);
@@ -110,5 +109,5 @@ fn a_machine_refuses_batches_for_the_first_reason(rt: HostRuntime) {
     refuses_batch(&rt, &mut some, &[b"bonn", b"bonn"], LATE, 30);
     refuses_batch(&rt, &mut some, &[b"bonn", b""], LATE, 12);
     refuses_batch(&rt, &mut some, &[b"bonn", b"athens"], LATE, 2);
-    is_new(&rt, &some, second(5));
+    is_new(&rt, &some, at_second(5));
 }

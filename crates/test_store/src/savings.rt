@@ -1,22 +1,14 @@
 //! A store that is saved in pieces of any size, and one that changes meanwhile.
-use crate::changes::says;
-use hlc_core::Core;
+use crate::items::{new_store, says};
 use hlc_saved::{Saver, SaverError, save};
 use std::test::*;
 
 #[test]
 fn pieces_of_any_size_are_the_bytes(rt: HostRuntime) {
     let alloc = rt.alloc();
-    let mut core = Core::new(alloc, 1).ok().expect(&rt, "a store");
+    let mut core = new_store(&rt);
     for number in 0..100u8 {
-        says(
-            &rt,
-            alloc,
-            &mut core,
-            number as u64,
-            &[b'k', number % 70],
-            Some(b"v"),
-        );
+        says(&rt, &mut core, number, &[b'k', number % 70], Some(b"v"));
     }
     let bytes = save(alloc, &core, 7).ok().expect(&rt, "bytes");
     for size in [1usize, 7, 100, 5000] {
@@ -44,11 +36,11 @@ fn pieces_of_any_size_are_the_bytes(rt: HostRuntime) {
 #[test]
 fn a_store_that_changed_is_refused(rt: HostRuntime) {
     let alloc = rt.alloc();
-    let mut core = Core::new(alloc, 1).ok().expect(&rt, "a store");
+    let mut core = new_store(&rt);
     let (mut saver, _) = Saver::start(alloc, &core, 7).ok().expect(&rt, "a saver");
     let mut piece = [0u8; 9];
     assert!(&rt; saver.read(&core, &mut piece) == Ok(9));
-    says(&rt, alloc, &mut core, 0, b"a", Some(b"1"));
+    says(&rt, &mut core, 0, b"a", Some(b"1"));
     assert!(&rt; saver.read(&core, &mut piece) == Err(SaverError::Changed));
     assert!(&rt; !saver.is_read());
 }

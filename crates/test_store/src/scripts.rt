@@ -1,6 +1,5 @@
 //! A script and a certificate for readers and writers that fail, and texts of refusals that no run of the program
-//! shows.
-//! Whole runs are examples and cases of tests/runs.
+//! shows. Whole runs are examples and cases of tests/runs.
 use crate::streams::Taking;
 use hlc_clock::Stamp;
 use hlc_core::{CoreFault, LinkFault};

@@ -1,4 +1,4 @@
-//! What the tests of threads share: the items that they pass in.
+//! What the tests share: the items that they pass in.
 #![tactic(auto)]
 
 pub mod makers;
