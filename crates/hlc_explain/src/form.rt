@@ -9,7 +9,8 @@ use hlc_text::words::LineWords;
 
 /// The first words of the events.
 const EVENTS: &[u8] =
-    b"write, delete, report, retire, join, send, receive, observe, deliver, open, read, list, close, floor, vacuum or rows";
+    b"write, delete, report, retire, join, send, receive, observe, deliver, open, read, \
+    list, close, floor, vacuum or rows";
 
 /// Returns the form of the events with this first word, if it is that of an event.
 fn event_form(verb: &[u8]) -> Option<&'static str> {
