@@ -7,7 +7,7 @@ use Rattle.hlc_saved.specs.Saved.{AreOf, Resumes}
 use Rattle.hlc_saved.specs.declared.fault.ResumeError.{ResumeError}
 use Rattle.hlc_saved.specs.declared.fault.ResumeError.TheVariants.{NoMemory, Bytes, Parts}
 use Rattle.hlc_saved.specs.declared.saving.Resumed.{Resumed}
-use Rattle.hlc_calls.specs.Saved.{IsMade, IsNotMade, resume_code, resume_word}
+use Rattle.hlc_calls.specs.Saved.{IsRestored, IsNotRestored, resume_code, resume_word}
 
 abbrev pub Answers : Result Resumed ResumeError → Result StoreView ℕ → ℕ → Type 0
 Answers resumed result word =
@@ -16,14 +16,14 @@ Answers resumed result word =
 
 abbrev pub Restores : List ℕ → Result StoreView ℕ → ℕ → Type 0
 Restores bytes result word =
-    MatchResult result (λ core. IsMade bytes word core) (λ code. IsNotMade bytes code word)
+    MatchResult result (λ core. IsRestored bytes word core) (λ code. IsNotRestored bytes code word)
 
 abbrev pub LeavesPast : ℕ → List Step → Result StoreView ℕ → ℕ → Type 0
 LeavesPast saved past result word =
     MatchResult result (λ core. (word ≡ saved) × Represents core past) (λ code. code ≡ 15)
 
 not_made : (bytes : List ℕ) (error : ResumeError) (word : ℕ) → Resumes bytes (Err error) → word ≡ resume_word error
-    → IsNotMade bytes (resume_code error) word
+    → IsNotRestored bytes (resume_code error) word
 not_made bytes NoMemory word none w = inl (refl, w, none)
 not_made bytes (Bytes fault) word first w = inr (inl (fault, first, refl, w))
 not_made bytes (Parts fault) word first w = inr (inr (fault, first, refl, w))

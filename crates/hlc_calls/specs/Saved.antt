@@ -12,13 +12,13 @@ use Rattle.hlc_saved.specs.declared.fault.ResumeError.{ResumeError}
 use Rattle.hlc_saved.specs.declared.fault.ResumeError.TheVariants.{NoMemory, Bytes, Parts}
 
 -- the bytes are those of a checkpoint with this tag, and the store has exactly its state
-abbrev pub IsMade : List ℕ → ℕ → StoreView → Type 0
-IsMade bytes tag core = (kept : StoreView) × AreOf bytes tag kept × IsCopyOf kept core
+abbrev pub IsRestored : List ℕ → ℕ → StoreView → Type 0
+IsRestored bytes tag core = (kept : StoreView) × AreOf bytes tag kept × IsCopyOf kept core
 
 -- no store was made: out of memory, and all of the bytes are a frame; or the first fault of the bytes is returned, or
 -- the first reason why their content is no checkpoint
-abbrev pub IsNotMade : List ℕ → ℕ → ℕ → Type 0
-IsNotMade bytes code word =
+abbrev pub IsNotRestored : List ℕ → ℕ → ℕ → Type 0
+IsNotRestored bytes code word =
     ((code ≡ 15) × (word ≡ 0) × AreFrame bytes)
     ⊎ (((fault : WireFault) × (saved bytes ≡ Err fault) × (code ≡ 106) × (word ≡ fault_code fault))
     ⊎ ((fault : RestoreFault) × SpellNone bytes (Parts fault) × (code ≡ 107) × (word ≡ reason_code fault)))

@@ -3,7 +3,7 @@ ghost use Rattle.std.specs.Prelude.{◌≡◌, List, ℕ, MatchResult, Ok, Err, 
 ghost use Rattle.hlc_core.specs.Past.{Step};
 ghost use Rattle.hlc_core.specs.StoreView.{Represents};
 ghost use Rattle.hlc_saved.specs.Saved.{AreOfStore, BytesRepresent};
-ghost use Rattle.hlc_calls.specs.Saved.{IsMade, IsNotMade, resume_code, resume_word};
+ghost use Rattle.hlc_calls.specs.Saved.{IsRestored, IsNotRestored, resume_code, resume_word};
 
 use hlc_core::Core;
 use hlc_saved::{ResumeError, Resumed, resume, save};
@@ -28,8 +28,8 @@ pub fn checkpoint(alloc: Global, core: &Core, tag: u64) -> Result<Box<Vec<u8>>, 
 /// Makes a store from bytes, and writes the tag with which they were saved. Returns the store; or 15; or 106 and the
 /// number of the first fault of the bytes, or 107 and the number of the first reason why they are no checkpoint.
 pub fn restore(alloc: Global, bytes: &[u8], word: &mut u64) -> Result<Core, u32>
-    ensures made { MatchResult result (λ core. IsMade bytes.now word.new core)
-        (λ code. IsNotMade bytes.now code word.new) }
+    ensures made { MatchResult result (λ core. IsRestored bytes.now word.new core)
+        (λ code. IsNotRestored bytes.now code word.new) }
     ensures represents { (saved : ℕ) (past : List Step) → BytesRepresent bytes.now saved past
         → MatchResult result (λ core. (word.new ≡ saved) × Represents core past)
         (λ code. code ≡ 15) }

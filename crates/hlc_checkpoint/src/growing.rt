@@ -164,7 +164,7 @@ fn put(alloc: Global, table: &mut Table, row: Row, checks: Checks) -> Result<Row
         value,
     } = row;
     match first_fault(checks) {
-        None => table.insert_last(key.as_slice(), stamp, node, value)?,
+        None => table.insert_ascending(key.as_slice(), stamp, node, value)?,
         Some(_) => *table = Table::new(alloc),
     }
     Ok(Row {

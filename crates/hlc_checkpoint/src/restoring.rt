@@ -18,7 +18,7 @@ pub fn table_of(alloc: Global, rows: &[Row]) -> Result<Table, NoMemory>
     let mut table = Table::new(alloc);
     for row in rows {
         let value = row.value.clone()?;
-        table.insert_last(row.key.as_slice(), row.stamp, row.node, value)?;
+        table.insert_ascending(row.key.as_slice(), row.stamp, row.node, value)?;
     }
     Ok(table)
 }
@@ -47,5 +47,5 @@ fn add_row(table: &mut Table, row: Row) -> Result<(), NoMemory>
         node,
         value,
     } = row;
-    table.insert_last(key.as_slice(), stamp, node, value)
+    table.insert_ascending(key.as_slice(), stamp, node, value)
 }

@@ -4,7 +4,7 @@ use Rattle.std.specs.Prelude.{Option, Some, None, MatchOption, Result, Ok, Err, 
 use Rattle.hlc_core.specs.Past.{Step}
 use Rattle.hlc_core.specs.StoreView.{StoreView, Represents}
 use Rattle.hlc_saved.proofs.SaveLemmas.{of_frame}
-use Rattle.hlc_calls.specs.Saved.{IsMade, IsNotMade}
+use Rattle.hlc_calls.specs.Saved.{IsRestored, IsNotRestored}
 use Rattle.hlc_calls.proofs.ResumedLemmas.{Restores, LeavesPast}
 use Rattle.hlc_handle_calls.specs.Opening.{IsRestoring, RestoresPast}
 
@@ -18,13 +18,13 @@ pub restores : (bytes : List ℕ) (made : Result StoreView ℕ) (new : Option St
 restores bytes (Ok core) None code was word of short = inl (short.0, short.1, of_frame bytes was of.0 of.1)
 restores bytes (Ok core) (Some kept) code was word of (zero, same, is) = (
   zero,
-  subst (λ (it : StoreView). IsMade bytes word it) (sym is)
-      (subst (λ (saved : ℕ). IsMade bytes saved core) (sym same) of),
+  subst (λ (it : StoreView). IsRestored bytes word it) (sym is)
+      (subst (λ (saved : ℕ). IsRestored bytes saved core) (sym same) of),
 )
 restores bytes (Err why) new code was word none (same_code, same, closed) =
     subst (λ (it : Option StoreView). IsRestoring None it bytes code word) (sym closed)
-    (subst (λ (answer : ℕ). IsNotMade bytes answer word) (sym same_code)
-    (subst (λ (saved : ℕ). IsNotMade bytes why saved) (sym same) none))
+    (subst (λ (answer : ℕ). IsNotRestored bytes answer word) (sym same_code)
+    (subst (λ (saved : ℕ). IsNotRestored bytes why saved) (sym same) none))
 
 pub restores_past : (saved : ℕ) (past : List Step) (made : Result StoreView ℕ) (new : Option StoreView)
     (code was word : ℕ) → LeavesPast saved past made was → Opens made new code was word

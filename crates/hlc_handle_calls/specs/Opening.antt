@@ -3,7 +3,7 @@ use Rattle.std.specs.Prelude.{◌≡◌, ℕ, List, [], ◌∷◌, Option, Some,
 use Rattle.hlc_core.specs.Past.{Step, Started}
 use Rattle.hlc_core.specs.StoreView.{StoreView, Represents}
 use Rattle.hlc_core.specs.Calls.{new_refusal}
-use Rattle.hlc_calls.specs.Saved.{IsMade, IsNotMade}
+use Rattle.hlc_calls.specs.Saved.{IsRestored, IsNotRestored}
 
 -- A closed store was opened with this many nodes, and nothing else took place in it; or it stays closed, because of
 -- their number, or because it ran out of memory. An open one is unchanged.
@@ -17,8 +17,8 @@ IsOpening None new count code =
 -- stays closed, for the first reason or because it ran out of memory. An open one is unchanged.
 abbrev pub IsRestoring : Option StoreView → Option StoreView → List ℕ → ℕ → ℕ → Type 0
 IsRestoring (Some before) new bytes code word = (code ≡ 101) × (word ≡ 0) × (new ≡ Some before)
-IsRestoring None new bytes code word = MatchOption new (IsNotMade bytes code word)
-    (λ core. (code ≡ 0) × IsMade bytes word core)
+IsRestoring None new bytes code word = MatchOption new (IsNotRestored bytes code word)
+    (λ core. (code ≡ 0) × IsRestored bytes word core)
 
 -- of bytes that represent a past: a closed store represents it then, or stays closed where memory ran out
 abbrev pub RestoresPast : Option StoreView → Option StoreView → ℕ → List Step → ℕ → ℕ → Type 0

@@ -3,7 +3,7 @@ use Rattle.std.proofs.Common.{◌≡◌, ◌≤◌, ◌⊎◌, ℕ, List, sym, s
 use Rattle.hlc_columns.specs.Answers.{IsBetween}
 use Rattle.hlc_core.specs.Differences.{Difference, AreDifferences, Compares}
 use Rattle.hlc_core.specs.Past.{Step, stamp_of, writes}
-use Rattle.hlc_range_calls.specs.Scan.{end_of, ReturnsFitting}
+use Rattle.hlc_range_calls.specs.Scan.{end_of, ListsWhatFits}
 use Rattle.hlc_range_calls.specs.Changes.{change_bytes, ReturnsChanges}
 use Rattle.hlc_range_calls.proofs.ByteLemmas.{none_length, some_length}
 
@@ -15,7 +15,7 @@ change_long (key, Some value) = let long = some_length key value in omega (arith
 pub compared : (before after : ℕ) (past : List Step) (from to : List ℕ) (end : Option (List ℕ))
     (differences : List Difference) (code len many : ℕ) (old new : List ℕ) → end ≡ end_of to
     → Compares before after past (IsBetween from end) (Some differences)
-    → ReturnsFitting change_bytes differences code len many old new
+    → ListsWhatFits change_bytes differences code len many old new
     → ReturnsChanges (stamp_of before past) (stamp_of after past) (writes past) from to code len many old new
 compared before after past from to end differences code len many old new ends is returned =
     subst (λ o. ReturnsChanges o (stamp_of after past) (writes past) from to code len many old new) (sym is.2)

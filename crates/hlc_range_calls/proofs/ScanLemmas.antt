@@ -9,7 +9,7 @@ use Rattle.hlc_rows.specs.Rows.{answer}
 use Rattle.hlc_columns.specs.Answers.{AreAnswers, AreAnswersBack, IsBetween}
 use Rattle.hlc_wire.specs.Placing.{with_bytes}
 use Rattle.hlc_range_calls.specs.Listing.{narrowed, pair_bytes}
-use Rattle.hlc_range_calls.specs.Scan.{end_of, part_bytes, parts_bytes, ReturnsFitting, ReturnsScan, ReturnsCount}
+use Rattle.hlc_range_calls.specs.Scan.{end_of, part_bytes, parts_bytes, ListsWhatFits, ReturnsScan, ReturnsCount}
 use Rattle.hlc_range_calls.specs.Scan.{ReturnsScanBack}
 use Rattle.hlc_wire.proofs.PlacingLemmas.{put_both}
 use Rattle.hlc_range_calls.proofs.ByteLemmas.{pair_length}
@@ -80,7 +80,7 @@ module _ {X : Type 0} (part : X → List ℕ) where
       )
 
   pub all-put : (all : List X) (at count : ℕ) (old out : List ℕ) → PutSoFar all [] at count old out
-      → ReturnsFitting part all 0 at count old out
+      → ListsWhatFits part all 0 at count old out
   all-put all at count old out so = record {
     first = so.0;
     rest = [];
@@ -94,7 +94,7 @@ module _ {X : Type 0} (part : X → List ℕ) where
 
   pub cut-here : (all left next : List X) (item : X) (at count : ℕ) (old out : List ℕ)
       → PutSoFar all left at count old out → left ≡ item ∷ next → length out - at < length (part item)
-      → ReturnsFitting part all 104 at count old out
+      → ListsWhatFits part all 104 at count old out
   cut-here all left next item at count old out so is short =
       let room = room-left all left at count old out so in
       record {
@@ -112,7 +112,7 @@ module _ {X : Type 0} (part : X → List ℕ) where
 pub scanned_at : (alone : Bool) (rows others : List Row) (at : Option ℕ) (stamp : ℕ) (from to : List ℕ)
     (end : Option (List ℕ)) (pairs : List Pair) (code len many : ℕ) (old new : List ℕ) → at ≡ Some stamp
     → ((key : List ℕ) → answer rows key stamp ≡ answer others key stamp) → end ≡ end_of to
-    → AreAnswers rows stamp (IsBetween from end) pairs → ReturnsFitting (part_bytes alone) pairs code len many old new
+    → AreAnswers rows stamp (IsBetween from end) pairs → ListsWhatFits (part_bytes alone) pairs code len many old new
     → ReturnsScan alone at others from to code len many old new
 scanned_at alone rows others at stamp from to end pairs code len many old new is alike ends are returned =
     subst (λ o. ReturnsScan alone o others from to code len many old new) (sym is) (
@@ -141,7 +141,7 @@ counted_at rows others at stamp from to end pairs many is alike ends are returne
 pub scanned_back_at : (rows others : List Row) (at : Option ℕ) (stamp : ℕ) (from to : List ℕ) (end : Option (List ℕ))
     (pairs : List Pair) (code len many : ℕ) (old new : List ℕ) → at ≡ Some stamp
     → ((key : List ℕ) → answer rows key stamp ≡ answer others key stamp) → end ≡ end_of to
-    → AreAnswersBack rows stamp (IsBetween from end) pairs → ReturnsFitting pair_bytes pairs code len many old new
+    → AreAnswersBack rows stamp (IsBetween from end) pairs → ListsWhatFits pair_bytes pairs code len many old new
     → ReturnsScanBack at others from to code len many old new
 scanned_back_at rows others at stamp from to end pairs code len many old new is alike ends are returned =
     subst (λ o. ReturnsScanBack o others from to code len many old new) (sym is) (

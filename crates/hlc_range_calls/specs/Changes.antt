@@ -4,7 +4,7 @@ use Rattle.hlc_rows.specs.declared.row.Row.{Row}
 use Rattle.hlc_columns.specs.Answers.{IsBetween}
 use Rattle.hlc_core.specs.Differences.{Difference, AreDifferences}
 use Rattle.hlc_range_calls.specs.Listing.{sized, answer_bytes}
-use Rattle.hlc_range_calls.specs.Scan.{end_of, ReturnsFitting}
+use Rattle.hlc_range_calls.specs.Scan.{end_of, ListsWhatFits}
 
 -- a key preceded by its length, and its answer at the second stamp
 abbrev pub change_bytes : Difference → List ℕ
@@ -20,4 +20,4 @@ ReturnsChanges (Some first) None rows from to code len many old new =
     (code ≡ 10) × (len ≡ 0) × (many ≡ 0) × (new ≡ old)
 ReturnsChanges (Some first) (Some second) rows from to code len many old new =
     (differences : List Difference) × AreDifferences rows first second (IsBetween from (end_of to)) differences
-    × ReturnsFitting change_bytes differences code len many old new
+    × ListsWhatFits change_bytes differences code len many old new

@@ -28,7 +28,7 @@ IsEnd part [] len room code = code ≡ 0
 IsEnd part (item ∷ items) len room code = (code ≡ 104) × (room < len + length (part item))
 
 -- the bytes of the first items are returned, of as many as fit
-pub record ReturnsFitting {X : Type 0}
+pub record ListsWhatFits {X : Type 0}
     (part : X → List ℕ) (items : List X) (code len many : ℕ) (old new : List ℕ) : Type 0 where
   pub first : List X
   pub rest : List X
@@ -46,7 +46,7 @@ abbrev pub ReturnsScan
 ReturnsScan alone None rows from to code len many old new = (code ≡ 10) × (len ≡ 0) × (many ≡ 0) × (new ≡ old)
 ReturnsScan alone (Some stamp) rows from to code len many old new =
     (pairs : List (List ℕ × List ℕ)) × AreAnswers rows stamp (IsBetween from (end_of to)) pairs
-    × ReturnsFitting (part_bytes alone) pairs code len many old new
+    × ListsWhatFits (part_bytes alone) pairs code len many old new
 
 -- the same with the values, the last key first: as many as fit, from the last one on
 abbrev pub ReturnsScanBack
@@ -54,7 +54,7 @@ abbrev pub ReturnsScanBack
 ReturnsScanBack None rows from to code len many old new = (code ≡ 10) × (len ≡ 0) × (many ≡ 0) × (new ≡ old)
 ReturnsScanBack (Some stamp) rows from to code len many old new =
     (pairs : List (List ℕ × List ℕ)) × AreAnswersBack rows stamp (IsBetween from (end_of to)) pairs
-    × ReturnsFitting pair_bytes pairs code len many old new
+    × ListsWhatFits pair_bytes pairs code len many old new
 
 -- the number of keys of a range that have a value at the stamp of the snapshot is returned; or 10, where there is no
 -- such snapshot

@@ -3,7 +3,7 @@ ghost use Rattle.std.specs.Prelude.{◌≡◌, ◌≤◌, ◌+◌, List, length,
 ghost use Rattle.hlc_core.specs.Past.{Step, stamp_of, writes};
 ghost use Rattle.hlc_core.specs.StoreView.{Represents};
 ghost use Rattle.hlc_wire.specs.Placing.{with_bytes};
-ghost use Rattle.hlc_range_calls.specs.Scan.{ReturnsFitting};
+ghost use Rattle.hlc_range_calls.specs.Scan.{ListsWhatFits};
 ghost use Rattle.hlc_range_calls.specs.Changes.{change_bytes, ReturnsChanges};
 
 use crate::list::{put_answer, put_sized};
@@ -38,7 +38,7 @@ fn put_change(out: &mut [u8], at: usize, key: &[u8], value: Option<&[u8]>) -> us
 /// Writes differences to the start of a buffer while they fit, and how many bytes and keys it wrote. Returns 0, or 104
 /// where a key is left.
 fn put_changes(out: &mut [u8], changes: Changes<'_>, len: &mut usize, many: &mut usize) -> u32
-    ensures { ReturnsFitting change_bytes changes.entry result len.new many.new out.old out.new }
+    ensures { ListsWhatFits change_bytes changes.entry result len.new many.new out.old out.new }
 {
     let mut at = 0usize;
     let mut count = 0usize;

@@ -4,7 +4,7 @@ ghost use Rattle.hlc_core.specs.Past.{Step, stamp_of, writes};
 ghost use Rattle.hlc_core.specs.StoreView.{Represents};
 ghost use Rattle.hlc_wire.specs.Placing.{with_bytes};
 ghost use Rattle.hlc_range_calls.specs.Listing.{narrowed};
-ghost use Rattle.hlc_range_calls.specs.Scan.{end_of, part_bytes, ReturnsFitting, ReturnsScan, ReturnsCount};
+ghost use Rattle.hlc_range_calls.specs.Scan.{end_of, part_bytes, ListsWhatFits, ReturnsScan, ReturnsCount};
 
 use crate::list::{put_pair, put_sized};
 use hlc_core::{Answers, Core};
@@ -41,7 +41,7 @@ fn put_fitting(
     len: &mut usize,
     many: &mut usize,
 ) -> u32
-    ensures { ReturnsFitting (part_bytes alone) answers.entry result len.new many.new out.old out.new }
+    ensures { ListsWhatFits (part_bytes alone) answers.entry result len.new many.new out.old out.new }
 {
     let mut at = 0usize;
     let mut count = 0usize;

@@ -3,7 +3,7 @@ ghost use Rattle.std.specs.Prelude.{◌≡◌, List};
 ghost use Rattle.hlc_core.specs.Past.{Step, stamp_of, writes};
 ghost use Rattle.hlc_core.specs.StoreView.{Represents};
 ghost use Rattle.hlc_range_calls.specs.Listing.{pair_bytes};
-ghost use Rattle.hlc_range_calls.specs.Scan.{ReturnsFitting, ReturnsScanBack};
+ghost use Rattle.hlc_range_calls.specs.Scan.{ListsWhatFits, ReturnsScanBack};
 
 use crate::list::put_pair;
 use crate::scan::{end, fits};
@@ -17,7 +17,7 @@ fn put_fitting_back(
     len: &mut usize,
     many: &mut usize,
 ) -> u32
-    ensures { ReturnsFitting pair_bytes answers.entry result len.new many.new out.old out.new }
+    ensures { ListsWhatFits pair_bytes answers.entry result len.new many.new out.old out.new }
 {
     let mut at = 0usize;
     let mut count = 0usize;

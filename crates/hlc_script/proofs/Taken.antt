@@ -3,9 +3,9 @@ use Rattle.std.proofs.Common.{◌≡◌, ℕ, List, refl, subst}
 use Rattle.hlc_script.specs.declared.run.RunEnd.{RunEnd}
 use Rattle.hlc_script.specs.declared.run.RunEnd.TheVariants.{Answered, BadLine, BadHeader, NoMemory, NotLoaded}
 use Rattle.hlc_script.specs.declared.run.RunEnd.TheVariants.{WriteFault}
-use Rattle.hlc_script.specs.Run.{MayTake, IsOfLoaded, MayWrite}
+use Rattle.hlc_script.specs.Run.{MayTake, InputWasLoaded, MayWrite}
 
-pub run_takes_all : (input : List ℕ) (end : RunEnd) → IsOfLoaded end → MayTake input input end
+pub run_takes_all : (input : List ℕ) (end : RunEnd) → InputWasLoaded end → MayTake input input end
 run_takes_all input Answered loaded = refl
 run_takes_all input (BadLine number) loaded = refl
 run_takes_all input BadHeader loaded = refl

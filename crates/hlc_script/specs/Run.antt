@@ -68,13 +68,13 @@ MayWrite input output NoMemory =
 MayWrite input output WriteFault = ⊥
 
 -- the input was read whole and loaded, and then the run ended like this
-abbrev pub IsOfLoaded : RunEnd → Type 0
-IsOfLoaded Answered = ⊤
-IsOfLoaded (BadLine number) = ⊤
-IsOfLoaded BadHeader = ⊤
-IsOfLoaded NoMemory = ⊤
-IsOfLoaded (NotLoaded fault) = ⊥
-IsOfLoaded WriteFault = ⊥
+abbrev pub InputWasLoaded : RunEnd → Type 0
+InputWasLoaded Answered = ⊤
+InputWasLoaded (BadLine number) = ⊤
+InputWasLoaded BadHeader = ⊤
+InputWasLoaded NoMemory = ⊤
+InputWasLoaded (NotLoaded fault) = ⊥
+InputWasLoaded WriteFault = ⊥
 
 -- What may have been taken from the reader when a run ended: the whole input, unless it was not loaded.
 abbrev pub MayTake : List ℕ → List ℕ → RunEnd → Type 0

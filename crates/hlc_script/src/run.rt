@@ -10,7 +10,8 @@ ghost use Rattle.hlc_world.specs.declared.reply.Reply.{Reply as AReply};
 ghost use Rattle.hlc_world.specs.WorldView.{Represents};
 ghost use Rattle.hlc_script.specs.Line.{header_line, header_words, HasHeader};
 ghost use Rattle.hlc_script.specs.Reply.{reply_text};
-ghost use Rattle.hlc_script.specs.Run.{Answers, AnswersLine, MayWrite, IsOfLoaded, ReadsScript, RunsScript, status_of};
+ghost use Rattle.hlc_script.specs.Run.{Answers, AnswersLine, MayWrite, InputWasLoaded, ReadsScript, RunsScript};
+ghost use Rattle.hlc_script.specs.Run.{status_of};
 
 use crate::line::{owned_event, read_line};
 use crate::reply::{put_reply, put_value_line};
@@ -102,7 +103,7 @@ fn read_and_answer<R: Read, W: Write>(
 /// caller. It needs memory only after a header, so a first line that is no header is refused as such.
 pub fn answer_input<W: Write>(alloc: Global, input: &[u8], printer: &mut Printer<'_, W>) -> RunEnd
     requires { length input.now ≤ INPUT_LIMIT }
-    ensures loaded { IsOfLoaded result }
+    ensures loaded { InputWasLoaded result }
     ensures written { (output : List ℕ) × MayWrite input.now output result
         × Prints W.contents printer.old printer.new output }
 {

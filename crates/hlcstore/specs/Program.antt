@@ -13,15 +13,15 @@ use Rattle.hlc_storm_report.specs.Printed.{storm_text, storm_status}
 
 -- What was asked for is done, and the exit status is that of its end. For a storm there is an outcome that its plan may
 -- have, whose text is written, and nothing is read. A script and a certificate are answered, and other words refused.
-abbrev pub Does : {R W : Type 0} → (R → Option (List ℕ)) → (W → Option (List ℕ))
+abbrev pub RunsCommand : {R W : Type 0} → (R → Option (List ℕ)) → (W → Option (List ℕ))
     → Option Words → Watched R → Watched R → Watched W → Watched W → ℕ → Type 0
-Does remaining contents (Some (Storm plan)) reader reader_after writer writer_after status =
+RunsCommand remaining contents (Some (Storm plan)) reader reader_after writer writer_after status =
     (returned : Result StormReport StormFault) × MayReport plan returned × (reader_after ≡ reader)
     × Writes contents writer writer_after (storm_text returned)
     × (status ≡ storm_status (has_failed writer_after) returned)
-Does remaining contents (Some Run) reader reader_after writer writer_after status =
+RunsCommand remaining contents (Some Run) reader reader_after writer writer_after status =
     AnswersInput remaining contents (Some Run) reader reader_after writer writer_after status
-Does remaining contents (Some Check) reader reader_after writer writer_after status =
+RunsCommand remaining contents (Some Check) reader reader_after writer writer_after status =
     AnswersInput remaining contents (Some Check) reader reader_after writer writer_after status
-Does remaining contents None reader reader_after writer writer_after status =
+RunsCommand remaining contents None reader reader_after writer writer_after status =
     AnswersInput remaining contents None reader reader_after writer writer_after status

@@ -3,7 +3,7 @@ ghost use Rattle.std.specs.Prelude.{◌≡◌, false, Option};
 ghost use Rattle.std.specs.Option.{option_map};
 ghost use Rattle.hlc_text.specs.Watched.{has_failed};
 ghost use Rattle.hlc_words.specs.Words.{Asks, bytes_of};
-ghost use Rattle.hlcstore.specs.Program.{Does};
+ghost use Rattle.hlcstore.specs.Program.{RunsCommand};
 
 use hlc_script::answer_asked;
 use hlc_storm::{print_storm, storm};
@@ -31,7 +31,7 @@ pub fn run_program<H: Threads + Wait + Sync, R: Read, W: Write>(
     requires writer_well { has_failed writer.old ≡ false }
     ensures { (asked : Option Words)
         × Asks (option_map (λ words. bytes_of words.now) words.entry) asked
-        × Does R.remaining W.contents asked reader.old reader.new writer.old writer.new result }
+        × RunsCommand R.remaining W.contents asked reader.old reader.new writer.old writer.new result }
 {
     let asked = words_asked(words);
     if let Some(Words::Storm(plan)) = asked {

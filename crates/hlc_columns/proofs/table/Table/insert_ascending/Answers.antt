@@ -6,8 +6,8 @@ use Rattle.hlc_rows.specs.declared.row.Row.{Row as ARow}
 use Rattle.hlc_rows.specs.Rows.{IsRowSet}
 use Rattle.hlc_columns.specs.Table.{indexed_rows, InsertedLast}
 use Rattle.hlc_columns.proofs.Inserted.{inserted-IsPermutation, either-IsRowSet}
-use Rattle.hlc_columns.proofs.table.Table.insert_last.Goals as goal
-use Rattle.hlc_columns.proofs.table.Table.insert_last.Goals.{After-put_row}
+use Rattle.hlc_columns.proofs.table.Table.insert_ascending.Goals as goal
+use Rattle.hlc_columns.proofs.table.Table.insert_ascending.Goals.{After-put_row}
 
 -- the row that is added
 abbrev row_in : After-put_row → ARow
