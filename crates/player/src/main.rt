@@ -73,9 +73,9 @@ fn play_part<R: Wait + Threads + Sync>(
         "registry" => play_new(host, lines, Registry::new(rt.alloc())),
         "guarded" => desk::play_desk(host, lines, false),
         "audited" => desk::play_desk(host, lines, true),
-        "script" => texts::answer_script(rt, next_number(words), lines.up_to(b';')),
-        "loaded" => texts::answer_script(rt, next_number(words), GivesOnce { returned: false }),
-        "certificate" => texts::answer_check(rt, next_number(words), lines.up_to(b';')),
+        "script" => texts::answer(rt, next_number(words), lines.up_to(b';'), true),
+        "loaded" => texts::answer(rt, next_number(words), GivesOnce { returned: false }, true),
+        "certificate" => texts::answer(rt, next_number(words), lines.up_to(b';'), false),
         "worker" => workers::answer(host, words),
         _ => quiet::answer(host, name),
     }

@@ -67,11 +67,8 @@ fn ask(rt: &HostRuntime, table: &Table, name: &str, words: &mut LineWords<'_>) -
         "rows_at" => say(rt, "rows", &table.rows_at(next_stamp(words))),
         "answer" => {
             let (stamp, mut room) = (next_stamp(words), [0; LONGEST]);
-            say(
-                rt,
-                "value",
-                &table.answer(next_key(words, &mut room), stamp),
-            )
+            let key = next_key(words, &mut room);
+            say(rt, "value", &table.answer(key, stamp))
         }
         _ => Some(()),
     }

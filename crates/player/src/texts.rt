@@ -24,26 +24,17 @@ impl Read for GivesOnce {
     }
 }
 
-/// Answers a script while the request of this number is refused, and prints the exit status.
-pub(crate) fn answer_script<I: Read + Drop>(rt: &HostRuntime, number: u64, script: I) {
-    let mut script = Watched::new(script);
-    let mut writer = Watched::new(rt.stdout());
-    refuse(rt, number);
-    let end = run_script(rt.alloc(), &mut script, &mut writer);
-    say_end(rt, end.status());
-}
-
-/// Answers a certificate, in the same way.
-pub(crate) fn answer_check(rt: &HostRuntime, number: u64, text: &[u8]) {
+/// Answers a script, or else a certificate, while the request of this number is refused. Prints the exit status, and
+/// whether a request was refused.
+pub(crate) fn answer<I: Read + Drop>(rt: &HostRuntime, number: u64, text: I, is_script: bool) {
     let mut text = Watched::new(text);
     let mut writer = Watched::new(rt.stdout());
     refuse(rt, number);
-    let end = run_check(rt.alloc(), &mut text, &mut writer);
-    say_end(rt, end.status());
-}
-
-/// Prints the exit status of a run, and whether a request was refused.
-fn say_end(rt: &HostRuntime, status: u8) {
+    let status = if is_script {
+        run_script(rt.alloc(), &mut text, &mut writer).status()
+    } else {
+        run_check(rt.alloc(), &mut text, &mut writer).status()
+    };
     let _ = println!(rt; "status {status}");
     say_refused(rt);
 }

@@ -55,11 +55,8 @@ fn answer_in<L: Ledger, R: Wait + Threads + Sync>(
         host: &*host,
         shared: &shared,
     };
-    if let Some((caller, receipts)) = yard.work(
-        callers.pop(),
-        next_name(words),
-        next_number(words),
-    ) {
+    let (name, number) = (next_name(words), next_number(words));
+    if let Some((caller, receipts)) = yard.work(callers.pop(), name, number) {
         let lists = lists_of(alloc, Some(caller), receipts);
         play_settled(host, &mut Lines::of(b""), shared.settle(lists));
     }
