@@ -9,7 +9,7 @@ mod heads;
 pub use accepted::Accepted;
 pub use groups::lower;
 pub use heads::{
-    Heads, JoinFault, MAX_INITIAL_NODES, MAX_NODES, NodesOutOfRange, greater, max_initial_nodes_are_64,
-    max_nodes_are_1024,
+    Heads, JoinFault, MAX_INITIAL_NODES, MAX_NODES, NodesOutOfRange, greater,
+    max_initial_nodes_are_64, max_nodes_are_1024,
 };
 pub use hlc_clock::Stamp;

@@ -38,9 +38,5 @@ pub fn recover(alloc: Global, checkpoint: &[u8], log: &[u8]) -> Result<Recovered
     };
     let mut core = core;
     let applied = apply_records(&mut core, log, Stamp::ZERO);
-    Ok(Recovered {
-        core,
-        tag,
-        applied,
-    })
+    Ok(Recovered { core, tag, applied })
 }

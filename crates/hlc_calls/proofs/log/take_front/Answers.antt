@@ -32,12 +32,12 @@ returns-in-Ok-accept_ref-clause-shorter c =
     front_shortens c.args.bytes.now c.in-Ok.found.0 c.in-Ok.found.1.now
     (λ i. omega (arith, c.type_inv.bytes i)) c.in-Ok.ensures
 
-pub returns-in-Err-clause-answer : goal.returns-in-Err-clause-answer
-returns-in-Err-clause-answer c = λ past h.
+pub returns-in-Err-accept_ref-clause-answer : goal.returns-in-Err-accept_ref-clause-answer
+returns-in-Err-accept_ref-clause-answer c = λ past h.
     let here = refused_here c.args.bytes.now c.in-Ok.found.1.now past c.in-Ok.found.0
-    c.in-Err.fault c.in-Ok.ensures
-    (sym (c.came.ensures past h) ∙ c.if-came.false) (c.in-Err.ensures.represents past h) in
+    c.in-Err-accept_ref.fault c.in-Ok.ensures
+    (sym (c.came.ensures past h) ∙ c.if-came.false) (c.in-Err-accept_ref.ensures.represents past h) in
     subst (λ (code : ℕ). IsStopped c.args.bytes.now past code c.refuse.new.word)
     (sym c.refuse.ensures.0)
-    (subst (λ (word : ℕ). IsStopped c.args.bytes.now past (answer_code c.in-Err.fault) word)
+    (subst (λ (word : ℕ). IsStopped c.args.bytes.now past (answer_code c.in-Err-accept_ref.fault) word)
     (sym c.refuse.ensures.1) here)

@@ -32,8 +32,12 @@ invariant_of-self-2 c =
     (groups_join marks inside.groups c.args.start c.lower.result size few
     (subst (λ (n : ℕ). IsLower (group_at inside.groups (n / GROUP)) c.args.start c.lower.result) place lowest)
     c.self.invariant.2) in
-    rw (c.in_ok-push.ensures.items, c.starting_at.ensures, c.unwrap_or-self-inside.ensures,
-    c.greater-self-inside.ensures) (
+    rw (
+      c.in_ok-push.ensures.items,
+      c.starting_at.ensures,
+      c.unwrap_or-self-inside.ensures,
+      c.greater-self-inside.ensures,
+    ) (
       sized,
       found_floor grown groups c.least_of.result sized.few grouped c.least_of.ensures,
       grouped,
