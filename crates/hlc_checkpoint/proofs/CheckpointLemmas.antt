@@ -1,7 +1,7 @@
 -- The parts that are made from a checkpoint are consistent, as those of a core are, and the state of a core, with its
 -- rows in order, is a checkpoint.
 use Rattle.std.proofs.Common.{◌≡◌, ℕ, suc, ◌<◌, ◌≤◌, List, [], ◌∷◌, length}
-use Rattle.std.proofs.Common.{refl, sym, subst, inl, inr, arith, IsPermutation, ltb}
+use Rattle.std.proofs.Common.{sym, subst, inl, inr, arith, IsPermutation, ltb}
 use Rattle.std.specs.Prelude.{MatchOption}
 use Rattle.std.proofs.lemmas.Option.{slice_get-get_or, slice_get_past}
 use Rattle.std.proofs.lemmas.Bool.{cases_lt}

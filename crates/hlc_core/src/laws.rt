@@ -132,7 +132,7 @@ pub fn histories_are_faithful()
 {}
 
 /// A state that represents a past, with its rows by key, stamp and node, is a checkpoint:
-/// `Core::restore` refuses it only if memory runs out.
+/// `Core::restore` makes a store of it unless memory runs out.
 pub fn checkpoints_restore()
     ensures sound { (kept : StoreView) (past : List Step) → Represents kept past
         → 0 < kept.initial_nodes → kept.initial_nodes ≤ MAX_INITIAL_NODES → RowsAscend kept.rows

@@ -35,7 +35,7 @@ pub fn ranges_answer_alike()
         → answer (writes (past_in is_of past)) key stamp ≡ answer (writes past) key stamp }
 {}
 
-/// A part of a checkpoint is a checkpoint, so `Core::restore` refuses it only if memory runs out.
+/// A part of a checkpoint is a checkpoint, so `Core::restore` makes a store of it unless memory runs out.
 pub fn parts_restore()
     ensures { (kept : StoreView) (past : List Step) (is_of : List ℕ → Bool) → Represents kept past
         → 0 < kept.initial_nodes → kept.initial_nodes ≤ MAX_INITIAL_NODES → RowsAscend kept.rows

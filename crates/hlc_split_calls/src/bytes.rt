@@ -1,5 +1,5 @@
 //! A checkpoint of bytes, and bytes of a checkpoint.
-ghost use Rattle.std.specs.Prelude.{◌≡◌, IfOk, IfErr, MatchResult};
+ghost use Rattle.std.specs.Prelude.{IfOk, IfErr, MatchResult};
 ghost use Rattle.hlc_saved.specs.Saved.{AreOf};
 ghost use Rattle.hlc_split_calls.specs.Halves.{IsNoCheckpoint, IsNotRead, IsRead};
 

@@ -1,7 +1,7 @@
--- The state that was refused, or found to be a checkpoint, is the increment's.
-use Rattle.std.proofs.Common.{Ok, subst}
-use Rattle.std.specs.Prelude.{IfErr, OnOk}
-use Rattle.hlc_core.specs.Checkpoint.{IsCheckpoint, IsFirstReason}
+-- The state that was refused is the increment's.
+use Rattle.std.proofs.Common.{subst}
+use Rattle.std.specs.Prelude.{IfErr}
+use Rattle.hlc_core.specs.Checkpoint.{IsFirstReason}
 use Rattle.hlc_increment.proofs.bytes.encode_increment.Goals as goal
 
 pub returns-in-Err-clause-err : goal.returns-in-Err-clause-err

@@ -1,5 +1,5 @@
 -- What was read is what the bytes are of, and the newer checkpoint is what was made of it.
-use Rattle.std.proofs.Common.{◌≡◌, ℕ, ap, sym, ◌∙◌, subst, refl, inr, rules}
+use Rattle.std.proofs.Common.{◌≡◌, ℕ, ap, sym, ◌∙◌, subst, refl, inl, inr, rules}
 use Rattle.std.proofs.lemmas.Grind.{common_steps}
 use Rattle.hlc_wire.proofs.FieldLemmas.{ok_is}
 use Rattle.hlc_core.specs.StoreView.{StoreView, Represents}
@@ -23,10 +23,8 @@ returns-in-Err c = record {
     c.in_ok-read.ensures,
     inr (
       c.in_ok-made.made,
-      c.in-Err.fault,
       c.in_ok-made.ensures.ok,
-      c.in-Err.ensures.err,
-      c.none_code.ensures,
+      inl (refl, c.in-Err.ensures.memory),
       refl,
     ),
   ));
