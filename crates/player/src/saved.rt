@@ -40,8 +40,8 @@ impl Saved {
 
     /// Holds the bytes of the checkpoint.
     pub(crate) fn encode(&mut self, rt: &HostRuntime, tag: u64) -> Option<()> {
-        let checkpoint = self.checkpoint.as_ref()?;
-        self.bytes = encode_checkpoint(rt.alloc(), checkpoint, tag).ok()?.ok();
+        let made = encode_checkpoint(rt.alloc(), self.checkpoint.as_ref()?, tag);
+        self.bytes = made.ok().and_then(|made| made.ok());
         say(rt, "encoded", &self.bytes.as_ref()?.len())
     }
 
@@ -104,8 +104,7 @@ impl Stored {
     /// Puts a store in place of this one, made of the checkpoint itself.
     pub(crate) fn move_in_checkpoint(&mut self, rt: &HostRuntime) -> Option<()> {
         let checkpoint = self.saved.checkpoint.take()?;
-        let restored = Core::from_checkpoint(rt.alloc(), checkpoint).ok()?;
-        self.core = Some(restored.ok()?);
+        self.core = Some(Core::from_checkpoint(rt.alloc(), checkpoint).ok()?.ok()?);
         say(rt, "restored", &())
     }
 

@@ -15,7 +15,7 @@ use crate::items::{new_store, says};
 use crate::parts::copied;
 use hlc_body::{Row, RowRef, append_row};
 use hlc_clock::Stamp;
-use hlc_core::{Checkpoint, Core, RestoreFault};
+use hlc_core::{Checkpoint, Core};
 use hlc_frame::{FrameReader, FrameWriter, WireFault};
 use hlc_log::recover;
 use hlc_saved::{CheckpointReader, CheckpointWriter, ResumeError, Resumed, encode_checkpoint};
@@ -102,16 +102,11 @@ fn a_message_as_bytes(rt: HostRuntime) {
 }
 
 /// Writes a checkpoint in pieces, each of which is taken out before the next one is written.
-fn in_pieces(
-    alloc: Global,
-    checkpoint: &Checkpoint,
-    tag: u64,
-) -> Result<Result<Vec<u8>, RestoreFault>, AllocError> {
+fn in_pieces(alloc: Global, checkpoint: &Checkpoint, tag: u64) -> Result<Vec<u8>, AllocError> {
     let mut piece = Vec::new(alloc);
     let mut whole = Vec::new(alloc);
-    let mut writer = match CheckpointWriter::begin(&mut piece, checkpoint, tag)? {
-        Ok(writer) => writer,
-        Err(fault) => return Ok(Err(fault)),
+    let Ok(mut writer) = CheckpointWriter::begin(&mut piece, checkpoint, tag)? else {
+        return Ok(whole);
     };
     whole.append(&mut piece)?;
     for row in checkpoint.rows() {
@@ -120,19 +115,17 @@ fn in_pieces(
     }
     writer.end(&mut piece)?;
     whole.append(&mut piece)?;
-    Ok(Ok(whole))
+    Ok(whole)
 }
 
 #[test]
 fn a_checkpoint_in_pieces(rt: HostRuntime) {
-    let alloc = rt.alloc();
     let mut core = new_store(&rt);
     says(&rt, &mut core, 0, b"a", Some(b"1"));
     says(&rt, &mut core, 1, b"b", None);
     let checkpoint = copied(&rt, &core);
-    let pieces = in_pieces(alloc, &checkpoint, 7).expect(&rt, "memory");
-    let whole = encode_checkpoint(alloc, &checkpoint, 7).expect(&rt, "memory");
-    let pieces = pieces.expect(&rt, "a checkpoint");
+    let pieces = in_pieces(rt.alloc(), &checkpoint, 7).expect(&rt, "memory");
+    let whole = encode_checkpoint(rt.alloc(), &checkpoint, 7).expect(&rt, "memory");
     let whole = whole.expect(&rt, "a checkpoint");
     assert_eq!(rt; pieces.as_slice(), whole.as_slice());
 }
