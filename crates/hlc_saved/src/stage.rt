@@ -147,7 +147,7 @@ fn restored(alloc: Global, growing: Growing) -> Result<Core, ResumeError>
     ensures { (kept : StoreView) → HasGrown growing kept → Ends (Ok kept) result }
 {
     match growing.finish() {
-        Ok(checked) => Ok(Core::resuming(alloc, checked)?),
+        Ok(checked) => Ok(Core::resuming(alloc, checked)),
         Err(fault) => Err(ResumeError::Parts(fault)),
     }
 }

@@ -5,11 +5,11 @@ use Rattle.hlc_checkpoint.proofs.CheckpointLemmas.{sound-has_no_reason}
 use Rattle.hlc_core.proofs.CheckpointLemmas.{copy-represents}
 use Rattle.hlc_core.proofs.store.Core.from_checkpoint.Goals as goal
 
-pub returns-in_ok-resuming-in-Ok-clause-represents : goal.returns-in_ok-resuming-in-Ok-clause-represents
-returns-in_ok-resuming-in-Ok-clause-represents c = λ past h.
+pub returns-in-Ok-clause-represents : goal.returns-in-Ok-clause-represents
+returns-in-Ok-clause-represents c = λ past h.
     let made = subst (Restores c.args.checkpoint) c.in-Ok.is c.in_ok-checked.ensures in
-    copy-represents c.args.checkpoint c.in_ok-resuming-in-Ok.field-0 past h
-    (subst (IsCopyOf c.args.checkpoint) (sym c.in_ok-resuming-in-Ok.ensures) made.1)
+    copy-represents c.args.checkpoint c.in-Ok-resuming.result past h
+    (subst (IsCopyOf c.args.checkpoint) (sym c.in-Ok-resuming.ensures) made.1)
 
 pub returns-in-Err-clause-only : goal.returns-in-Err-clause-only
 returns-in-Err-clause-only c = λ is.
