@@ -9,7 +9,7 @@ use Rattle.hlc_rows.specs.Rows.{IsRowSet}
 use Rattle.hlc_witness.specs.Cost.{AreInLimits}
 
 -- the state of a core: the number of nodes at the start; by node the progress of its link; the greatest head; the open
--- snapshots; the last id of a snapshot that was assigned; the horizon; the stored rows
+-- snapshots; the last id that a snapshot was given; the horizon; the stored rows
 pub record StoreView : Type 0 where
   pub initial_nodes : ℕ
   pub links : List IntakeView

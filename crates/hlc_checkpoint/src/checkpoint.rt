@@ -89,7 +89,7 @@ impl fmt::Display for RestoreFault {
 impl Error for RestoreFault {}
 
 /// The whole state of a store, as plain values: the number of nodes at the start; by node the
-/// progress of its link; the open snapshots, the oldest first, and the last id that was assigned; the
+/// progress of its link; the open snapshots, the oldest first, and the last id that was given; the
 /// horizon; the rows, by key, stamp and node.
 ///
 /// In contracts it is the same as a core, whose top is the greatest head. So a checkpoint
@@ -190,7 +190,7 @@ impl Checkpoint {
         self.snapshots.as_slice()
     }
 
-    /// Returns the last id of a snapshot that was assigned, 0 if none.
+    /// Returns the last id that a snapshot was given, 0 if none.
     pub fn last_id(&self) -> u64
         ensures { result ≡ self.now.last_id }
     {

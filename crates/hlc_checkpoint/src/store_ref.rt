@@ -96,7 +96,7 @@ impl<'a> StoreRef<'a> {
         self.registry.snapshots()
     }
 
-    /// Returns the last id of a snapshot that was assigned, 0 if none.
+    /// Returns the last id that a snapshot was given, 0 if none.
     pub fn last_id(&self) -> u64
         ensures { result ≡ self.now.last_id }
     {

@@ -124,7 +124,7 @@ writes [] = []
 writes (Took item ∷ past) = writes past ++ item_rows item
 writes (_ ∷ past) = writes past
 
--- the last id of a snapshot that was assigned, 0 if none: the number of those that were opened
+-- the last id that a snapshot was given, 0 if none: the number of those that were opened
 abbrev pub last_id : List Step → ℕ
 last_id [] = 0
 last_id (Opened stamp ∷ past) = last_id past + 1
