@@ -54,7 +54,7 @@ opens kept past stamp h none =
     record {
       legal = (none, h.legal);
       initial_nodes = h.initial_nodes;
-      links = h.links;
+      links = record { many = h.links.many; each = h.links.each };
       top = h.top;
       snapshots = ap (λ xs. xs ++ record { id = kept.last_id + 1; stamp = stamp } ∷ []) h.snapshots
           ∙ ap (λ n. open_snapshots past ++ record { id = n + 1; stamp = stamp } ∷ []) h.last_id;
@@ -115,7 +115,7 @@ closes kept past id stamp h there =
       record {
         legal = ((λ none. (let e : Some stamp ≡ None = sym is ∙ none in absurd (cc))), h.legal);
         initial_nodes = h.initial_nodes;
-        links = h.links;
+        links = record { many = h.links.many; each = h.links.each };
         top = h.top;
         snapshots = ap (without id) h.snapshots;
         last_id = h.last_id;

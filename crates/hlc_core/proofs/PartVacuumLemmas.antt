@@ -45,7 +45,7 @@ part_dropped-represents kept new past at dropped h none is rows count =
     let left : Represents (with_rows_left kept new.rows at) (PartVacuumed at dropped ∷ past) = record {
       legal = (none, h.legal);
       initial_nodes = h.initial_nodes;
-      links = h.links;
+      links = record { many = h.links.many; each = h.links.each };
       top = h.top;
       snapshots = h.snapshots;
       last_id = h.last_id;

@@ -123,7 +123,7 @@ vacuums kept at past rows report h none are made at_stamp number dropped bytes =
     let represents : Represents (with_rows_left kept rows at) (Vacuumed at ∷ past) = record {
       legal = (none, h.legal);
       initial_nodes = h.initial_nodes;
-      links = h.links;
+      links = record { many = h.links.many; each = h.links.each };
       top = h.top;
       snapshots = h.snapshots;
       last_id = h.last_id;

@@ -117,7 +117,7 @@ resumes (Ok made) read tag bytes fits e frame is =
 resumes (Err NoMemory) read tag bytes fits e frame is = frame
 resumes (Err (Bytes fault)) read tag bytes fits e frame is = e ∙ ap (with_tag tag) is
 resumes (Err (Parts fault)) read tag bytes fits e frame is =
-    (tag, is.0, e ∙ ap (with_tag tag) is.1, is.2, is.3)
+    (tag, is.0, e ∙ ap (with_tag tag) is.1, is.2)
 
 -- there is one tag and one checkpoint
 of_saved : (bytes : List ℕ) (tag : ℕ) (kept : StoreView) → AreOf bytes tag kept → saved bytes ≡ Ok (tag, kept)

@@ -151,7 +151,7 @@ one-step : (new : StoreView) (past : List Step) (at first rest : ℕ)
 one-step new past at first rest h = record {
   legal = h.legal.1;
   initial_nodes = h.initial_nodes;
-  links = h.links;
+  links = record { many = h.links.many; each = h.links.each };
   top = h.top;
   snapshots = h.snapshots;
   last_id = h.last_id;
@@ -268,7 +268,7 @@ parts-are-a-vacuum old at past part parts h pass =
     let represents : Represents new (Vacuumed at ∷ past) = record {
       legal = p.represents.legal;
       initial_nodes = p.represents.initial_nodes;
-      links = p.represents.links;
+      links = record { many = p.represents.links.many; each = p.represents.links.each };
       top = p.represents.top;
       snapshots = p.represents.snapshots;
       last_id = p.represents.last_id;

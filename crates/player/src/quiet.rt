@@ -102,8 +102,8 @@ fn heads(rt: &HostRuntime) -> Option<()> {
 /// Raises the word of a node on a board, looks at it, and looks at the floor before and after.
 fn board(rt: &HostRuntime) -> Option<()> {
     let mut heads = Heads::new(rt.alloc(), 1).ok()?.ok()?;
-    let (board, mut feeders, mut passes) = Board::new(rt.alloc(), 1, 1).ok()?.ok()?;
     let accepted = heads.raise(0, Stamp::from_bits(5));
+    let (board, mut feeders, mut passes) = Board::new(rt.alloc(), 1, 1).ok()?.ok()?;
     refuse(rt, 1);
     let pass = &mut passes[0];
     let before = board.floor(pass);

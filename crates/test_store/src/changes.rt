@@ -36,7 +36,7 @@ fn differ<R: Abort>(rt: &R, core: &Core, early: u64, late: u64) {
 
 #[test]
 fn changes_are_those_between_two_snapshots(rt: HostRuntime) {
-    let mut core = new_store(&rt);
+    let mut core = Core::new(rt.alloc(), 1).ok().expect(&rt, "a store");
     says(&rt, &mut core, 0, b"a", Some(b"1"));
     says(&rt, &mut core, 1, b"b", Some(b"2"));
     says(&rt, &mut core, 2, b"c", Some(b"3"));

@@ -4,7 +4,7 @@ ghost use Rattle.hlc_core.specs.Past.{Step};
 ghost use Rattle.hlc_core.specs.StoreView.{Represents};
 ghost use Rattle.hlc_increment.specs.Increment.{without_drops};
 
-use crate::items::{new_store, says};
+use crate::items::says;
 use crate::parts::{copied, restored};
 use hlc_core::{Checkpoint, Core};
 use hlc_increment::{Increment, IncrementFault, advance, decode_increment, encode_increment};
@@ -28,7 +28,7 @@ pub(crate) fn next(core: &Core, older: Checkpoint) -> Option<Checkpoint>
 #[test]
 fn an_increment_makes_an_older_checkpoint_newer(rt: HostRuntime) {
     let alloc = rt.alloc();
-    let mut core = new_store(&rt);
+    let mut core = Core::new(alloc, 1).ok().expect(&rt, "a store");
     says(&rt, &mut core, 0, b"a", Some(b"1"));
     says(&rt, &mut core, 1, b"b", Some(b"2"));
     let older = copied(&rt, &core);

@@ -6,5 +6,5 @@ use Rattle.bench_calls.proofs.desk.run_on_board.Goals as goal
 
 pub raising_all-raising-requires : goal.raising_all-raising-requires
 raising_all-raising-requires g c =
-    subst (λ (l : List FeederView). FeedersOf c.in-Ok.board l) (sym c.in-Ok.ensures.feeders)
-    (feeders_new c.in-Ok.board 64)
+    let posted = rw c.in-Ok-Ok.field-0-is at c.in-Ok-Ok.ensures.feeders in
+    subst (λ (l : List FeederView). FeedersOf c.in-Ok-Ok.board l) (sym posted) (feeders_new c.in-Ok-Ok.board 64)

@@ -10,7 +10,7 @@ use Rattle.hlc_columns.proofs.walks.list_keys.Goals as goal
 pub loop-entry-init : goal.loop-entry-init
 loop-entry-init c =
     let all = c.from_slot-walk.ensures.exact ∙ all_lead _ ∙ all_from_first c.args.columns.now in
-    rw c.new-keys.ensures (ap (λ (es : List Entry). keys_in es) all)
+    rw c.new-keys.ensures.items (ap (λ (es : List Entry). keys_in es) all)
 
 pub loop-entry-preserved : goal.loop-entry-preserved
 loop-entry-preserved c =

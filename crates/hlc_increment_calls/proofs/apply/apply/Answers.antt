@@ -30,8 +30,20 @@ returns-in-Err c = record {
   ));
 }
 
-pub returns-in-Ok-new-clause-represents : goal.returns-in-Ok-new-clause-represents
-returns-in-Ok-new-clause-represents c = λ before after kept newer read past more of h spelled fits is g.
+pub returns-in-Ok-Err-clause-err : goal.returns-in-Ok-Err-clause-err
+returns-in-Ok-Err-clause-err c =
+    let reason = rw c.in-Ok-Err.field-0-is at c.in-Ok-Err.ensures.err in
+    inr (inr (
+      c.in_ok-kept.kept,
+      c.in_ok-read.field-0.tag,
+      c.in_ok-read.field-0.increment,
+      c.in_ok-kept.ensures,
+      c.in_ok-read.ensures,
+      inr (c.in_ok-made.made, c.in_ok-made.ensures.ok, inr (_, reason, refl), refl),
+    ))
+
+pub returns-in-Ok-clause-represents : goal.returns-in-Ok-clause-represents
+returns-in-Ok-clause-represents c = λ before after kept newer read past more of h spelled fits is g.
     let before' : ℕ = c.in_ok-kept.ensures.0 in
     let kept' : StoreView = c.in_ok-kept.kept in
     let older : (before', kept') ≡ (before, kept) =
@@ -45,10 +57,10 @@ returns-in-Ok-new-clause-represents c = λ before after kept newer read past mor
     (sym c.in_ok-read.ensures ∙ ap increment_at spelled ∙ increment_again after read fits) in
     let tag : c.in_ok-read.after ≡ after = sym c.in_ok-read.after-is ∙ ap (λ (x : ℕ × IncrementView). x.0) both in
     let found : read' ≡ read = ap (λ (x : ℕ × IncrementView). x.1) both in
-    let bytes : AreOf c.in-Ok-new.boxed.value.items c.in_ok-read.after c.in_ok-made.made =
+    let bytes : AreOf c.in-Ok.boxed.value.items c.in_ok-read.after c.in_ok-made.made =
     search (rules, common_steps) in (
       c.in_ok-made.made,
-      subst (λ w. AreOf c.in-Ok-new.boxed.value.items w c.in_ok-made.made) tag bytes,
+      subst (λ w. AreOf c.in-Ok.boxed.value.items w c.in_ok-made.made) tag bytes,
       c.in_ok-made.ensures.represents past more newer
           (subst (λ (k : StoreView). Represents k past) (sym same) h) g
           (subst (λ (i : IncrementView). IsIncrementOf newer i) (sym found) is),

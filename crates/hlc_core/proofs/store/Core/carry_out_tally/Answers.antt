@@ -65,7 +65,6 @@ returns-clause-vacuums c = λ past plan h plans is.
     let above = rw (← c.self.view_is) at c.requires.high in
     let low : c.args.at ≤ floor past = omega (arith, below, floor-is) in
     let high : horizon past ≤ c.args.at = (let e = h'.horizon in omega (arith, above, e)) in
-    rw (← c.self.view_is)
-    (vacuums _ c.args.at past new (report_of plan) h' (vacuum-none past c.args.at low high) at
+    vacuums _ c.args.at past new (report_of plan) h' (vacuum-none past c.args.at low high) at
     (left ((goal.at.returns-clause-vacuums c).After-apply_tally-numbers) plan planned.made is)
-    (points-last _ _ _ planned.points) refl dropped bytes)
+    (points-last _ _ _ planned.points) refl dropped bytes

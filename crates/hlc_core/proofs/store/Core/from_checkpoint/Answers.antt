@@ -8,8 +8,8 @@ use Rattle.hlc_core.proofs.store.Core.from_checkpoint.Goals as goal
 pub returns-in-Ok-clause-represents : goal.returns-in-Ok-clause-represents
 returns-in-Ok-clause-represents c = λ past h.
     let made = subst (Restores c.args.checkpoint) c.in-Ok.is c.in_ok-checked.ensures in
-    copy-represents c.args.checkpoint c.in-Ok-resuming.result past h
-    (subst (IsCopyOf c.args.checkpoint) (sym c.in-Ok-resuming.ensures) made.1)
+    copy-represents c.args.checkpoint c.resuming.result past h
+    (subst (IsCopyOf c.args.checkpoint) (sym c.resuming.ensures) made.1)
 
 pub returns-in-Err-clause-only : goal.returns-in-Err-clause-only
 returns-in-Err-clause-only c = λ is.
