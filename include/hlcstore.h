@@ -202,8 +202,8 @@ typedef enum hlc_answer {
     HLC_NOT_LATER = 111,        /* of hlc_increment_apply: the increment is not of a later state of this store */
     HLC_CHANGED = 112,          /* of hlc_saving_read: the store changed since the saving began */
     HLC_NOT_PARTS = 113,        /* of hlc_checkpoint_merge; word: the first that differs: 1 the nodes at the start, or
-                                   the links; 2 the open snapshots, or how many were ever opened; 3 the horizons; or 4:
-                                   the keys of the left checkpoint are not all below those of the right one */
+                                   the links; 2 the open snapshots, or the last ids that were given; 3 the horizons; or
+                                   4: the keys of the left checkpoint are not all below those of the right one */
     HLC_BAD_NODE_COUNT = 114,   /* of hlc_store_open: the number of nodes is not 1 to 64 */
     HLC_ALL_RETIRED = 115,      /* of hlc_store_floor_node: no node holds the floor back */
     HLC_BELOW_FLOOR = 116,      /* of hlc_store_join_at, and of a join of hlc_store_apply_records: the start is below
