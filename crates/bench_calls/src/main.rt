@@ -2,8 +2,6 @@
 //! a lock; deliveries to a store which many nodes joined, and left; and writes and reads of one store in one thread.
 #![tactic(auto)]
 
-ghost use Rattle.std.specs.Prelude.{◌<◌, ◌≤◌};
-
 mod alone;
 mod desk;
 mod posts;

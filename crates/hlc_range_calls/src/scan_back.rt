@@ -1,5 +1,5 @@
 //! A part of a listing from its end, as bytes.
-ghost use Rattle.std.specs.Prelude.{◌≡◌, List};
+ghost use Rattle.std.specs.Prelude.{List};
 ghost use Rattle.hlc_core.specs.Past.{Step, stamp_of, writes};
 ghost use Rattle.hlc_core.specs.StoreView.{Represents};
 ghost use Rattle.hlc_range_calls.specs.Listing.{pair_bytes};

@@ -1,5 +1,5 @@
 //! The lines of replies and refusals.
-ghost use Rattle.std.specs.Prelude.{map, ◌++◌, codes, Some, option_copied};
+ghost use Rattle.std.specs.Prelude.{map, Some, option_copied};
 ghost use Rattle.std.specs.List.{flat_map};
 ghost use Rattle.hlc_text.specs.Printing.{Prints};
 ghost use Rattle.hlc_text.specs.Text.{printed};

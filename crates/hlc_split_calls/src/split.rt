@@ -1,5 +1,5 @@
 //! The bytes of a checkpoint, divided at a key.
-ghost use Rattle.std.specs.Prelude.{◌≡◌, ◌≢◌, IfOk, IfErr, is_some};
+ghost use Rattle.std.specs.Prelude.{◌≡◌, IfOk, IfErr, is_some};
 ghost use Rattle.hlc_split_calls.specs.Halves.{AreHalves, IsNotDivided};
 ghost use Rattle.hlc_split_calls.specs.Outputs.{OnOutputs};
 

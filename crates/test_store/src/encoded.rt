@@ -1,6 +1,6 @@
 //! The small callers in the READMEs of `hlc_wire`, `hlc_frame`, `hlc_body`, `hlc_saved` and `hlc_log`, a message
 //! compared with bytes that were written by hand, and a checkpoint that is written in pieces.
-ghost use Rattle.std.specs.Prelude.{◌≡◌, ◌⊎◌, ◌++◌, ◌<◌, List, ℕ, IfOk, IfSome, OnOk, IsErrOf, length};
+ghost use Rattle.std.specs.Prelude.{◌≡◌, ◌⊎◌, ◌++◌, ◌<◌, List, ℕ, IfOk, IfSome, OnOk, IsErrOf};
 ghost use Rattle.hlc_frame.specs.Frame.{frame_bytes};
 ghost use Rattle.hlc_frame.specs.Reading.{tag_of};
 ghost use Rattle.hlc_core.specs.Past.{Step};
