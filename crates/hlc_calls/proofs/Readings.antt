@@ -6,7 +6,7 @@ use Rattle.std.proofs.lemmas.List.{append-nil, take_more}
 use Rattle.std.proofs.lemmas.Grind.{flat_map-append}
 use Rattle.hlc_rows.specs.declared.row.Row.{Row}
 use Rattle.hlc_rows.specs.Rows.{answer}
-use Rattle.hlc_calls.specs.declared.read_all.Place.{Place}
+use Rattle.hlc_calls.specs.declared.reads.Place.{Place}
 use Rattle.hlc_calls.specs.Entries.{piece}
 use Rattle.hlc_wire.specs.Placing.{with_bytes}
 use Rattle.hlc_calls.specs.ReadAll.{answer_bytes, answer_at, answers_at, IsLeftOut, ReturnsAnswers, ReturnsAll}

@@ -5,7 +5,7 @@ use Rattle.std.specs.Prelude.{Option, Some, None}
 use Rattle.std.specs.List.{flat_map}
 use Rattle.hlc_rows.specs.declared.row.Row.{Row}
 use Rattle.hlc_rows.specs.Rows.{answer}
-use Rattle.hlc_calls.specs.declared.read_all.Place.{Place}
+use Rattle.hlc_calls.specs.declared.reads.Place.{Place}
 use Rattle.hlc_calls.specs.Entries.{piece, lies}
 use Rattle.hlc_wire.specs.Placing.{with_bytes}
 pub use Rattle.hlc_range_calls.specs.Listing.{answer_bytes}

@@ -7,7 +7,7 @@ ghost use Rattle.hlc_core.specs.StoreView.{Represents};
 ghost use Rattle.hlc_range_calls.specs.Listing.{sized, pair_bytes, listing_bytes};
 ghost use Rattle.hlc_calls.specs.Digest.{ReturnsDigest};
 
-use crate::open_store::fill;
+use crate::outputs::fill;
 use hlc_core::{Answers, Core};
 use hlc_range_calls::scan::end;
 use sha2::{Digest, Sha256};

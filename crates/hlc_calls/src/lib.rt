@@ -3,18 +3,19 @@
 #![tactic(auto)]
 
 pub mod answers;
-pub mod certify;
-pub mod check;
-pub mod codes;
+pub mod certificates;
+pub mod checkpoints;
+mod codes;
 pub mod digest;
 pub mod entries;
 pub mod items;
+pub mod joins;
 pub mod log;
-pub mod open_store;
-pub mod output;
-pub mod read_all;
+pub mod outputs;
+pub mod reads;
 pub mod records;
-pub mod saved;
+pub mod snapshots;
 pub mod status;
+pub mod vacuum;
 
 pub use hlc_core::Stamp;

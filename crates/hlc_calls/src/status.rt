@@ -1,10 +1,37 @@
-//! What a store has: its nodes, their links, and its open snapshots.
-ghost use Rattle.std.specs.Prelude.{◌≡◌, ◌==◌, ◌&&◌, List, not, slice_get};
-ghost use Rattle.hlc_core.specs.Past.{Step, numbered, open_snapshots};
+//! What a store has: its rows, its nodes, and their links.
+ghost use Rattle.std.specs.Prelude.{◌≡◌, ◌==◌, ◌&&◌, List, length, not};
+ghost use Rattle.hlc_core.specs.Past.{Step, numbered};
 ghost use Rattle.hlc_core.specs.StoreView.{Represents};
-ghost use Rattle.hlc_calls.specs.Status.{ReturnsLink, IsFirstHolder, ReturnsHolder, ReturnsSnapshot};
+ghost use Rattle.hlc_calls.specs.Answers.{ReturnsSizes, narrowed};
+ghost use Rattle.hlc_calls.specs.Status.{ReturnsLink, IsFirstHolder, ReturnsHolder};
 
+use crate::outputs::narrow;
 use hlc_core::{Core, Intake, Stamp};
+
+/// Returns the number of stored rows.
+pub fn rows(core: &Core) -> u64
+    ensures { result ≡ narrowed (length core.now.rows) }
+{
+    narrow(core.rows())
+}
+
+/// Writes how many rows and keys are stored, the bytes of the keys, each counted once, and those of the values of all
+/// rows.
+pub fn sizes(
+    core: &Core,
+    rows: &mut u64,
+    keys: &mut u64,
+    key_bytes: &mut u64,
+    value_bytes: &mut u64,
+)
+    ensures { ReturnsSizes core.now.rows rows.new keys.new key_bytes.new value_bytes.new }
+{
+    let sizes = core.sizes();
+    *rows = narrow(sizes.rows);
+    *keys = narrow(sizes.keys);
+    *key_bytes = narrow(sizes.key_bytes);
+    *value_bytes = narrow(sizes.value_bytes);
+}
 
 /// Returns the number of nodes, with those that joined and those that retired.
 pub fn nodes(core: &Core) -> u64
@@ -63,22 +90,5 @@ pub fn floor_node(core: &Core, node: &mut u64) -> u32
             0
         }
         None => 115,
-    }
-}
-
-/// Returns 0, the id and the stamp of the open snapshot at a place, by rising ids; or 117.
-pub fn snapshot(core: &Core, place: u64, id: &mut u64, stamp: &mut u64) -> u32
-    ensures { (past : List Step) → Represents core.now past
-        → ReturnsSnapshot (slice_get (open_snapshots past) place) result id.new stamp.new }
-{
-    *id = 0;
-    *stamp = 0;
-    match core.snapshots().get(place as usize) {
-        Some(snapshot) => {
-            *id = snapshot.id;
-            *stamp = snapshot.stamp.bits();
-            0
-        }
-        None => 117,
     }
 }

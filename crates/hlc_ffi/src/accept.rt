@@ -1,17 +1,16 @@
-//! The calls that feed a store.
+//! The calls that feed a store, and those that check what would be refused.
 ghost use Rattle.std.specs.Prelude.{◌≡◌, ◌≢◌, Some, None, MatchResult};
 ghost use Rattle.hlc_node.specs.declared.item.Body.TheVariants.{Write as a_write, Report as a_report};
 ghost use Rattle.hlc_node.specs.declared.item.Body.TheVariants.{Retire as a_retire, Batch as a_batch};
 ghost use Rattle.hlc_node.specs.Items.{an_item};
-ghost use Rattle.hlc_calls.specs.Answers.{ReturnsJoined, ReturnsJoinedAt};
 ghost use Rattle.hlc_calls.specs.Entries.{AreEntered};
 ghost use Rattle.hlc_node_calls.specs.Batches.{batch_in};
 ghost use Rattle.hlc_ffi.specs.Handle.{OnStorePast, IsAccepting, IsChecking, IsGivenBack};
 
 use crate::handle::{of_core, on_core};
 use hlc_calls::entries::{Entry, enter_all};
-use hlc_calls::{items, open_store};
-use hlc_core::{Core, ItemRef, Stamp};
+use hlc_calls::items::{accept, check, check_plain};
+use hlc_core::{ItemRef, Stamp};
 use hlc_handle::{Reader, Slot, Store};
 use std::alloc::Global;
 
@@ -31,9 +30,8 @@ pub extern "C" fn hlc_store_accept_write(
         (an_item node number stamp (a_write key.now (Some value.now))) result word.new }
     ensures unchanged { result ≢ 0 → store.new.value ≡ store.old.value }
 {
-    *word = 0;
     let item = ItemRef::write(node, number, Stamp::from_bits(stamp), key, Some(value));
-    on_core!(alloc, store, |core| items::accept(core, &item, word))
+    on_core!(alloc, store, [word], |core| accept(core, &item, word))
 }
 
 /// Accepts the deletion that a node issued under this number. Returns 0 and its stamp, or a refusal and its word.
@@ -51,9 +49,8 @@ pub extern "C" fn hlc_store_accept_delete(
         (an_item node number stamp (a_write key.now None)) result word.new }
     ensures unchanged { result ≢ 0 → store.new.value ≡ store.old.value }
 {
-    *word = 0;
     let item = ItemRef::write(node, number, Stamp::from_bits(stamp), key, None);
-    on_core!(alloc, store, |core| items::accept(core, &item, word))
+    on_core!(alloc, store, [word], |core| accept(core, &item, word))
 }
 
 /// Accepts the batch that a node issued under this number: all of its writes, or none. `writes` are its bytes, as in
@@ -83,7 +80,7 @@ pub extern "C" fn hlc_store_accept_batch(
         }
     };
     let item = ItemRef::batch(node, number, Stamp::from_bits(stamp), all);
-    on_core!(alloc, store, |core| items::accept(core, &item, word))
+    on_core!(alloc, store, |core| accept(core, &item, word))
 }
 
 /// Accepts a node's report of this number. Returns 0 and its stamp, or a refusal and its word. It takes no memory.
@@ -99,9 +96,8 @@ pub extern "C" fn hlc_store_accept_report(
     ensures answer { IsAccepting store.old.value store.new.value (an_item node number stamp a_report) result word.new }
     ensures unchanged { result ≢ 0 → store.new.value ≡ store.old.value }
 {
-    *word = 0;
     let item = ItemRef::report(node, number, Stamp::from_bits(stamp));
-    on_core!(alloc, store, |core| items::accept(core, &item, word))
+    on_core!(alloc, store, [word], |core| accept(core, &item, word))
 }
 
 /// Accepts a node's last item, of this number. Returns 0 and its stamp, or a refusal and its word. No memory.
@@ -117,105 +113,8 @@ pub extern "C" fn hlc_store_accept_retire(
     ensures answer { IsAccepting store.old.value store.new.value (an_item node number stamp a_retire) result word.new }
     ensures unchanged { result ≢ 0 → store.new.value ≡ store.old.value }
 {
-    *word = 0;
     let item = ItemRef::retire(node, number, Stamp::from_bits(stamp));
-    on_core!(alloc, store, |core| items::accept(core, &item, word))
-}
-
-/// Returns why `hlc_store_accept_write` would refuse a write, apart from out of memory: 0, or the refusal and its word.
-#[unsafe(no_mangle)]
-pub extern "C" fn hlc_store_check_write(
-    store: &mut Reader,
-    node: u16,
-    number: u64,
-    stamp: u64,
-    key: &[u8],
-    value: &[u8],
-    word: &mut u64,
-) -> u32
-    ensures answer { IsChecking store.old.room.value
-        (an_item node number stamp (a_write key.now (Some value.now))) result word.new }
-    ensures same { IsGivenBack store.old.room store.new.room }
-{
-    let item = ItemRef::write(node, number, Stamp::from_bits(stamp), key, Some(value));
-    of_core!(store, [word], |core| items::check(core, &item, word))
-}
-
-/// Returns why `hlc_store_accept_delete` would refuse a deletion, apart from out of memory: 0, or the refusal and its
-/// word.
-#[unsafe(no_mangle)]
-pub extern "C" fn hlc_store_check_delete(
-    store: &mut Reader,
-    node: u16,
-    number: u64,
-    stamp: u64,
-    key: &[u8],
-    word: &mut u64,
-) -> u32
-    ensures answer { IsChecking store.old.room.value
-        (an_item node number stamp (a_write key.now None)) result word.new }
-    ensures same { IsGivenBack store.old.room store.new.room }
-{
-    let item = ItemRef::write(node, number, Stamp::from_bits(stamp), key, None);
-    of_core!(store, [word], |core| items::check(core, &item, word))
-}
-
-/// Returns why `hlc_store_accept_report`, or `hlc_store_accept_retire`, would refuse an item: 0, or the refusal and its
-/// word.
-#[unsafe(no_mangle)]
-pub extern "C" fn hlc_store_check_report(
-    store: &mut Reader,
-    node: u16,
-    number: u64,
-    stamp: u64,
-    word: &mut u64,
-) -> u32
-    ensures answer { IsChecking store.old.room.value (an_item node number stamp a_report) result word.new }
-    ensures retire { IsChecking store.old.room.value (an_item node number stamp a_retire) result word.new }
-    ensures same { IsGivenBack store.old.room store.new.room }
-{
-    let stamp = Stamp::from_bits(stamp);
-    of_core!(store, [word], |core| {
-        items::check_plain(core, node, number, stamp, word)
-    })
-}
-
-/// Lets a node join. Returns 0, its number and the stamp at which its clock starts; or 26 or 15.
-#[unsafe(no_mangle)]
-pub extern "C" fn hlc_store_join(
-    alloc: Global,
-    store: &mut Store,
-    node: &mut u16,
-    start: &mut u64,
-) -> u32
-    ensures answer { OnStorePast store.old.value store.new.value ((result ≡ 100) × (node.new ≡ 0) × (start.new ≡ 0))
-        (λ old new past. ReturnsJoined new past result node.new start.new) }
-    ensures nothing { result ≢ 0 → (node.new ≡ 0) × (start.new ≡ 0) }
-    ensures unchanged { result ≢ 0 → store.new.value ≡ store.old.value }
-{
-    *node = 0;
-    *start = 0;
-    on_core!(alloc, store, |core| open_store::join(core, node, start))
-}
-
-/// Lets a node join at a start. Returns 0, its number and the start; or 26, or 116 and the floor, or 15.
-#[unsafe(no_mangle)]
-pub extern "C" fn hlc_store_join_at(
-    alloc: Global,
-    store: &mut Store,
-    start: u64,
-    node: &mut u16,
-    word: &mut u64,
-) -> u32
-    ensures answer { OnStorePast store.old.value store.new.value ((result ≡ 100) × (node.new ≡ 0) × (word.new ≡ 0))
-        (λ old new past. ReturnsJoinedAt new start past result node.new word.new) }
-    ensures nothing { result ≢ 0 → node.new ≡ 0 }
-    ensures unchanged { result ≢ 0 → store.new.value ≡ store.old.value }
-{
-    let start = Stamp::from_bits(start);
-    on_core!(alloc, store, [node, word], |core| {
-        open_store::join_at(core, start, node, word)
-    })
+    on_core!(alloc, store, [word], |core| accept(core, &item, word))
 }
 
 /// Accepts writes and deletions in turn, until one is refused. Returns 0, or the answer for the refused one, its word,
@@ -234,5 +133,63 @@ pub extern "C" fn hlc_store_accept_all(
 {
     on_core!(alloc, store, [many, word], |core| {
         enter_all(core, entries, bytes, many, word)
+    })
+}
+
+/// Returns why `hlc_store_accept_write` would refuse a write, apart from out of memory: 0, or the refusal and its word.
+#[unsafe(no_mangle)]
+pub extern "C" fn hlc_store_check_write(
+    store: &mut Reader,
+    node: u16,
+    number: u64,
+    stamp: u64,
+    key: &[u8],
+    value: &[u8],
+    word: &mut u64,
+) -> u32
+    ensures answer { IsChecking store.old.room.value
+        (an_item node number stamp (a_write key.now (Some value.now))) result word.new }
+    ensures same { IsGivenBack store.old.room store.new.room }
+{
+    let item = ItemRef::write(node, number, Stamp::from_bits(stamp), key, Some(value));
+    of_core!(store, [word], |core| check(core, &item, word))
+}
+
+/// Returns why `hlc_store_accept_delete` would refuse a deletion, apart from out of memory: 0, or the refusal and its
+/// word.
+#[unsafe(no_mangle)]
+pub extern "C" fn hlc_store_check_delete(
+    store: &mut Reader,
+    node: u16,
+    number: u64,
+    stamp: u64,
+    key: &[u8],
+    word: &mut u64,
+) -> u32
+    ensures answer { IsChecking store.old.room.value
+        (an_item node number stamp (a_write key.now None)) result word.new }
+    ensures same { IsGivenBack store.old.room store.new.room }
+{
+    let item = ItemRef::write(node, number, Stamp::from_bits(stamp), key, None);
+    of_core!(store, [word], |core| check(core, &item, word))
+}
+
+/// Returns why `hlc_store_accept_report`, or `hlc_store_accept_retire`, would refuse an item: 0, or the refusal and its
+/// word.
+#[unsafe(no_mangle)]
+pub extern "C" fn hlc_store_check_report(
+    store: &mut Reader,
+    node: u16,
+    number: u64,
+    stamp: u64,
+    word: &mut u64,
+) -> u32
+    ensures answer { IsChecking store.old.room.value (an_item node number stamp a_report) result word.new }
+    ensures retire { IsChecking store.old.room.value (an_item node number stamp a_retire) result word.new }
+    ensures same { IsGivenBack store.old.room store.new.room }
+{
+    let stamp = Stamp::from_bits(stamp);
+    of_core!(store, [word], |core| {
+        check_plain(core, node, number, stamp, word)
     })
 }

@@ -1,39 +1,32 @@
 //! The store, for C: each call takes a handle, returns 0, a refusal, or 100 for a closed store, and writes the rest.
 #![tactic(auto)]
 
-ghost use Rattle.std.specs.Prelude.{◌≡◌, None};
-ghost use Rattle.hlc_handle_calls.specs.Opening.{IsOpening};
+ghost use Rattle.std.specs.Prelude.{◌≡◌};
 
 pub mod accept;
+pub mod answers;
+pub mod certificates;
+pub mod checkpoints;
 mod handle;
+pub mod increments;
+pub mod joins;
 pub mod log;
 pub mod node;
-pub mod output;
-pub mod pieces;
-pub mod read;
-pub mod saved;
+pub mod opening;
+pub mod outputs;
+pub mod reads;
+pub mod restorings;
 pub mod savings;
+pub mod snapshots;
 pub mod status;
-pub mod texts;
 pub mod vacuum;
 
-use hlc_handle::Slot;
 pub use hlc_handle::{LentBytes, Output, Reader, Restoring, Saving, Store};
-use hlc_handle_calls::opening::open;
-use std::alloc::Global;
 
-/// Opens a closed store of 1 to 64 nodes. Returns 0, 114, 15, or 101 for an open store, which stays unchanged.
+/// Returns the version of the library: 10,000 times its first number, 100 times the second, and the third.
 #[unsafe(no_mangle)]
-pub extern "C" fn hlc_store_open(alloc: Global, store: &mut Store, count: u16) -> u32
-    ensures { IsOpening store.old.value store.new.value count result }
+pub extern "C" fn hlc_version() -> u32
+    ensures { result ≡ 200 }
 {
-    open(alloc, store, count)
-}
-
-/// Closes a store, and frees what it contains. A closed one stays closed.
-#[unsafe(no_mangle)]
-pub extern "C" fn hlc_store_close(alloc: Global, store: &mut Store)
-    ensures { store.new.value ≡ None }
-{
-    let _ = store.take(alloc);
+    200
 }

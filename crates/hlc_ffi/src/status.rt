@@ -1,12 +1,26 @@
-//! What a store has: its horizon, its nodes and its open snapshots. No call takes memory.
-ghost use Rattle.std.specs.Prelude.{◌≡◌, false, slice_get};
-ghost use Rattle.hlc_core.specs.Past.{horizon, numbered, open_snapshots};
-ghost use Rattle.hlc_calls.specs.Status.{ReturnsLink, ReturnsHolder, ReturnsSnapshot};
-ghost use Rattle.hlc_ffi.specs.Handle.{OnReaderPast, IsGivenBack};
+//! What a store has: its floor and horizon, its rows, its nodes and their links. No call takes memory.
+ghost use Rattle.std.specs.Prelude.{◌≡◌, length, false};
+ghost use Rattle.hlc_core.specs.Past.{floor, horizon, numbered};
+ghost use Rattle.hlc_calls.specs.Answers.{ReturnsSizes, narrowed};
+ghost use Rattle.hlc_calls.specs.Status.{ReturnsLink, ReturnsHolder};
+ghost use Rattle.hlc_ffi.specs.Handle.{OnReader, OnReaderPast, IsGivenBack};
 
 use crate::handle::of_core;
 use hlc_calls::status;
 use hlc_handle::Reader;
+
+/// Returns 0 and the floor. It takes no memory.
+#[unsafe(no_mangle)]
+pub extern "C" fn hlc_store_floor(store: &mut Reader, stamp: &mut u64) -> u32
+    ensures answer { OnReaderPast store.old.room.value ((result ≡ 100) × (stamp.new ≡ 0))
+        (λ past. (result ≡ 0) × (stamp.new ≡ floor past)) }
+    ensures same { IsGivenBack store.old.room store.new.room }
+{
+    of_core!(store, [stamp], |core| {
+        *stamp = core.floor().bits();
+        0
+    })
+}
 
 /// Returns 0 and the horizon (GC threshold): the stamp of the last vacuum, or part of one, or 0 before the first.
 #[unsafe(no_mangle)]
@@ -17,6 +31,39 @@ pub extern "C" fn hlc_store_horizon(store: &mut Reader, stamp: &mut u64) -> u32
 {
     of_core!(store, [stamp], |core| {
         *stamp = core.horizon().bits();
+        0
+    })
+}
+
+/// Returns 0 and the number of stored rows, or 2^64 - 1 where that is greater. It takes no memory.
+#[unsafe(no_mangle)]
+pub extern "C" fn hlc_store_rows(store: &mut Reader, rows: &mut u64) -> u32
+    ensures answer { OnReader store.old.room.value ((result ≡ 100) × (rows.new ≡ 0))
+        (λ core. (result ≡ 0) × (rows.new ≡ narrowed (length core.rows))) }
+    ensures same { IsGivenBack store.old.room store.new.room }
+{
+    of_core!(store, [rows], |core| {
+        *rows = status::rows(core);
+        0
+    })
+}
+
+/// Returns 0, in constant time, how many rows and keys are stored, the bytes of the keys, and those of all values.
+#[unsafe(no_mangle)]
+pub extern "C" fn hlc_store_size(
+    store: &mut Reader,
+    rows: &mut u64,
+    keys: &mut u64,
+    key_bytes: &mut u64,
+    value_bytes: &mut u64,
+) -> u32
+    ensures answer { OnReader store.old.room.value ((result ≡ 100) × (rows.new ≡ 0)
+        × (keys.new ≡ 0) × (key_bytes.new ≡ 0) × (value_bytes.new ≡ 0)) (λ core. (result ≡ 0)
+        × ReturnsSizes core.rows rows.new keys.new key_bytes.new value_bytes.new) }
+    ensures same { IsGivenBack store.old.room store.new.room }
+{
+    of_core!(store, [rows, keys, key_bytes, value_bytes], |core| {
+        status::sizes(core, rows, keys, key_bytes, value_bytes);
         0
     })
 }
@@ -61,21 +108,4 @@ pub extern "C" fn hlc_store_floor_node(store: &mut Reader, node: &mut u64) -> u3
     ensures same { IsGivenBack store.old.room store.new.room }
 {
     of_core!(store, [node], |core| status::floor_node(core, node))
-}
-
-/// Returns 0, the id and the stamp of the open snapshot at a place, by rising ids; or 117 after the last.
-#[unsafe(no_mangle)]
-pub extern "C" fn hlc_snapshot_at_place(
-    store: &mut Reader,
-    place: u64,
-    id: &mut u64,
-    stamp: &mut u64,
-) -> u32
-    ensures answer { OnReaderPast store.old.room.value ((result ≡ 100) × (id.new ≡ 0) × (stamp.new ≡ 0)) (λ past.
-        ReturnsSnapshot (slice_get (open_snapshots past) place) result id.new stamp.new) }
-    ensures same { IsGivenBack store.old.room store.new.room }
-{
-    *id = 0;
-    *stamp = 0;
-    of_core!(store, |core| status::snapshot(core, place, id, stamp))
 }

@@ -4,7 +4,7 @@ ghost use Rattle.hlc_core.specs.Past.{Step};
 ghost use Rattle.hlc_saved.specs.Saved.{BytesRepresent};
 ghost use Rattle.hlc_handle_calls.specs.Opening.{IsOpening, IsRestoring, RestoresPast};
 
-use hlc_calls::saved;
+use hlc_calls::checkpoints;
 use hlc_core::{Core, CoreFault};
 use hlc_handle::{Slot, Store, opened};
 use std::alloc::Global;
@@ -45,6 +45,6 @@ pub fn restore(alloc: Global, store: &mut Store, bytes: &[u8], word: &mut u64) -
         store.put(handle);
         return 101;
     }
-    let made = saved::restore(alloc, bytes, word);
+    let made = checkpoints::restore(alloc, bytes, word);
     opened(alloc, store, made, word)
 }

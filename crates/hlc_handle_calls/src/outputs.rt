@@ -3,7 +3,7 @@ ghost use Rattle.std.specs.Prelude.{◌≡◌};
 ghost use Rattle.hlc_calls.specs.Output.{ReturnsPiece};
 ghost use Rattle.hlc_handle_calls.specs.Outputs.{bytes_in};
 
-use hlc_calls::output::read_piece;
+use hlc_calls::outputs::read_piece;
 use hlc_handle::{Output, Slot};
 use std::alloc::Global;
 

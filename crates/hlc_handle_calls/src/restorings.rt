@@ -5,7 +5,7 @@ ghost use Rattle.hlc_saved.specs.Saved.{BytesRepresent};
 ghost use Rattle.hlc_handle_calls.specs.Opening.{RestoresPast};
 ghost use Rattle.hlc_handle_calls.specs.Restorings.{HasStarted, HasFed, HasReadAll, HasFinished};
 
-use hlc_calls::saved::answered;
+use hlc_calls::checkpoints::answered;
 use hlc_handle::{Restoring, Slot, Store, opened};
 use hlc_saved::CheckpointReader;
 use std::alloc::Global;

@@ -1,18 +1,10 @@
-//! The version of the library, and its answers in words.
+//! The names and the texts of answers.
 ghost use Rattle.std.specs.Prelude.{◌≡◌, length};
 ghost use Rattle.hlc_calls.specs.Answers.{IsCopied};
 ghost use Rattle.hlc_calls.specs.Texts.{answer_name, answer_text};
 
 use hlc_calls::answers::{name, text};
-use hlc_calls::open_store::fill;
-
-/// Returns the version of the library: 10,000 times its first number, 100 times the second, and the third.
-#[unsafe(no_mangle)]
-pub extern "C" fn hlc_version() -> u32
-    ensures { result ≡ 200 }
-{
-    200
-}
+use hlc_calls::outputs::fill;
 
 /// Writes the name of an answer in the header: its length, 0 for no answer, and, where they fit, its bytes.
 #[unsafe(no_mangle)]

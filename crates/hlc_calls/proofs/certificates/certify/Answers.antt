@@ -4,7 +4,7 @@ use Rattle.hlc_events.specs.declared.certificate_fault.CertificateFault.TheVaria
 use Rattle.hlc_events.specs.declared.fault.CoreFault.TheVariants.{NoMemory}
 use Rattle.hlc_calls.specs.Certified.{IsShown}
 use Rattle.hlc_calls.proofs.Certificates.{certificate-shown}
-use Rattle.hlc_calls.proofs.certify.certify.Goals as goal
+use Rattle.hlc_calls.proofs.certificates.certify.Goals as goal
 
 pub returns-in-Some-clause-answer : goal.returns-in-Some-clause-answer
 returns-in-Some-clause-answer c = λ past h.

@@ -1,7 +1,7 @@
 -- The answers of the places so far are at the start of the buffer.
 use Rattle.std.proofs.Common.{◌-◌, length}
 use Rattle.hlc_calls.proofs.Readings.{AnsweredSoFar}
-use Rattle.hlc_calls.proofs.read_all.put_answers.Given as goal
+use Rattle.hlc_calls.proofs.reads.put_answers.Given as goal
 
 abbrev pub invariant-loop-index : goal.invariant-loop-index
 invariant-loop-index l = AnsweredSoFar l.fn.view.rows l.fn.view.stamp l.fn.places l.fn.bytes l.index l.at l.fn.out l.out

@@ -1,4 +1,4 @@
-//! The certificate of the rows up to a stamp, as text.
+//! The certificate of the rows up to a stamp, as text that is made and checked.
 ghost use Rattle.std.specs.Prelude.{◌≡◌, List, IfSome, OnErr, MatchResult};
 ghost use Rattle.hlc_rows.specs.declared.row.Row.{Row as ARow};
 ghost use Rattle.hlc_core.specs.Past.{Step};
@@ -8,10 +8,11 @@ ghost use Rattle.hlc_text.specs.Lines.{lines_of};
 ghost use Rattle.hlc_certificate.specs.CertificateText.{certificate_text};
 ghost use Rattle.hlc_certificate.specs.CheckLine.{AreLinesOf};
 ghost use Rattle.hlc_calls.specs.Certified.{ReturnsCertificate, ReturnsNoCertificate};
+ghost use Rattle.hlc_calls.specs.Check.{ReturnsCheck};
 
 use crate::codes;
-use crate::open_store::narrow;
-use hlc_certificate::put_certificate;
+use crate::outputs::narrow;
+use hlc_certificate::{CheckEnd, check_input, put_certificate};
 use hlc_core::{Core, Report, Stamp};
 use hlc_text::printer::Printer;
 use hlc_text::watched::Watched;
@@ -65,5 +66,32 @@ pub fn certify(
             Ok(text)
         }
         None => Err(15),
+    }
+}
+
+/// Checks the text of a certificate, however long it is. Returns 0, how many rows it shows to be the fewest, and their
+/// cost in bytes; or 22 and the number of the first reason against it, 16 and the number of the first bad line, or 15.
+pub fn check(alloc: Global, text: &[u8], rows: &mut u64, bytes: &mut u64, word: &mut u64) -> u32
+    ensures { ReturnsCheck text.now result rows.new bytes.new word.new }
+{
+    *rows = 0;
+    *bytes = 0;
+    *word = 0;
+    match check_input(alloc, text) {
+        CheckEnd::Fewest { count, bytes: cost } => {
+            *rows = count;
+            *bytes = narrow(cost);
+            0
+        }
+        CheckEnd::NotShown(reason) => {
+            *word = reason.reason() as u64;
+            22
+        }
+        CheckEnd::BadLine(number) => {
+            *word = number;
+            16
+        }
+        CheckEnd::NoMemory => 15,
+        CheckEnd::NotLoaded(_) | CheckEnd::WriteFault => unreachable!(),
     }
 }

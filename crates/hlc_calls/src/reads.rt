@@ -1,12 +1,13 @@
-//! Many keys in one call, for callers for which a call is expensive.
-ghost use Rattle.std.specs.Prelude.{◌≡◌, ◌≤◌, ◌<◌, ◌+◌, List, length};
-ghost use Rattle.std.specs.Prelude.{option_copied, MatchOption, MatchResult};
+//! Reads of a key, and of many keys in one call, for callers for which a call is expensive.
+ghost use Rattle.std.specs.Prelude.{◌≡◌, ◌≤◌, ◌<◌, ◌+◌, List, length, option_copied, MatchOption, MatchResult};
 ghost use Rattle.hlc_core.specs.Past.{Step, stamp_of, writes};
 ghost use Rattle.hlc_core.specs.StoreView.{Represents};
 ghost use Rattle.hlc_wire.specs.Placing.{with_bytes};
+ghost use Rattle.hlc_calls.specs.Answers.{ReturnsRead};
 ghost use Rattle.hlc_calls.specs.ReadAll.{answer_at, answer_bytes, IsLeftOut, ReturnsAll, ReturnsAnswers};
 
 use crate::entries::piece_of;
+use crate::outputs::fill;
 use hlc_core::{Core, ReadView};
 use hlc_range_calls::list::put_sized;
 use hlc_wire::put_bytes;
@@ -17,6 +18,22 @@ use hlc_wire::put_bytes;
 pub struct Place {
     pub at: usize,
     pub len: usize,
+}
+
+/// Reads a key. Returns 0 with the value, 102 where there is none, or 10.
+pub fn read(core: &Core, id: u64, key: &[u8], out: &mut [u8], len: &mut usize) -> u32
+    ensures { (past : List Step) → Represents core.now past
+        → ReturnsRead (stamp_of id past) (writes past) key.now result len.new out.old out.new }
+{
+    *len = 0;
+    match core.read(id, key) {
+        Ok(Some(value)) => {
+            fill(value, out, len);
+            0
+        }
+        Ok(None) => 102,
+        Err(_) => 10,
+    }
 }
 
 /// Writes an answer to a place of a buffer, and returns the place after it; or none, where it does not fit.

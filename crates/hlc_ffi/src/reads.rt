@@ -1,9 +1,7 @@
-//! The calls that read a store.
-ghost use Rattle.std.specs.Prelude.{◌≡◌, ◌≢◌, length, true, false};
-ghost use Rattle.hlc_core.specs.Past.{closed_all, floor, stamp_of, writes};
-ghost use Rattle.hlc_core.specs.StoreView.{Represents};
-ghost use Rattle.hlc_calls.specs.Answers.{ReturnsOpened, ReturnsOpenedAtFloor, ReturnsClosed, ReturnsRead};
-ghost use Rattle.hlc_calls.specs.Answers.{ReturnsSizes, narrowed};
+//! The calls that read and list the rows of a store. No call takes memory.
+ghost use Rattle.std.specs.Prelude.{◌≡◌, ◌≢◌, true, false};
+ghost use Rattle.hlc_core.specs.Past.{stamp_of, writes};
+ghost use Rattle.hlc_calls.specs.Answers.{ReturnsRead};
 ghost use Rattle.hlc_calls.specs.ReadAll.{ReturnsAll};
 ghost use Rattle.hlc_range_calls.specs.Listing.{ReturnsListing};
 ghost use Rattle.hlc_calls.specs.Digest.{ReturnsDigest};
@@ -11,57 +9,18 @@ ghost use Rattle.hlc_handle_calls.specs.Views.{IsNowhere, ReturnsView};
 ghost use Rattle.hlc_range_calls.specs.Scan.{ReturnsScan, ReturnsScanBack, ReturnsCount};
 ghost use Rattle.hlc_range_calls.specs.Changes.{ReturnsChanges};
 ghost use Rattle.hlc_range_calls.specs.Versions.{ReturnsVersions};
-ghost use Rattle.hlc_ffi.specs.Handle.{OnStorePast, OnReader, OnReaderPast, OnLoanPast, ListsNothing};
-ghost use Rattle.hlc_ffi.specs.Handle.{IsGivenBack};
+ghost use Rattle.hlc_ffi.specs.Handle.{OnReader, OnReaderPast, OnLoanPast, ListsNothing, IsGivenBack};
 
-use crate::handle::{of_core, on_core};
+use crate::handle::of_core;
 use hlc_calls::digest::digest;
-use hlc_calls::open_store;
-use hlc_calls::read_all::{Place, read_all};
-use hlc_core::{Core, Stamp};
-use hlc_handle::{LentBytes, Reader, Slot, Store};
+use hlc_calls::reads::{Place, read, read_all};
+use hlc_handle::{LentBytes, Reader};
 use hlc_handle_calls::views::view;
 use hlc_range_calls::changes::changes;
 use hlc_range_calls::list::list;
 use hlc_range_calls::scan::{count, scan};
 use hlc_range_calls::scan_back::scan_back;
 use hlc_range_calls::versions::versions;
-use std::alloc::Global;
-
-/// Opens a snapshot at a stamp. Returns 0 and its id, or a refusal and its word.
-#[unsafe(no_mangle)]
-pub extern "C" fn hlc_snapshot_open(
-    alloc: Global,
-    store: &mut Store,
-    stamp: u64,
-    id: &mut u64,
-) -> u32
-    ensures answer { OnStorePast store.old.value store.new.value ((result ≡ 100) × (id.new ≡ 0))
-        (λ old new past. ReturnsOpened new stamp past result id.new) }
-    ensures unchanged { result ≢ 0 → store.new.value ≡ store.old.value }
-{
-    on_core!(alloc, store, [id], |core| {
-        open_store::open(core, Stamp::from_bits(stamp), id)
-    })
-}
-
-/// Opens a snapshot at the floor (closed timestamp). Returns 0, its id and its stamp, or a refusal.
-#[unsafe(no_mangle)]
-pub extern "C" fn hlc_snapshot_open_at_floor(
-    alloc: Global,
-    store: &mut Store,
-    id: &mut u64,
-    stamp: &mut u64,
-) -> u32
-    ensures answer { OnStorePast store.old.value store.new.value ((result ≡ 100) × (id.new ≡ 0) × (stamp.new ≡ 0))
-        (λ old new past. ReturnsOpenedAtFloor new past result id.new stamp.new) }
-    ensures nothing { result ≢ 0 → stamp.new ≡ 0 }
-    ensures unchanged { result ≢ 0 → store.new.value ≡ store.old.value }
-{
-    *id = 0;
-    *stamp = 0;
-    on_core!(alloc, store, |core| open_store::open_floor(core, id, stamp))
-}
 
 /// Reads a key in a snapshot. Returns 0, the value's length and, where it fits, the value; 102 for none; or 10.
 #[unsafe(no_mangle)]
@@ -76,12 +35,11 @@ pub extern "C" fn hlc_snapshot_read(
         (λ past. ReturnsRead (stamp_of id past) (writes past) key.now result len.new out.old out.new) }
     ensures same { IsGivenBack store.old.room store.new.room }
 {
-    *len = 0;
-    of_core!(store, |core| open_store::read(core, id, key, out, len))
+    of_core!(store, [len], |core| read(core, id, key, out, len))
 }
 
 /// Reads a key as `hlc_snapshot_read` does, without a copy. Returns 0, the value's length, and where the value lies for
-/// as long as the store is lent; or 102 for none, or 10, with a null pointer. It takes no memory.
+/// as long as the store is lent; or 102 for none, or 10, with a null pointer.
 #[unsafe(no_mangle)]
 pub extern "C" fn hlc_snapshot_view(
     store: &mut Reader,
@@ -106,82 +64,31 @@ pub extern "C" fn hlc_snapshot_view(
     }
 }
 
-/// Closes a snapshot. Returns 0 and its stamp, or 10. It takes no memory.
+/// Reads keys in a snapshot in turn, each at a place among the bytes, and writes for each a byte 0, or 1 and the value
+/// after its length of eight bytes. Returns 0; or 103 where the bytes do not have the next key, or 104 where its answer
+/// does not fit; with the length and the number of the answers before it; or 10.
 #[unsafe(no_mangle)]
-pub extern "C" fn hlc_snapshot_close(
-    alloc: Global,
-    store: &mut Store,
-    id: u64,
-    stamp: &mut u64,
-) -> u32
-    ensures answer { OnStorePast store.old.value store.new.value ((result ≡ 100) × (stamp.new ≡ 0))
-        (λ old new past. ReturnsClosed new id past result stamp.new) }
-    ensures unchanged { result ≢ 0 → store.new.value ≡ store.old.value }
-{
-    *stamp = 0;
-    on_core!(alloc, store, |core| open_store::close(core, id, stamp))
-}
-
-/// Closes all open snapshots. Returns 0. It takes no memory.
-#[unsafe(no_mangle)]
-pub extern "C" fn hlc_snapshot_close_all(alloc: Global, store: &mut Store) -> u32
-    ensures { OnStorePast store.old.value store.new.value (result ≡ 100)
-        (λ old new past. (result ≡ 0) × Represents new (closed_all old.snapshots past)) }
-{
-    on_core!(alloc, store, |core| {
-        core.close_all();
-        0
-    })
-}
-
-/// Returns 0 and the floor. It takes no memory.
-#[unsafe(no_mangle)]
-pub extern "C" fn hlc_store_floor(store: &mut Reader, stamp: &mut u64) -> u32
-    ensures answer { OnReaderPast store.old.room.value ((result ≡ 100) × (stamp.new ≡ 0))
-        (λ past. (result ≡ 0) × (stamp.new ≡ floor past)) }
-    ensures same { IsGivenBack store.old.room store.new.room }
-{
-    of_core!(store, [stamp], |core| {
-        *stamp = core.floor().bits();
-        0
-    })
-}
-
-/// Returns 0 and the number of stored rows, or 2^64 - 1 where that is greater. It takes no memory.
-#[unsafe(no_mangle)]
-pub extern "C" fn hlc_store_rows(store: &mut Reader, rows: &mut u64) -> u32
-    ensures answer { OnReader store.old.room.value ((result ≡ 100) × (rows.new ≡ 0))
-        (λ core. (result ≡ 0) × (rows.new ≡ narrowed (length core.rows))) }
-    ensures same { IsGivenBack store.old.room store.new.room }
-{
-    of_core!(store, [rows], |core| {
-        *rows = open_store::rows(core);
-        0
-    })
-}
-
-/// Returns 0, in constant time, how many rows and keys are stored, the bytes of the keys, and those of all values.
-#[unsafe(no_mangle)]
-pub extern "C" fn hlc_store_size(
+pub extern "C" fn hlc_snapshot_read_all(
     store: &mut Reader,
-    rows: &mut u64,
-    keys: &mut u64,
-    key_bytes: &mut u64,
-    value_bytes: &mut u64,
+    id: u64,
+    places: &[Place],
+    bytes: &[u8],
+    out: &mut [u8],
+    len: &mut usize,
+    many: &mut usize,
 ) -> u32
-    ensures answer { OnReader store.old.room.value ((result ≡ 100) × (rows.new ≡ 0)
-        × (keys.new ≡ 0) × (key_bytes.new ≡ 0) × (value_bytes.new ≡ 0)) (λ core. (result ≡ 0)
-        × ReturnsSizes core.rows rows.new keys.new key_bytes.new value_bytes.new) }
+    ensures answer { OnReaderPast store.old.room.value
+        (ListsNothing result len.new many.new out.old out.new) (λ past. ReturnsAll
+        (stamp_of id past) (writes past) places.now bytes.now result len.new many.new out.old out.new) }
     ensures same { IsGivenBack store.old.room store.new.room }
 {
-    of_core!(store, [rows, keys, key_bytes, value_bytes], |core| {
-        open_store::sizes(core, rows, keys, key_bytes, value_bytes);
-        0
+    of_core!(store, [len, many], |core| {
+        read_all(core, id, places, bytes, out, len, many)
     })
 }
 
 /// Lists the keys with a value in a snapshot, in byte order. Returns 0, how many bytes the listing has and, where they
-/// fit, the bytes: of each key its length in eight bytes, the key, and the same of its value; or 10. No memory.
+/// fit, the bytes: of each key its length in eight bytes, the key, and the same of its value; or 10.
 #[unsafe(no_mangle)]
 pub extern "C" fn hlc_snapshot_list(
     store: &mut Reader,
@@ -198,7 +105,7 @@ pub extern "C" fn hlc_snapshot_list(
 }
 
 /// Lists keys from one on and below another, if that has bytes, as `hlc_snapshot_list`, but only as many whole pairs as
-/// fit. Returns 0, or 104 where a pair is left, with the length and the number of the pairs; or 10. It takes no memory.
+/// fit. Returns 0, or 104 where a pair is left, with the length and the number of the pairs; or 10.
 #[unsafe(no_mangle)]
 pub extern "C" fn hlc_snapshot_scan(
     store: &mut Reader,
@@ -241,7 +148,7 @@ pub extern "C" fn hlc_snapshot_scan_keys(
 }
 
 /// Lists such a range as `hlc_snapshot_scan` does, but the last key first, and as many whole pairs as fit from the end:
-/// the next call has the last key that was returned as its `to`. It takes no memory.
+/// the next call has the last key that was returned as its `to`.
 #[unsafe(no_mangle)]
 pub extern "C" fn hlc_snapshot_scan_back(
     store: &mut Reader,
@@ -264,7 +171,7 @@ pub extern "C" fn hlc_snapshot_scan_back(
 
 /// Lists the keys of such a range whose answers in two snapshots differ: for each its length in eight bytes, the key,
 /// and its answer in the second, a byte 0, or 1 and the value after its length. As many whole ones as fit: returns 0 or
-/// 104, the length and the number of them; or 10. It takes no memory.
+/// 104, the length and the number of them; or 10.
 #[unsafe(no_mangle)]
 pub extern "C" fn hlc_snapshot_changes(
     store: &mut Reader,
@@ -286,29 +193,7 @@ pub extern "C" fn hlc_snapshot_changes(
     })
 }
 
-/// Lists the stored rows of a key above one stamp and at or below another, the newest first: for each its stamp in
-/// eight bytes, its node in two, and its answer as `hlc_snapshot_changes`. Returns 0, their bytes, their number and,
-/// where all fit, the bytes. It takes no memory.
-#[unsafe(no_mangle)]
-pub extern "C" fn hlc_store_versions(
-    store: &mut Reader,
-    key: &[u8],
-    above: u64,
-    to: u64,
-    out: &mut [u8],
-    len: &mut usize,
-    many: &mut usize,
-) -> u32
-    ensures answer { OnReader store.old.room.value (ListsNothing result len.new many.new out.old out.new) (λ core.
-        ReturnsVersions core key.now above to result len.new many.new out.old out.new) }
-    ensures same { IsGivenBack store.old.room store.new.room }
-{
-    of_core!(store, [len, many], |core| {
-        versions(core, key, above, to, out, len, many)
-    })
-}
-
-/// Returns 0 and how many keys of such a range have a value in a snapshot, 2^64 - 1 for more; or 10. No memory.
+/// Returns 0 and how many keys of such a range have a value in a snapshot, 2^64 - 1 for more; or 10.
 #[unsafe(no_mangle)]
 pub extern "C" fn hlc_snapshot_count(
     store: &mut Reader,
@@ -324,8 +209,7 @@ pub extern "C" fn hlc_snapshot_count(
     of_core!(store, [many], |core| count(core, id, from, to, many))
 }
 
-/// Returns 0, 32 and, where it fits, the SHA-256 of what `hlc_snapshot_list` would return for such a range; or 10. No
-/// memory.
+/// Returns 0, 32 and, where it fits, the SHA-256 of what `hlc_snapshot_list` would return for such a range; or 10.
 #[unsafe(no_mangle)]
 pub extern "C" fn hlc_snapshot_digest(
     store: &mut Reader,
@@ -342,25 +226,24 @@ pub extern "C" fn hlc_snapshot_digest(
     of_core!(store, [len], |core| digest(core, id, from, to, out, len))
 }
 
-/// Reads keys in a snapshot in turn, each at a place among the bytes, and writes for each a byte 0, or 1 and the value
-/// after its length of eight bytes. Returns 0; or 103 where the bytes do not have the next key, or 104 where its answer
-/// does not fit; with the length and the number of the answers before it; or 10. It takes no memory.
+/// Lists the stored rows of a key above one stamp and at or below another, the newest first: for each its stamp in
+/// eight bytes, its node in two, and its answer as `hlc_snapshot_changes`. Returns 0, their bytes, their number and,
+/// where all fit, the bytes.
 #[unsafe(no_mangle)]
-pub extern "C" fn hlc_snapshot_read_all(
+pub extern "C" fn hlc_store_versions(
     store: &mut Reader,
-    id: u64,
-    places: &[Place],
-    bytes: &[u8],
+    key: &[u8],
+    above: u64,
+    to: u64,
     out: &mut [u8],
     len: &mut usize,
     many: &mut usize,
 ) -> u32
-    ensures answer { OnReaderPast store.old.room.value
-        (ListsNothing result len.new many.new out.old out.new) (λ past. ReturnsAll
-        (stamp_of id past) (writes past) places.now bytes.now result len.new many.new out.old out.new) }
+    ensures answer { OnReader store.old.room.value (ListsNothing result len.new many.new out.old out.new) (λ core.
+        ReturnsVersions core key.now above to result len.new many.new out.old out.new) }
     ensures same { IsGivenBack store.old.room store.new.room }
 {
     of_core!(store, [len, many], |core| {
-        read_all(core, id, places, bytes, out, len, many)
+        versions(core, key, above, to, out, len, many)
     })
 }

@@ -1,6 +1,6 @@
 -- What was made of the bytes is returned, or why nothing was.
 use Rattle.hlc_calls.proofs.ResumedLemmas.{is_made, is_past}
-use Rattle.hlc_calls.proofs.saved.restore.Goals as goal
+use Rattle.hlc_calls.proofs.checkpoints.restore.Goals as goal
 
 pub returns-clause-made : goal.returns-clause-made
 returns-clause-made c = is_made _ _ _ _ c.resume.ensures.exact c.answered.ensures

@@ -1,4 +1,4 @@
-//! A store to bytes and back.
+//! A store to the bytes of a checkpoint and back.
 ghost use Rattle.std.specs.Prelude.{◌≡◌, List, ℕ, MatchResult, Ok, Err, IfOk, IfErr};
 ghost use Rattle.hlc_core.specs.Past.{Step};
 ghost use Rattle.hlc_core.specs.StoreView.{Represents};

@@ -2,7 +2,7 @@
 use Rattle.std.proofs.Common.{[], ◌∷◌, arith}
 use Rattle.hlc_range_calls.specs.Listing.{sized}
 use Rattle.hlc_wire.proofs.PlacingLemmas.{put_both}
-use Rattle.hlc_calls.proofs.read_all.put_answer.Goals as goal
+use Rattle.hlc_calls.proofs.reads.put_answer.Goals as goal
 
 pub returns-else-room-value : goal.returns-else-room-value
 returns-else-room-value c =

@@ -1,4 +1,4 @@
-//! The bytes that a call made: a certificate, or a checkpoint.
+//! The bytes that a call made: a certificate, a checkpoint or an increment.
 ghost use Rattle.std.specs.Prelude.{◌≡◌, None};
 ghost use Rattle.hlc_calls.specs.Output.{ReturnsPiece};
 ghost use Rattle.hlc_handle_calls.specs.Outputs.{bytes_in};

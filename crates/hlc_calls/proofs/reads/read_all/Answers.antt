@@ -1,6 +1,6 @@
 -- The view's answers are those of the snapshot.
 use Rattle.hlc_calls.proofs.Readings.{read-at}
-use Rattle.hlc_calls.proofs.read_all.read_all.Goals as goal
+use Rattle.hlc_calls.proofs.reads.read_all.Goals as goal
 
 pub returns-in-Some : goal.returns-in-Some
 returns-in-Some c = λ past h.

@@ -1,7 +1,7 @@
 -- One more key is answered, or left out.
 use Rattle.std.proofs.Common.{rules}
 use Rattle.hlc_calls.proofs.Readings.{answered-more, left-out}
-use Rattle.hlc_calls.proofs.read_all.put_answers.Goals as goal
+use Rattle.hlc_calls.proofs.reads.put_answers.Goals as goal
 
 pub loop-index-preserved : goal.loop-index-preserved
 loop-index-preserved c =
