@@ -7,7 +7,7 @@ ghost use Rattle.hlc_frame.specs.Opening.{front_at};
 use hlc_wire::{WireFault, u32_at, u64_at};
 
 /// The version of the library's formats.
-pub const FORMAT_VERSION: u32 = 1;
+const FORMAT_VERSION: u32 = 1;
 
 /// The number of bytes before the body.
 pub const FRONT_BYTES: usize = 20;

@@ -10,7 +10,7 @@ mod reader;
 mod rest;
 mod writer;
 
-pub use front::{DIGEST_BYTES, FORMAT_VERSION, FRONT_BYTES};
+pub use front::{DIGEST_BYTES, FRONT_BYTES};
 pub use hlc_wire::WireFault;
 pub use laws::{blocks_are_the_frame, pieces_are_the_frame};
 pub use open::{Opened, open_frame};

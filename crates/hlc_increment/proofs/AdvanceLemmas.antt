@@ -432,7 +432,7 @@ initial_nodes-stay past (Joined node start ∷ more) some legal = initial_nodes-
 pub fits-unless_above : (older newer : StoreView) (increment : IncrementView) (past more : List Step)
     → Represents older past → IsCheckpoint older → Represents newer (more ++ past)
     → IsIncrementOf newer increment → IsCheckpoint increment.state → (fault : AdvanceFault)
-    → IsReason older increment fault → (fault ≡ faults.NoMemory) ⊎ (floor past < increment.since)
+    → IsReason older increment fault → floor past < increment.since
 fits-unless_above older newer increment past more h is g of is' (faults.Parts fault) (inl none) =
     absurd (sound-has_no_reason older fault is none)
 fits-unless_above older newer increment past more h is g of is' (faults.Parts fault) (inr none) =
@@ -452,8 +452,8 @@ fits-unless_above older newer increment past more h is g of is' faults.NotLater 
       horizon = (let before = h.horizon in let after = g.horizon in omega (arith, before, after, rose, at));
     }))
 fits-unless_above older newer increment past more h is g of is' (faults.AboveFloor f) reason =
-    inr (let same : floor_in older ≡ floor past = floor-in older past h in
-    omega (arith, same, reason.0, reason.1))
+    let same : floor_in older ≡ floor past = floor-in older past h in
+    omega (arith, same, reason.0, reason.1)
 fits-unless_above older newer increment past more h is g of is' (faults.BelowHorizon f) reason =
     absurd (let at : increment.state.horizon ≡ newer.horizon =
     ap (λ (view : StoreView). view.horizon) of.copy.same in
@@ -464,4 +464,3 @@ fits-unless_above older newer increment past more h is g of is' faults.RowUpToSt
     (All-weaker (λ (row : Row). ltb increment.since row.stamp ≡ true) (λ (row : Row). increment.since < row.stamp)
     (λ row t. ltb-true increment.since row.stamp t) (rows_above increment.since newer.rows)
     (filter_passes (λ (row : Row). ltb increment.since row.stamp) newer.rows))))
-fits-unless_above older newer increment past more h is g of is' faults.NoMemory reason = inl refl

@@ -6,7 +6,7 @@ use Rattle.hlc_increment.specs.declared.increment.IncrementFault.{IncrementFault
 use Rattle.hlc_increment.specs.declared.increment.IncrementFault.TheVariants as increments
 use Rattle.hlc_increment.specs.declared.advancing.AdvanceFault.{AdvanceFault}
 use Rattle.hlc_increment.specs.declared.advancing.AdvanceFault.TheVariants.{Parts, NotLater, AboveFloor, BelowHorizon}
-use Rattle.hlc_increment.specs.declared.advancing.AdvanceFault.TheVariants.{RowUpToStamp, NoMemory}
+use Rattle.hlc_increment.specs.declared.advancing.AdvanceFault.TheVariants.{RowUpToStamp}
 
 -- the number of a refusal
 abbrev pub increment_code : IncrementFault → ℕ
@@ -31,7 +31,6 @@ advance_code NotLater = 111
 advance_code (AboveFloor floor) = 8
 advance_code (BelowHorizon horizon) = 110
 advance_code RowUpToStamp = 110
-advance_code NoMemory = 15
 
 abbrev pub advance_word : AdvanceFault → ℕ
 advance_word (Parts fault) = fault_code fault
@@ -39,7 +38,6 @@ advance_word NotLater = 0
 advance_word (AboveFloor floor) = floor
 advance_word (BelowHorizon horizon) = 0
 advance_word RowUpToStamp = 0
-advance_word NoMemory = 0
 
 -- its text
 abbrev pub advance_text : AdvanceFault → List ℕ
@@ -48,4 +46,3 @@ advance_text NotLater = codes "the increment is not of a later state of this sto
 advance_text (AboveFloor floor) = codes "the stamp is above the floor of the checkpoint, " ++ stamp_text floor
 advance_text (BelowHorizon horizon) = codes "the stamp is below that of the last vacuum, " ++ stamp_text horizon
 advance_text RowUpToStamp = codes "a row of the increment is not above its stamp"
-advance_text NoMemory = codes "out of memory"

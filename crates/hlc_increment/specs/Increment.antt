@@ -1,5 +1,5 @@
 -- An increment of a store: its state without the rows at or below a stamp; and what an older checkpoint becomes by it.
-use Rattle.std.specs.Prelude.{◌≡◌, ℕ, ◌<◌, ◌≤◌, ◌⊎◌, List, [], ◌∷◌, ◌++◌, All, length, ⊤}
+use Rattle.std.specs.Prelude.{◌≡◌, ℕ, ◌<◌, ◌≤◌, ◌⊎◌, List, [], ◌∷◌, ◌++◌, All, length}
 use Rattle.std.specs.List.Sorted.{IsPermutation}
 use Rattle.hlc_table_column.specs.Rows.{rows_to}
 use Rattle.hlc_witness.specs.Certificate.{RowsAscend}
@@ -10,7 +10,7 @@ use Rattle.hlc_increment.specs.declared.increment.IncrementFault.{IncrementFault
 use Rattle.hlc_increment.specs.declared.increment.IncrementFault.TheVariants as increments
 use Rattle.hlc_increment.specs.declared.advancing.AdvanceFault.{AdvanceFault}
 use Rattle.hlc_increment.specs.declared.advancing.AdvanceFault.TheVariants.{Parts, NotLater, AboveFloor, BelowHorizon}
-use Rattle.hlc_increment.specs.declared.advancing.AdvanceFault.TheVariants.{RowUpToStamp, NoMemory}
+use Rattle.hlc_increment.specs.declared.advancing.AdvanceFault.TheVariants.{RowUpToStamp}
 
 -- the stamp, and the state of a store with its rows above that alone
 pub record IncrementView : Type 0 where
@@ -69,4 +69,3 @@ IsReason older increment (AboveFloor floor) = (floor ≡ floor_in older) × (flo
 IsReason older increment (BelowHorizon horizon) =
     (horizon ≡ increment.state.horizon) × (increment.since < horizon)
 IsReason older increment RowUpToStamp = All (λ row. increment.since < row.stamp) increment.state.rows → ⊥
-IsReason older increment NoMemory = ⊤

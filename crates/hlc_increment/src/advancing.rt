@@ -1,5 +1,5 @@
 //! An older checkpoint that becomes a newer one by an increment.
-ghost use Rattle.std.specs.Prelude.{◌≡◌, ◌≢◌, ◌<◌, ◌++◌, ◌↔◌, ◌⊎◌, All, IfOk, IfErr, IfSome, IsTrue, List, None};
+ghost use Rattle.std.specs.Prelude.{◌≡◌, ◌<◌, ◌++◌, ◌↔◌, All, IfOk, IfErr, OnErr, IfSome, IsTrue, List, None};
 ghost use Rattle.std.specs.List.Sorted.{IsPermutation};
 ghost use Rattle.hlc_table_column.specs.Rows.{rows_to};
 ghost use Rattle.hlc_witness.specs.Certificate.{RowsAscend};
@@ -9,7 +9,6 @@ ghost use Rattle.hlc_core.specs.StoreView.{StoreView, Represents};
 ghost use Rattle.hlc_increment.specs.Increment.{AreFitting, IsAdvanced, IsIncrementOf, IsReason, MayBeLater};
 ghost use Rattle.hlc_increment.specs.Increment.{without_drops};
 ghost use Rattle.hlc_increment.specs.Faults.{advance_code, advance_word};
-ghost use Rattle.hlc_increment.specs.declared.advancing.AdvanceFault.TheVariants.{NoMemory as no_memory};
 
 use crate::increment::Increment;
 use hlc_checkpoint::sort;
@@ -32,12 +31,10 @@ pub enum AdvanceFault {
     BelowHorizon { horizon: Stamp },
     /// A row of the increment is not above its stamp.
     RowUpToStamp,
-    /// Out of memory.
-    NoMemory,
 }
 
 impl AdvanceFault {
-    /// Returns the number of this refusal in outputs: 107, 111, 8, 110 or 15.
+    /// Returns the number of this refusal in outputs: 107, 111, 8 or 110.
     pub fn code(self) -> u32
         ensures { result ≡ advance_code self }
     {
@@ -46,7 +43,6 @@ impl AdvanceFault {
             AdvanceFault::NotLater => 111,
             AdvanceFault::AboveFloor { .. } => 8,
             AdvanceFault::BelowHorizon { .. } | AdvanceFault::RowUpToStamp => 110,
-            AdvanceFault::NoMemory => 15,
         }
     }
 
@@ -59,8 +55,7 @@ impl AdvanceFault {
             AdvanceFault::AboveFloor { floor } => floor.bits(),
             AdvanceFault::NotLater
             | AdvanceFault::BelowHorizon { .. }
-            | AdvanceFault::RowUpToStamp
-            | AdvanceFault::NoMemory => 0,
+            | AdvanceFault::RowUpToStamp => 0,
         }
     }
 }
@@ -86,56 +81,49 @@ impl fmt::Display for AdvanceFault {
             AdvanceFault::RowUpToStamp => f.write_str(
                 "a row of the increment is not above its stamp",
             ),
-            AdvanceFault::NoMemory => f.write_str("out of memory"),
         }
     }
 }
 
 impl Error for AdvanceFault {}
 
-impl From<NoMemory> for AdvanceFault {
-    ghost use Rattle.hlc_increment.specs.declared.advancing.AdvanceFault.TheVariants.{NoMemory as no_memory};
-
-    ghost from_gives = { λ _ fault. fault ≡ no_memory };
-
-    fn from(_fault: NoMemory) -> AdvanceFault {
-        AdvanceFault::NoMemory
-    }
-}
-
 /// Returns the checkpoint that an older one becomes by an increment: the increment's state, with the rows of both. If
 /// the increment is of the store from which the older checkpoint is, then a store that is restored from the result
 /// represents the same past as that store, but that its vacuums since the older checkpoint dropped nothing. So it
 /// answers alike, and its next vacuum drops what those dropped.
 ///
-/// Refused for the first reason of `AdvanceFault`. Both are moved, and lost if it is refused. No row is copied; the
-/// rows are sorted.
-pub fn advance(older: Checkpoint, increment: Increment) -> Result<Checkpoint, AdvanceFault>
-    ensures ok { IfOk result (IsAdvanced older increment) }
+/// Refused for the first reason of `AdvanceFault`; memory is needed only after the check. Both are moved, and lost if
+/// it is refused. No row is copied; the rows are sorted.
+pub fn advance(
+    older: Checkpoint,
+    increment: Increment,
+) -> Result<Result<Checkpoint, AdvanceFault>, NoMemory>
+    ensures ok { IfOk result (λ made. IfOk made (IsAdvanced older increment)) }
     ensures represents { (past more : List Step) (newer : StoreView) → Represents older past
         → Represents newer (more ++ past) → IsIncrementOf newer increment
-        → IfOk result (λ made. Represents made (without_drops more ++ past)) }
+        → IfOk result (λ made. IfOk made
+        (λ whole. Represents whole (without_drops more ++ past))) }
     ensures only { (past more : List Step) (newer : StoreView) → Represents older past
         → IsCheckpoint older → Represents newer (more ++ past)
-        → IsIncrementOf newer increment → IsCheckpoint increment.state → IfErr result
-        (λ fault. (fault ≡ no_memory) ⊎ (floor past < increment.since)) }
-    ensures err { IfErr result (IsReason older increment) }
+        → IsIncrementOf newer increment → IsCheckpoint increment.state
+        → IfOk result (λ made. OnErr made (floor past < increment.since)) }
+    ensures err { IfOk result (λ made. IfErr made (IsReason older increment)) }
+    ensures memory { OnErr result (AreFitting older increment) }
 {
     if let Some(fault) = reason_against(&older, &increment) {
-        return Err(fault);
+        return Ok(Err(fault));
     }
     let (since, state) = increment.into_parts();
     let (nodes, last_id, horizon) = (state.initial_nodes(), state.last_id(), state.horizon());
     let (_, _, lower) = older.into_lists();
     let (links, snapshots, upper) = state.into_lists();
     let rows = merged(lower, since, upper)?;
-    Ok(Checkpoint::of(nodes, links, snapshots, last_id, horizon, rows))
+    Ok(Ok(Checkpoint::of(nodes, links, snapshots, last_id, horizon, rows)))
 }
 
-/// Returns the first reason against an increment of a checkpoint, or none; never out of memory.
+/// Returns the first reason against an increment of a checkpoint, or none.
 fn reason_against(older: &Checkpoint, increment: &Increment) -> Option<AdvanceFault>
     ensures some { IfSome result (IsReason older.now increment.now) }
-    ensures other { IfSome result (λ fault. fault ≢ no_memory) }
     ensures none { result ≡ None → AreFitting older.now increment.now }
 {
     let state = increment.state();

@@ -8,7 +8,7 @@ use Rattle.hlc_checkpoint.specs.declared.checkpoint.RestoreFault.{RestoreFault}
 use Rattle.hlc_body.specs.Reading.{saved}
 use Rattle.hlc_saved.specs.Saved.{AreOf}
 use Rattle.hlc_increment.specs.declared.advancing.AdvanceFault.{AdvanceFault}
-use Rattle.hlc_increment.specs.Increment.{IncrementView, IsIncrementOf, IsAdvanced, IsReason}
+use Rattle.hlc_increment.specs.Increment.{IncrementView, IsIncrementOf, AreFitting, IsAdvanced, IsReason}
 use Rattle.hlc_increment.specs.Faults.{advance_code, advance_word}
 use Rattle.hlc_increment.specs.Bytes.{IncrementFits, increment_at, increment_bytes}
 
@@ -50,11 +50,12 @@ IsNotReadIncrement bytes code word =
     IsShort code word
     ⊎ ((fault : WireFault) × (increment_at bytes ≡ Err fault) × (code ≡ 110) × (word ≡ fault_code fault))
 
--- the first reason is returned
+-- the first reason is returned; or out of memory, and both fit each other
 abbrev pub IsNotJoined : StoreView → IncrementView → ℕ → ℕ → Type 0
 IsNotJoined older increment code word =
-    (reason : AdvanceFault) × IsReason older increment reason × (code ≡ advance_code reason)
-    × (word ≡ advance_word reason)
+    (IsShort code word × AreFitting older increment)
+    ⊎ ((reason : AdvanceFault) × IsReason older increment reason × (code ≡ advance_code reason)
+    × (word ≡ advance_word reason))
 
 -- the bytes are those of the checkpoint that the older one becomes by the increment, with the increment's tag
 pub record AreAdvanced (older increment bytes : List ℕ) : Type 0 where

@@ -66,8 +66,9 @@ fn joined(older: Checkpoint, increment: Increment, word: &mut u64) -> Result<Che
 {
     *word = 0;
     match advance(older, increment) {
-        Ok(made) => Ok(made),
-        Err(fault) => Err(refuse(&fault, word)),
+        Ok(Ok(made)) => Ok(made),
+        Ok(Err(fault)) => Err(refuse(&fault, word)),
+        Err(_) => Err(15),
     }
 }
 

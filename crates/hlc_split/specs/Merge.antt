@@ -5,7 +5,7 @@ use Rattle.hlc_core.specs.StoreView.{StoreView}
 use Rattle.hlc_split.specs.Split.{is_under, is_from}
 use Rattle.hlc_split.specs.declared.joining.MergeFault.{MergeFault}
 use Rattle.hlc_split.specs.declared.joining.MergeFault.TheVariants.{LinksDiffer, SnapshotsDiffer, HorizonsDiffer}
-use Rattle.hlc_split.specs.declared.joining.MergeFault.TheVariants.{KeysOverlap, NoMemory}
+use Rattle.hlc_split.specs.declared.joining.MergeFault.TheVariants.{KeysOverlap}
 
 -- both have as many nodes at the start, and the same progress of each link
 abbrev pub HaveSameLinks : StoreView → StoreView → Type 0
@@ -20,7 +20,13 @@ abbrev pub AreDivided : List Row → List Row → Type 0
 AreDivided left right = MatchOption (slice_get right 0) ⊤ (λ first.
     All (λ row. is_under first.key row.key ≡ true) left × All (λ row. is_from first.key row.key ≡ true) right)
 
--- the first reason why they are not joined; out of memory if there is none
+-- links, snapshots and horizons are equal, and the keys are divided
+abbrev pub AreJoinable : StoreView → StoreView → Type 0
+AreJoinable left right =
+    HaveSameLinks left right × HaveSameSnapshots left right × (left.horizon ≡ right.horizon)
+    × AreDivided left.rows right.rows
+
+-- the first reason why they are not joined
 abbrev pub IsReason : StoreView → StoreView → MergeFault → Type 0
 IsReason left right LinksDiffer = HaveSameLinks left right → ⊥
 IsReason left right SnapshotsDiffer = HaveSameLinks left right × (HaveSameSnapshots left right → ⊥)
@@ -29,9 +35,6 @@ IsReason left right HorizonsDiffer =
 IsReason left right KeysOverlap =
     HaveSameLinks left right × HaveSameSnapshots left right × (left.horizon ≡ right.horizon)
     × (AreDivided left.rows right.rows → ⊥)
-IsReason left right NoMemory =
-    HaveSameLinks left right × HaveSameSnapshots left right × (left.horizon ≡ right.horizon)
-    × AreDivided left.rows right.rows
 
 -- the number of a reason
 abbrev pub merge_code : MergeFault → ℕ
@@ -39,7 +42,6 @@ merge_code LinksDiffer = 1
 merge_code SnapshotsDiffer = 2
 merge_code HorizonsDiffer = 3
 merge_code KeysOverlap = 4
-merge_code NoMemory = 5
 
 -- its text
 abbrev pub merge_text : MergeFault → List ℕ
@@ -47,4 +49,3 @@ merge_text LinksDiffer = codes "the links differ"
 merge_text SnapshotsDiffer = codes "the open snapshots differ"
 merge_text HorizonsDiffer = codes "the horizons differ"
 merge_text KeysOverlap = codes "the keys of the left are not all below those of the right"
-merge_text NoMemory = codes "out of memory"

@@ -1,12 +1,12 @@
 //! Two checkpoints joined into one.
-ghost use Rattle.std.specs.Prelude.{◌≡◌, ◌++◌, ◌∷◌, ◌↔◌, not, true, All, IfOk, IfErr, IsTrue, List};
-ghost use Rattle.std.specs.Prelude.{ℕ, Bool};
+ghost use Rattle.std.specs.Prelude.{◌≡◌, ◌++◌, ◌∷◌, ◌↔◌, not, true, All, IfOk, IfErr, OnOk, OnErr, IsTrue};
+ghost use Rattle.std.specs.Prelude.{ℕ, Bool, List};
 ghost use Rattle.hlc_core.specs.Past.{Step, PartVacuumed, IsLegal};
 ghost use Rattle.hlc_core.specs.StoreView.{with_rows_left, Represents};
 ghost use Rattle.hlc_split.specs.Split.{RepresentsPart, is_under, is_from};
 ghost use Rattle.hlc_split.specs.OwnPast.{IsOwnPast};
-ghost use Rattle.hlc_split.specs.Merge.{AreDivided, HaveSameLinks, HaveSameSnapshots, IsReason, merge_code};
-ghost use Rattle.hlc_split.specs.declared.joining.MergeFault.TheVariants.{NoMemory as no_memory};
+ghost use Rattle.hlc_split.specs.Merge.{AreDivided, AreJoinable, HaveSameLinks, HaveSameSnapshots};
+ghost use Rattle.hlc_split.specs.Merge.{IsReason, merge_code};
 
 use crate::halves::is_under;
 use hlc_checkpoint::Checkpoint;
@@ -28,12 +28,10 @@ pub enum MergeFault {
     HorizonsDiffer,
     /// A key of the left one is not below the first key of the right one, or a key of the right one is.
     KeysOverlap,
-    /// Out of memory.
-    NoMemory,
 }
 
 impl MergeFault {
-    /// Returns the number of the reason in outputs: 1 to 5, in the order of the variants.
+    /// Returns the number of the reason in outputs: 1 to 4, in the order of the variants.
     pub fn code(self) -> u32
         ensures { result ≡ merge_code self }
     {
@@ -42,7 +40,6 @@ impl MergeFault {
             MergeFault::SnapshotsDiffer => 2,
             MergeFault::HorizonsDiffer => 3,
             MergeFault::KeysOverlap => 4,
-            MergeFault::NoMemory => 5,
         }
     }
 }
@@ -59,61 +56,56 @@ impl fmt::Display for MergeFault {
             MergeFault::SnapshotsDiffer => "the open snapshots differ",
             MergeFault::HorizonsDiffer => "the horizons differ",
             MergeFault::KeysOverlap => "the keys of the left are not all below those of the right",
-            MergeFault::NoMemory => "out of memory",
         })
     }
 }
 
 impl Error for MergeFault {}
 
-impl From<NoMemory> for MergeFault {
-    ghost use Rattle.hlc_split.specs.declared.joining.MergeFault.TheVariants.{NoMemory as no_memory};
-
-    ghost from_gives = { λ _ fault. fault ≡ no_memory };
-
-    fn from(_fault: NoMemory) -> MergeFault {
-        MergeFault::NoMemory
-    }
-}
-
 /// Joins two checkpoints, of which the left one has the lower keys: the state of both, with the rows of the left one
 /// before those of the right one. If both represent their parts of one past, the result represents all of it, and its
 /// vacuums are parts of one. If they were parts and went on, each vacuumed when it chose but to one stamp in the end,
 /// it represents what both took, vacuumed to that stamp.
 ///
-/// Refused for the first reason of `MergeFault`. Both are moved, and lost if it is refused. It looks at each link, each
-/// open snapshot and each row once, and copies no row.
+/// Refused for the first reason of `MergeFault`; memory is needed only after the check. Both are moved, and lost if it
+/// is refused. It looks at each link, each open snapshot and each row once, and copies no row.
 #[tactic(auto, using(crate::proofs::Joined::merged_represents))]
-pub fn merge(left: Checkpoint, right: Checkpoint) -> Result<Checkpoint, MergeFault>
-    ensures ok { IfOk result (λ made. made ≡ with_rows_left left (left.rows ++ right.rows) left.horizon) }
+pub fn merge(
+    left: Checkpoint,
+    right: Checkpoint,
+) -> Result<Result<Checkpoint, MergeFault>, NoMemory>
+    ensures ok { IfOk result (λ made. IfOk made
+        (λ whole. whole ≡ with_rows_left left (left.rows ++ right.rows) left.horizon)) }
     ensures represents { (past : List Step) (is_of : List ℕ → Bool) → IsLegal past
         → RepresentsPart is_of left past → RepresentsPart (λ key. not (is_of key)) right past
-        → IfOk result (λ made. RepresentsPart (λ _. true) made past) }
+        → IfOk result (λ made. IfOk made (λ whole. RepresentsPart (λ _. true) whole past)) }
     ensures vacuumed { (past own_left own_right : List Step) (is_of : List ℕ → Bool)
         → IsLegal past → IsOwnPast is_of past own_left
         → IsOwnPast (λ key. not (is_of key)) past own_right
         → Represents left own_left → Represents right own_right
-        → IfOk result (λ made. RepresentsPart (λ _. true) made (PartVacuumed left.horizon 0 ∷ past)) }
-    ensures divided { IfOk result (λ _. IsReason left right no_memory) }
-    ensures err { IfErr result (IsReason left right) }
+        → IfOk result (λ made. IfOk made
+        (λ whole. RepresentsPart (λ _. true) whole (PartVacuumed left.horizon 0 ∷ past))) }
+    ensures divided { IfOk result (λ made. OnOk made (AreJoinable left right)) }
+    ensures err { IfOk result (λ made. IfErr made (IsReason left right)) }
+    ensures memory { OnErr result (AreJoinable left right) }
 {
     if !have_same_links(&left, &right) {
-        return Err(MergeFault::LinksDiffer);
+        return Ok(Err(MergeFault::LinksDiffer));
     }
     if !have_same_snapshots(&left, &right) {
-        return Err(MergeFault::SnapshotsDiffer);
+        return Ok(Err(MergeFault::SnapshotsDiffer));
     }
     if left.horizon() != right.horizon() {
-        return Err(MergeFault::HorizonsDiffer);
+        return Ok(Err(MergeFault::HorizonsDiffer));
     }
     if !are_divided(left.rows(), right.rows()) {
-        return Err(MergeFault::KeysOverlap);
+        return Ok(Err(MergeFault::KeysOverlap));
     }
     let (nodes, last_id, horizon) = (left.initial_nodes(), left.last_id(), left.horizon());
     let (links, snapshots, lower) = left.into_lists();
     let (_, _, upper) = right.into_lists();
     let rows = joined(lower, upper)?;
-    Ok(Checkpoint::of(nodes, links, snapshots, last_id, horizon, rows))
+    Ok(Ok(Checkpoint::of(nodes, links, snapshots, last_id, horizon, rows)))
 }
 
 /// Returns whether both have as many nodes at the start, and the same progress of each link.

@@ -9,9 +9,8 @@ use Rattle.hlc_checkpoint.specs.declared.checkpoint.RestoreFault.{RestoreFault}
 use Rattle.hlc_body.specs.Reading.{saved}
 use Rattle.hlc_saved.specs.Saved.{AreOf}
 use Rattle.hlc_split.specs.Split.{is_under, is_from, part_of}
-use Rattle.hlc_split.specs.Merge.{IsReason, merge_code}
+use Rattle.hlc_split.specs.Merge.{AreJoinable, IsReason, merge_code}
 use Rattle.hlc_split.specs.declared.joining.MergeFault.{MergeFault}
-use Rattle.hlc_split.specs.declared.joining.MergeFault.TheVariants as faults
 
 -- the bytes are those of this tag and checkpoint
 abbrev pub IsRead : List ℕ → ℕ → StoreView → Type 0
@@ -55,7 +54,7 @@ abbrev pub join_of : StoreView → StoreView → StoreView
 join_of left right = with_rows_left left (left.rows ++ right.rows) left.horizon
 
 -- the bytes are those of the checkpoint into which those of the left and of the right bytes are joined, with the tag
--- of the left ones; nothing but memory was a reason against it
+-- of the left ones
 pub record AreJoined (left right bytes : List ℕ) : Type 0 where
   pub tag : ℕ
   pub other : ℕ
@@ -63,25 +62,21 @@ pub record AreJoined (left right bytes : List ℕ) : Type 0 where
   pub upper : StoreView
   pub of_left : IsRead left tag lower
   pub of_right : IsRead right other upper
-  pub fit : IsReason lower upper faults.NoMemory
+  pub fit : AreJoinable lower upper
   pub spelled : AreOf bytes tag (join_of lower upper)
 
--- the answer for a reason why two checkpoints are not joined, or for out of memory, and its word
-abbrev pub merge_answer : MergeFault → ℕ
-merge_answer faults.NoMemory = 15
-merge_answer fault = 113
+-- the first reason why both are not joined is returned; or out of memory, and there is none
+abbrev pub IsNotMerged : StoreView → StoreView → ℕ → ℕ → Type 0
+IsNotMerged lower upper code word =
+    (IsShort code word × AreJoinable lower upper)
+    ⊎ ((fault : MergeFault) × IsReason lower upper fault × (code ≡ 113) × (word ≡ merge_code fault))
 
-abbrev pub merge_word : MergeFault → ℕ
-merge_word faults.NoMemory = 0
-merge_word fault = merge_code fault
-
--- no bytes were made: the left or else the right bytes were not read; or both are not joined, for the first reason; or
--- what both make is no checkpoint
+-- no bytes were made: the left or else the right bytes were not read; or both are not joined; or what both make is no
+-- checkpoint
 abbrev pub IsNotJoined : List ℕ → List ℕ → ℕ → ℕ → Type 0
 IsNotJoined left right code word =
     IsNotRead left code word
     ⊎ (IsNotRead right code word
     ⊎ ((own : ℕ) × (other : ℕ) × (lower : StoreView) × (upper : StoreView) × IsRead left own lower
     × IsRead right other upper
-    × (((fault : MergeFault) × IsReason lower upper fault × (code ≡ merge_answer fault) × (word ≡ merge_word fault))
-    ⊎ IsNoCheckpoint (join_of lower upper) code word)))
+    × (IsNotMerged lower upper code word ⊎ IsNoCheckpoint (join_of lower upper) code word)))

@@ -1,11 +1,10 @@
 //! The bytes of two checkpoints, joined into those of one.
 ghost use Rattle.std.specs.Prelude.{◌≡◌, IfOk, IfErr};
 ghost use Rattle.hlc_split_calls.specs.Halves.{AreJoined, IsNotJoined};
-ghost use Rattle.hlc_split_calls.specs.Halves.{merge_answer, merge_word};
 
 use crate::bytes::{read, written};
 use hlc_saved::Decoded;
-use hlc_split::{MergeFault, merge};
+use hlc_split::merge;
 use std::alloc::Global;
 
 /// Joins the bytes of two checkpoints, of which the left one has the lower keys, with the tag of the left one. Returns
@@ -27,11 +26,12 @@ pub fn joined(alloc: Global, left: &[u8], right: &[u8], word: &mut u64) -> Resul
     } = read(alloc, right, word)?;
     *word = 0;
     let made = match merge(lower, upper) {
-        Ok(made) => made,
-        Err(fault) => {
-            *word = word_of(fault);
-            return Err(answer_of(fault));
+        Ok(Ok(made)) => made,
+        Ok(Err(fault)) => {
+            *word = fault.code() as u64;
+            return Err(113);
         }
+        Err(_) => return Err(15),
     };
     let bytes = match written(alloc, &made, own, word) {
         Ok(bytes) => bytes,
@@ -39,24 +39,4 @@ pub fn joined(alloc: Global, left: &[u8], right: &[u8], word: &mut u64) -> Resul
     };
     *word = 0;
     Ok(bytes)
-}
-
-/// Returns the answer for a reason why two checkpoints are not joined, or for out of memory.
-fn answer_of(fault: MergeFault) -> u32
-    ensures { result ≡ merge_answer fault }
-{
-    match fault {
-        MergeFault::NoMemory => 15,
-        _ => 113,
-    }
-}
-
-/// Returns its word: the number of the reason, or 0 for out of memory.
-fn word_of(fault: MergeFault) -> u64
-    ensures { result ≡ merge_word fault }
-{
-    match fault {
-        MergeFault::NoMemory => 0,
-        _ => fault.code() as u64,
-    }
 }

@@ -20,8 +20,8 @@ pub(crate) fn next(core: &Core, older: Checkpoint) -> Option<Checkpoint>
         return None;
     };
     match advance(older, increment) {
-        Ok(made) => Some(made),
-        Err(_) => None,
+        Ok(Ok(made)) => Some(made),
+        _ => None,
     }
 }
 
@@ -43,9 +43,8 @@ fn an_increment_makes_an_older_checkpoint_newer(rt: HostRuntime) {
         .ok()
         .expect(&rt, "an increment");
     assert!(&rt; read.tag == 7);
-    let newer = advance(older, read.increment)
-        .ok()
-        .expect(&rt, "a checkpoint");
+    let newer = advance(older, read.increment).expect(&rt, "memory");
+    let newer = newer.expect(&rt, "a checkpoint");
     let mut copy = restored(&rt, newer);
     assert!(&rt; copy.rows() == 4);
     let (id, at) = copy.open_floor().ok().expect(&rt, "a snapshot");

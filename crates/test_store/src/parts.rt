@@ -33,13 +33,13 @@ fn parts_vacuumed_to_one_stamp_become_one_again(rt: HostRuntime) {
     assert!(&rt; right.accept(said(0, 4, Body::Report)).is_ok());
     assert!(&rt; left.vacuum_to(at_second(2)).is_ok());
     assert!(&rt; right.vacuum_to(at_second(4)).is_ok());
-    let early = merge(copied(&rt, &left), copied(&rt, &right));
+    let early = merge(copied(&rt, &left), copied(&rt, &right)).expect(&rt, "memory");
     assert!(&rt; early.err() == Some(MergeFault::HorizonsDiffer));
     // The part with the lower horizon is vacuumed to the other's: the stamp is at or below the floor, which both have.
     assert!(&rt; right.horizon() <= left.floor());
     assert!(&rt; left.vacuum_to(right.horizon()).is_ok());
-    let made = merge(copied(&rt, &left), copied(&rt, &right));
-    let mut made = restored(&rt, made.ok().expect(&rt, "one checkpoint"));
+    let made = merge(copied(&rt, &left), copied(&rt, &right)).expect(&rt, "memory");
+    let mut made = restored(&rt, made.expect(&rt, "one checkpoint"));
     assert!(&rt; made.rows() == 3);
     assert!(&rt;
         made.open(at_second(3)).err()
