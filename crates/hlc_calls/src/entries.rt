@@ -22,15 +22,15 @@ pub struct Entry {
 }
 
 /// Returns this many bytes from this place on, if the bytes contain them.
-pub(crate) fn piece_of(bytes: &[u8], at: usize, many: usize) -> Option<&[u8]>
-    ensures { MatchOption result (lies at many bytes.now ≡ false)
-        (λ found. (lies at many bytes.now ≡ true) × (found.now ≡ piece at many bytes.now)) }
+pub(crate) fn piece_of(bytes: &[u8], at: usize, len: usize) -> Option<&[u8]>
+    ensures { MatchOption result (lies at len bytes.now ≡ false)
+        (λ found. (lies at len bytes.now ≡ true) × (found.now ≡ piece at len bytes.now)) }
 {
-    if at > bytes.len() || many > bytes.len() - at {
+    if at > bytes.len() || len > bytes.len() - at {
         return None;
     }
     let (_, rest) = bytes.split_at(at);
-    let (found, _) = rest.split_at(many);
+    let (found, _) = rest.split_at(len);
     Some(found)
 }
 
@@ -71,22 +71,22 @@ pub fn enter_all(
     core: &mut Core,
     entries: &[Entry],
     bytes: &[u8],
-    many: &mut usize,
+    count: &mut usize,
     returned: &mut u64,
 ) -> u32
     ensures { (past : List Step) → Represents core.old past
-        → AreEntered core.new entries.now bytes.now past result many.new returned.new }
+        → AreEntered core.new entries.now bytes.now past result count.new returned.new }
 {
     let mut index = 0;
     while index < entries.len() {
         let code = enter(core, &entries[index], bytes, returned);
         if code != 0 {
-            *many = index;
+            *count = index;
             return code;
         }
         index += 1;
     }
-    *many = index;
+    *count = index;
     *returned = 0;
     0
 }

@@ -70,29 +70,29 @@ pub fn take_all(
     core: &mut Core,
     bytes: &[u8],
     used: &mut usize,
-    many: &mut usize,
+    count: &mut usize,
     word: &mut u64,
 ) -> u32
     ensures { (past : List Step) → Represents core.old past
-        → AreTaken core.new bytes.now past result used.new many.new word.new }
+        → AreTaken core.new bytes.now past result used.new count.new word.new }
 {
     let mut rest = bytes;
-    let mut count = 0usize;
+    let mut taken = 0usize;
     while !rest.is_empty() {
         match take_front(core, rest, word) {
             Ok(after) => {
                 rest = after;
-                count += 1;
+                taken += 1;
             }
             Err(code) => {
                 *used = bytes.len() - rest.len();
-                *many = count;
+                *count = taken;
                 return code;
             }
         }
     }
     *used = bytes.len();
-    *many = count;
+    *count = taken;
     *word = 0;
     0
 }

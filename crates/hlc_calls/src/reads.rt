@@ -94,10 +94,10 @@ fn put_answers(
     bytes: &[u8],
     out: &mut [u8],
     len: &mut usize,
-    many: &mut usize,
+    count: &mut usize,
 ) -> u32
     ensures { ReturnsAnswers view.now.rows view.now.stamp places.now bytes.now
-        result len.new many.new out.old out.new }
+        result len.new count.new out.old out.new }
 {
     let mut at = 0usize;
     let mut index = 0usize;
@@ -106,14 +106,14 @@ fn put_answers(
             Ok(end) => at = end,
             Err(code) => {
                 *len = at;
-                *many = index;
+                *count = index;
                 return code;
             }
         }
         index += 1;
     }
     *len = at;
-    *many = index;
+    *count = index;
     0
 }
 
@@ -127,15 +127,15 @@ pub fn read_all(
     bytes: &[u8],
     out: &mut [u8],
     len: &mut usize,
-    many: &mut usize,
+    count: &mut usize,
 ) -> u32
     ensures { (past : List Step) → Represents core.now past → ReturnsAll (stamp_of id past)
-        (writes past) places.now bytes.now result len.new many.new out.old out.new }
+        (writes past) places.now bytes.now result len.new count.new out.old out.new }
 {
     *len = 0;
-    *many = 0;
+    *count = 0;
     match core.at(id) {
         None => 10,
-        Some(view) => put_answers(&view, places, bytes, out, len, many),
+        Some(view) => put_answers(&view, places, bytes, out, len, count),
     }
 }

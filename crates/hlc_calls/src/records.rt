@@ -17,16 +17,16 @@ pub fn apply_all(
     core: &mut Core,
     bytes: &[u8],
     used: &mut usize,
-    many: &mut usize,
+    count: &mut usize,
     threshold: &mut u64,
     word: &mut u64,
 ) -> u32
     ensures { (past : List Step) → Represents core.old past → ReturnsApplied core.new bytes.now past
-        result used.new many.new threshold.new word.new }
+        result used.new count.new threshold.new word.new }
 {
     let applied = apply_records(core, bytes, Stamp::ZERO);
     *used = applied.bytes;
-    *many = applied.records;
+    *count = applied.records;
     *threshold = applied.threshold.bits();
     end_of(applied.end, word)
 }

@@ -125,14 +125,14 @@ pub extern "C" fn hlc_store_accept_all(
     store: &mut Store,
     entries: &[Entry],
     bytes: &[u8],
-    many: &mut usize,
+    count: &mut usize,
     word: &mut u64,
 ) -> u32
-    ensures { OnStorePast store.old.value store.new.value ((result ≡ 100) × (many.new ≡ 0) × (word.new ≡ 0))
-        (λ old new past. AreEntered new entries.now bytes.now past result many.new word.new) }
+    ensures { OnStorePast store.old.value store.new.value ((result ≡ 100) × (count.new ≡ 0) × (word.new ≡ 0))
+        (λ old new past. AreEntered new entries.now bytes.now past result count.new word.new) }
 {
-    on_core!(alloc, store, [many, word], |core| {
-        enter_all(core, entries, bytes, many, word)
+    on_core!(alloc, store, [count, word], |core| {
+        enter_all(core, entries, bytes, count, word)
     })
 }
 

@@ -116,14 +116,14 @@ pub extern "C" fn hlc_store_accept_items(
     store: &mut Store,
     bytes: &[u8],
     used: &mut usize,
-    many: &mut usize,
+    count: &mut usize,
     word: &mut u64,
 ) -> u32
-    ensures { OnStorePast store.old.value store.new.value ((result ≡ 100) × (used.new ≡ 0) × (many.new ≡ 0)
-        × (word.new ≡ 0)) (λ old new past. AreTaken new bytes.now past result used.new many.new word.new) }
+    ensures { OnStorePast store.old.value store.new.value ((result ≡ 100) × (used.new ≡ 0) × (count.new ≡ 0)
+        × (word.new ≡ 0)) (λ old new past. AreTaken new bytes.now past result used.new count.new word.new) }
 {
-    on_core!(alloc, store, [used, many, word], |core| {
-        log::take_all(core, bytes, used, many, word)
+    on_core!(alloc, store, [used, count, word], |core| {
+        log::take_all(core, bytes, used, count, word)
     })
 }
 
@@ -157,15 +157,15 @@ pub extern "C" fn hlc_store_apply_records(
     store: &mut Store,
     bytes: &[u8],
     used: &mut usize,
-    many: &mut usize,
+    count: &mut usize,
     threshold: &mut u64,
     word: &mut u64,
 ) -> u32
-    ensures { OnStorePast store.old.value store.new.value ((result ≡ 100) × (used.new ≡ 0) × (many.new ≡ 0)
+    ensures { OnStorePast store.old.value store.new.value ((result ≡ 100) × (used.new ≡ 0) × (count.new ≡ 0)
         × (threshold.new ≡ 0) × (word.new ≡ 0)) (λ old new past. ReturnsApplied new bytes.now past result
-        used.new many.new threshold.new word.new) }
+        used.new count.new threshold.new word.new) }
 {
-    on_core!(alloc, store, [used, many, threshold, word], |core| {
-        records::apply_all(core, bytes, used, many, threshold, word)
+    on_core!(alloc, store, [used, count, threshold, word], |core| {
+        records::apply_all(core, bytes, used, count, threshold, word)
     })
 }

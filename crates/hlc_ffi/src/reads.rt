@@ -18,7 +18,7 @@ use hlc_handle::{LentBytes, Reader};
 use hlc_handle_calls::views::view;
 use hlc_range_calls::changes::changes;
 use hlc_range_calls::list::list;
-use hlc_range_calls::scan::{count, scan};
+use hlc_range_calls::scan::scan;
 use hlc_range_calls::scan_back::scan_back;
 use hlc_range_calls::versions::versions;
 
@@ -75,15 +75,15 @@ pub extern "C" fn hlc_snapshot_read_all(
     bytes: &[u8],
     out: &mut [u8],
     len: &mut usize,
-    many: &mut usize,
+    count: &mut usize,
 ) -> u32
     ensures answer { OnReaderPast store.old.room.value
-        (ListsNothing result len.new many.new out.old out.new) (λ past. ReturnsAll
-        (stamp_of id past) (writes past) places.now bytes.now result len.new many.new out.old out.new) }
+        (ListsNothing result len.new count.new out.old out.new) (λ past. ReturnsAll
+        (stamp_of id past) (writes past) places.now bytes.now result len.new count.new out.old out.new) }
     ensures same { IsGivenBack store.old.room store.new.room }
 {
-    of_core!(store, [len, many], |core| {
-        read_all(core, id, places, bytes, out, len, many)
+    of_core!(store, [len, count], |core| {
+        read_all(core, id, places, bytes, out, len, count)
     })
 }
 
@@ -114,15 +114,15 @@ pub extern "C" fn hlc_snapshot_scan(
     to: &[u8],
     out: &mut [u8],
     len: &mut usize,
-    many: &mut usize,
+    count: &mut usize,
 ) -> u32
     ensures answer { OnReaderPast store.old.room.value
-        (ListsNothing result len.new many.new out.old out.new) (λ past. ReturnsScan false
-        (stamp_of id past) (writes past) from.now to.now result len.new many.new out.old out.new) }
+        (ListsNothing result len.new count.new out.old out.new) (λ past. ReturnsScan false
+        (stamp_of id past) (writes past) from.now to.now result len.new count.new out.old out.new) }
     ensures same { IsGivenBack store.old.room store.new.room }
 {
-    of_core!(store, [len, many], |core| {
-        scan(core, id, from, to, false, out, len, many)
+    of_core!(store, [len, count], |core| {
+        scan(core, id, from, to, false, out, len, count)
     })
 }
 
@@ -135,16 +135,19 @@ pub extern "C" fn hlc_snapshot_scan_keys(
     to: &[u8],
     out: &mut [u8],
     len: &mut usize,
-    many: &mut usize,
+    count: &mut usize,
 ) -> u32
     ensures answer { OnReaderPast store.old.room.value
-        (ListsNothing result len.new many.new out.old out.new) (λ past. ReturnsScan true
-        (stamp_of id past) (writes past) from.now to.now result len.new many.new out.old out.new) }
+        (ListsNothing result len.new count.new out.old out.new) (λ past. ReturnsScan true
+        (stamp_of id past) (writes past) from.now to.now result len.new count.new out.old out.new) }
     ensures same { IsGivenBack store.old.room store.new.room }
 {
     *len = 0;
-    *many = 0;
-    of_core!(store, |core| scan(core, id, from, to, true, out, len, many))
+    *count = 0;
+    of_core!(
+        store,
+        |core| scan(core, id, from, to, true, out, len, count)
+    )
 }
 
 /// Lists such a range as `hlc_snapshot_scan` does, but the last key first, and as many whole pairs as fit from the end:
@@ -157,15 +160,15 @@ pub extern "C" fn hlc_snapshot_scan_back(
     to: &[u8],
     out: &mut [u8],
     len: &mut usize,
-    many: &mut usize,
+    count: &mut usize,
 ) -> u32
     ensures answer { OnReaderPast store.old.room.value
-        (ListsNothing result len.new many.new out.old out.new) (λ past. ReturnsScanBack
-        (stamp_of id past) (writes past) from.now to.now result len.new many.new out.old out.new) }
+        (ListsNothing result len.new count.new out.old out.new) (λ past. ReturnsScanBack
+        (stamp_of id past) (writes past) from.now to.now result len.new count.new out.old out.new) }
     ensures same { IsGivenBack store.old.room store.new.room }
 {
-    of_core!(store, [len, many], |core| {
-        scan_back(core, id, from, to, out, len, many)
+    of_core!(store, [len, count], |core| {
+        scan_back(core, id, from, to, out, len, count)
     })
 }
 
@@ -181,15 +184,15 @@ pub extern "C" fn hlc_snapshot_changes(
     to: &[u8],
     out: &mut [u8],
     len: &mut usize,
-    many: &mut usize,
+    count: &mut usize,
 ) -> u32
-    ensures answer { OnReaderPast store.old.room.value (ListsNothing result len.new many.new out.old out.new)
+    ensures answer { OnReaderPast store.old.room.value (ListsNothing result len.new count.new out.old out.new)
         (λ past. ReturnsChanges (stamp_of before past) (stamp_of after past) (writes past)
-        from.now to.now result len.new many.new out.old out.new) }
+        from.now to.now result len.new count.new out.old out.new) }
     ensures same { IsGivenBack store.old.room store.new.room }
 {
-    of_core!(store, [len, many], |core| {
-        changes(core, before, after, from, to, out, len, many)
+    of_core!(store, [len, count], |core| {
+        changes(core, before, after, from, to, out, len, count)
     })
 }
 
@@ -200,13 +203,15 @@ pub extern "C" fn hlc_snapshot_count(
     id: u64,
     from: &[u8],
     to: &[u8],
-    many: &mut u64,
+    count: &mut u64,
 ) -> u32
-    ensures answer { OnReaderPast store.old.room.value ((result ≡ 100) × (many.new ≡ 0))
-        (λ past. ReturnsCount (stamp_of id past) (writes past) from.now to.now result many.new) }
+    ensures answer { OnReaderPast store.old.room.value ((result ≡ 100) × (count.new ≡ 0))
+        (λ past. ReturnsCount (stamp_of id past) (writes past) from.now to.now result count.new) }
     ensures same { IsGivenBack store.old.room store.new.room }
 {
-    of_core!(store, [many], |core| count(core, id, from, to, many))
+    of_core!(store, [count], |core| {
+        hlc_range_calls::scan::count(core, id, from, to, count)
+    })
 }
 
 /// Returns 0, 32 and, where it fits, the SHA-256 of what `hlc_snapshot_list` would return for such a range; or 10.
@@ -237,13 +242,13 @@ pub extern "C" fn hlc_store_versions(
     to: u64,
     out: &mut [u8],
     len: &mut usize,
-    many: &mut usize,
+    count: &mut usize,
 ) -> u32
-    ensures answer { OnReader store.old.room.value (ListsNothing result len.new many.new out.old out.new) (λ core.
-        ReturnsVersions core key.now above to result len.new many.new out.old out.new) }
+    ensures answer { OnReader store.old.room.value (ListsNothing result len.new count.new out.old out.new) (λ core.
+        ReturnsVersions core key.now above to result len.new count.new out.old out.new) }
     ensures same { IsGivenBack store.old.room store.new.room }
 {
-    of_core!(store, [len, many], |core| {
-        versions(core, key, above, to, out, len, many)
+    of_core!(store, [len, count], |core| {
+        versions(core, key, above, to, out, len, count)
     })
 }

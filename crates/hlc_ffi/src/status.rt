@@ -70,13 +70,13 @@ pub extern "C" fn hlc_store_size(
 
 /// Returns 0 and how many node numbers are assigned, those of retired nodes too.
 #[unsafe(no_mangle)]
-pub extern "C" fn hlc_store_nodes(store: &mut Reader, many: &mut u64) -> u32
-    ensures answer { OnReaderPast store.old.room.value ((result ≡ 100) × (many.new ≡ 0))
-        (λ past. (result ≡ 0) × (many.new ≡ numbered past)) }
+pub extern "C" fn hlc_store_nodes(store: &mut Reader, count: &mut u64) -> u32
+    ensures answer { OnReaderPast store.old.room.value ((result ≡ 100) × (count.new ≡ 0))
+        (λ past. (result ≡ 0) × (count.new ≡ numbered past)) }
     ensures same { IsGivenBack store.old.room store.new.room }
 {
-    of_core!(store, [many], |core| {
-        *many = status::nodes(core);
+    of_core!(store, [count], |core| {
+        *count = status::nodes(core);
         0
     })
 }

@@ -37,22 +37,22 @@ fn put_change(out: &mut [u8], at: usize, key: &[u8], value: Option<&[u8]>) -> us
 
 /// Writes differences to the start of a buffer while they fit, and how many bytes and keys it wrote. Returns 0, or 104
 /// where a key is left.
-fn put_changes(out: &mut [u8], changes: Changes<'_>, len: &mut usize, many: &mut usize) -> u32
-    ensures { ListsWhatFits change_bytes changes.entry result len.new many.new out.old out.new }
+fn put_changes(out: &mut [u8], changes: Changes<'_>, len: &mut usize, count: &mut usize) -> u32
+    ensures { ListsWhatFits change_bytes changes.entry result len.new count.new out.old out.new }
 {
     let mut at = 0usize;
-    let mut count = 0usize;
+    let mut index = 0usize;
     for (key, value) in changes {
         if !fits(out.len() - at, key, value) {
             *len = at;
-            *many = count;
+            *count = index;
             return 104;
         }
         at = put_change(out, at, key, value);
-        count += 1;
+        index += 1;
     }
     *len = at;
-    *many = count;
+    *count = index;
     0
 }
 
@@ -66,16 +66,16 @@ pub fn changes(
     to: &[u8],
     out: &mut [u8],
     len: &mut usize,
-    many: &mut usize,
+    count: &mut usize,
 ) -> u32
     ensures { (past : List Step) → Represents core.now past → ReturnsChanges
         (stamp_of before past) (stamp_of after past) (writes past) from.now to.now
-        result len.new many.new out.old out.new }
+        result len.new count.new out.old out.new }
 {
     *len = 0;
-    *many = 0;
+    *count = 0;
     match core.changes_between(before, after, from, end(to)) {
         None => 10,
-        Some(changes) => put_changes(out, changes, len, many),
+        Some(changes) => put_changes(out, changes, len, count),
     }
 }

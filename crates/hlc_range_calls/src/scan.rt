@@ -39,23 +39,23 @@ fn put_fitting(
     alone: bool,
     answers: Answers<'_>,
     len: &mut usize,
-    many: &mut usize,
+    count: &mut usize,
 ) -> u32
-    ensures { ListsWhatFits (part_bytes alone) answers.entry result len.new many.new out.old out.new }
+    ensures { ListsWhatFits (part_bytes alone) answers.entry result len.new count.new out.old out.new }
 {
     let mut at = 0usize;
-    let mut count = 0usize;
+    let mut index = 0usize;
     for (key, value) in answers {
         if !fits(out.len() - at, alone, key, value) {
             *len = at;
-            *many = count;
+            *count = index;
             return 104;
         }
         at = put_part(out, at, alone, key, value);
-        count += 1;
+        index += 1;
     }
     *len = at;
-    *many = count;
+    *count = index;
     0
 }
 
@@ -80,16 +80,16 @@ pub fn scan(
     alone: bool,
     out: &mut [u8],
     len: &mut usize,
-    many: &mut usize,
+    count: &mut usize,
 ) -> u32
     ensures { (past : List Step) → Represents core.now past → ReturnsScan alone
-        (stamp_of id past) (writes past) from.now to.now result len.new many.new out.old out.new }
+        (stamp_of id past) (writes past) from.now to.now result len.new count.new out.old out.new }
 {
     *len = 0;
-    *many = 0;
+    *count = 0;
     match core.at(id) {
         None => 10,
-        Some(view) => put_fitting(out, alone, view.range(from, end(to)), len, many),
+        Some(view) => put_fitting(out, alone, view.range(from, end(to)), len, count),
     }
 }
 
@@ -105,14 +105,14 @@ fn number_of(answers: Answers<'_>) -> u64
 }
 
 /// Returns 0 and how many keys of a range have a value in a snapshot; or 10.
-pub fn count(core: &Core, id: u64, from: &[u8], to: &[u8], many: &mut u64) -> u32
+pub fn count(core: &Core, id: u64, from: &[u8], to: &[u8], count: &mut u64) -> u32
     ensures { (past : List Step) → Represents core.now past → ReturnsCount
-        (stamp_of id past) (writes past) from.now to.now result many.new }
+        (stamp_of id past) (writes past) from.now to.now result count.new }
 {
-    *many = 0;
+    *count = 0;
     let Some(view) = core.at(id) else {
         return 10;
     };
-    *many = number_of(view.range(from, end(to)));
+    *count = number_of(view.range(from, end(to)));
     0
 }

@@ -15,23 +15,23 @@ fn put_fitting_back(
     out: &mut [u8],
     answers: AnswersBack<'_>,
     len: &mut usize,
-    many: &mut usize,
+    count: &mut usize,
 ) -> u32
-    ensures { ListsWhatFits pair_bytes answers.entry result len.new many.new out.old out.new }
+    ensures { ListsWhatFits pair_bytes answers.entry result len.new count.new out.old out.new }
 {
     let mut at = 0usize;
-    let mut count = 0usize;
+    let mut index = 0usize;
     for (key, value) in answers {
         if !fits(out.len() - at, false, key, value) {
             *len = at;
-            *many = count;
+            *count = index;
             return 104;
         }
         at = put_pair(out, at, key, value);
-        count += 1;
+        index += 1;
     }
     *len = at;
-    *many = count;
+    *count = index;
     0
 }
 
@@ -43,15 +43,15 @@ pub fn scan_back(
     to: &[u8],
     out: &mut [u8],
     len: &mut usize,
-    many: &mut usize,
+    count: &mut usize,
 ) -> u32
     ensures { (past : List Step) → Represents core.now past → ReturnsScanBack
-        (stamp_of id past) (writes past) from.now to.now result len.new many.new out.old out.new }
+        (stamp_of id past) (writes past) from.now to.now result len.new count.new out.old out.new }
 {
     *len = 0;
-    *many = 0;
+    *count = 0;
     match core.at(id) {
         None => 10,
-        Some(view) => put_fitting_back(out, view.range_back(from, end(to)), len, many),
+        Some(view) => put_fitting_back(out, view.range_back(from, end(to)), len, count),
     }
 }

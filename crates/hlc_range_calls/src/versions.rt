@@ -35,15 +35,15 @@ fn version_len(value: Option<&[u8]>) -> usize
 /// of a greater one.
 fn measure(versions: Versions<'_>) -> (usize, usize)
     ensures len { result.0 ≡ narrowed (length (parts_bytes version_bytes versions.entry)) }
-    ensures many { result.1 ≡ narrowed (length versions.entry) }
+    ensures count { result.1 ≡ narrowed (length versions.entry) }
 {
     let mut len = 0usize;
-    let mut many = 0usize;
+    let mut count = 0usize;
     for (_, _, value) in versions {
         len = len.saturating_add(version_len(value));
-        many = many.saturating_add(1);
+        count = count.saturating_add(1);
     }
-    (len, many)
+    (len, count)
 }
 
 /// Writes the versions to the start of a buffer that has room for them.
@@ -66,15 +66,15 @@ pub fn versions(
     to: u64,
     out: &mut [u8],
     len: &mut usize,
-    many: &mut usize,
+    count: &mut usize,
 ) -> u32
-    ensures { ReturnsVersions core.now key.now above to result len.new many.new out.old out.new }
+    ensures { ReturnsVersions core.now key.now above to result len.new count.new out.old out.new }
 {
     let above = Stamp::from_bits(above);
     let to = Stamp::from_bits(to);
-    let (total, count) = measure(core.versions(key, above, to));
+    let (total, rows) = measure(core.versions(key, above, to));
     *len = total;
-    *many = count;
+    *count = rows;
     if total < usize::MAX && total <= out.len() {
         put_versions(out, core.versions(key, above, to));
     }

@@ -7,9 +7,9 @@ use Rattle.hlc_calls.proofs.log.take_all.Given as goal
 
 abbrev pub invariant-loop-rest : goal.invariant-loop-rest
 invariant-loop-rest l = record {
-  within : l.count + length l.rest ≤ length l.fn.bytes;
+  within : l.taken + length l.rest ≤ length l.fn.bytes;
   taken : (past : List Step) → Represents l.fn.core past
-      → TakenSoFar l.core l.fn.bytes l.rest past l.count;
+      → TakenSoFar l.core l.fn.bytes l.rest past l.taken;
 }
 
 abbrev pub decreases-loop-rest : goal.decreases-loop-rest

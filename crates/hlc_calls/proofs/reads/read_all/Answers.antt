@@ -6,5 +6,5 @@ pub returns-in-Some : goal.returns-in-Some
 returns-in-Some c = λ past h.
     let views = c.in-Some.ensures past h in
     read-at c.in-Some.view.rows _ _ c.in-Some.view.stamp c.args.places.now c.args.bytes.now c.put_answers.result
-    c.put_answers.new.len c.put_answers.new.many c.args.out.now c.put_answers.new.out views.0 views.1
+    c.put_answers.new.len c.put_answers.new.count c.args.out.now c.put_answers.new.out views.0 views.1
     c.put_answers.ensures

@@ -10,5 +10,5 @@ returns-in-None c = λ past h.
 pub returns-in-Some : goal.returns-in-Some
 returns-in-Some c = λ past h.
     compared c.args.before c.args.after past c.args.from.now c.args.to.now _ c.in-Some.changes c.put_changes.result
-    c.put_changes.new.len c.put_changes.new.many c.args.out.now c.put_changes.new.out c.end.ensures
+    c.put_changes.new.len c.put_changes.new.count c.args.out.now c.put_changes.new.out c.end.ensures
     (c.in-Some.ensures past h) c.put_changes.ensures

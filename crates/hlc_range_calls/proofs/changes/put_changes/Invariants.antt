@@ -4,4 +4,4 @@ use Rattle.hlc_range_calls.proofs.ScanLemmas.{PutSoFar}
 use Rattle.hlc_range_calls.proofs.changes.put_changes.Given as goal
 
 abbrev pub invariant-loop-key : goal.invariant-loop-key
-invariant-loop-key l = PutSoFar change_bytes l.fn.changes l.key-iterator l.at l.count l.fn.out l.out
+invariant-loop-key l = PutSoFar change_bytes l.fn.changes l.key-iterator l.at l.index l.fn.out l.out

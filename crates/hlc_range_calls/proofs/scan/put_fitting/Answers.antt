@@ -5,22 +5,22 @@ use Rattle.hlc_range_calls.specs.Scan.{part_bytes}
 use Rattle.hlc_range_calls.proofs.ScanLemmas.{part_length, room-left, few-put, put-one}
 use Rattle.hlc_range_calls.proofs.scan.put_fitting.Goals as goal
 
-pub overflow_add-count : goal.overflow_add-count
-overflow_add-count c =
+pub overflow_add-index : goal.overflow_add-index
+overflow_add-index c =
     let few = few-put (part_bytes c.args.alone) (part_length c.args.alone) c.args.answers c.loop-key.key-iterator
-    c.loop-key.at c.loop-key.count c.args.out.now c.loop-key.out c.loop-key.invariant in
+    c.loop-key.at c.loop-key.index c.args.out.now c.loop-key.out c.loop-key.invariant in
     let long = part_length c.args.alone (c.in-Some.key.now, c.in-Some.value.now) in
     omega (arith, few, long, c.put_part-at.ensures.end, c.put_part-at.type_inv)
 
 pub loop-key-preserved : goal.loop-key-preserved
 loop-key-preserved c =
     let room = room-left (part_bytes c.args.alone) c.args.answers c.loop-key.key-iterator
-    c.loop-key.at c.loop-key.count c.args.out.now c.loop-key.out c.loop-key.invariant in
+    c.loop-key.at c.loop-key.index c.args.out.now c.loop-key.out c.loop-key.invariant in
     let item : List ℕ × List ℕ = (c.in-Some.key.now, c.in-Some.value.now) in
     let small = leb-true (length (part_bytes c.args.alone item))
     (length c.loop-key.out - c.loop-key.at) (sym c.fits.ensures ∙ c.if-not-fits.false) in
     let fits : c.loop-key.at + length (part_bytes c.args.alone item) ≤ length c.loop-key.out =
     omega (arith, small, room.1) in
     put-one (part_bytes c.args.alone) c.args.answers c.loop-key.key-iterator c.next.new.self item c.loop-key.at
-    c.put_part-at.result c.loop-key.count c.args.out.now c.loop-key.out c.put_part-at.new.out c.loop-key.invariant
+    c.put_part-at.result c.loop-key.index c.args.out.now c.loop-key.out c.put_part-at.new.out c.loop-key.invariant
     c.in-Some.ensures.steps fits c.put_part-at.ensures.end c.put_part-at.ensures.put

@@ -4,4 +4,4 @@ use Rattle.hlc_range_calls.proofs.ScanLemmas.{PutSoFar}
 use Rattle.hlc_range_calls.proofs.scan.put_fitting.Given as goal
 
 abbrev pub invariant-loop-key : goal.invariant-loop-key
-invariant-loop-key l = PutSoFar (part_bytes l.fn.alone) l.fn.answers l.key-iterator l.at l.count l.fn.out l.out
+invariant-loop-key l = PutSoFar (part_bytes l.fn.alone) l.fn.answers l.key-iterator l.at l.index l.fn.out l.out

@@ -4,4 +4,4 @@ use Rattle.hlc_range_calls.proofs.ScanLemmas.{PutSoFar}
 use Rattle.hlc_range_calls.proofs.scan_back.put_fitting_back.Given as goal
 
 abbrev pub invariant-loop-key : goal.invariant-loop-key
-invariant-loop-key l = PutSoFar pair_bytes l.fn.answers l.key-iterator l.at l.count l.fn.out l.out
+invariant-loop-key l = PutSoFar pair_bytes l.fn.answers l.key-iterator l.at l.index l.fn.out l.out

@@ -6,5 +6,5 @@ pub returns-in-Some : goal.returns-in-Some
 returns-in-Some c = λ past h.
     let views = c.in-Some.ensures past h in
     scanned_back_at c.in-Some.view.rows _ _ c.in-Some.view.stamp c.args.from.now c.args.to.now _ c.range_back.result
-    c.put_fitting_back.result c.put_fitting_back.new.len c.put_fitting_back.new.many c.args.out.now
+    c.put_fitting_back.result c.put_fitting_back.new.len c.put_fitting_back.new.count c.args.out.now
     c.put_fitting_back.new.out views.0 views.1 c.end.ensures c.range_back.ensures c.put_fitting_back.ensures

@@ -6,6 +6,6 @@ use Rattle.hlc_range_calls.proofs.versions.measure.Goals as goal
 pub loop-value-preserved : goal.loop-value-preserved
 loop-value-preserved c =
     measured_more c.args.versions c.loop-value.value-iterator c.next.new.self
-    (version_read (c.in-Some.field-0-0, c.in-Some.field-0-1, c.in-Some.value)) c.loop-value.len c.loop-value.many
-    c.version_len.result c.saturating_add-len.result c.saturating_add-many.result c.loop-value.invariant
-    c.in-Some.ensures.steps c.version_len.ensures c.saturating_add-len.ensures c.saturating_add-many.ensures
+    (version_read (c.in-Some.field-0-0, c.in-Some.field-0-1, c.in-Some.value)) c.loop-value.len c.loop-value.count
+    c.version_len.result c.saturating_add-len.result c.saturating_add-count.result c.loop-value.invariant
+    c.in-Some.ensures.steps c.version_len.ensures c.saturating_add-len.ensures c.saturating_add-count.ensures

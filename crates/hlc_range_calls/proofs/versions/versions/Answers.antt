@@ -26,7 +26,7 @@ returns-then-total-out c = (
           accepted = c.versions.ensures.accepted;
           all = c.versions.ensures.all;
         }),
-    c.measure-total.ensures.many,
+    c.measure-total.ensures.count,
     c.measure-total.ensures.len,
     put_whole c.versions.result c.versions-then-total-out.result c.measure-total.result.0 c.args.out.now
         c.put_versions.new.out (both ((goal.at.returns-then-total-out c).After-versions-then-total-out))
