@@ -8,7 +8,7 @@ use mathlib.Core.Logic.{dite}
 use native.Mathlib.Decide.{dec_lt}
 use Rattle.hlc_floor.specs.Board.{found_at}
 use Rattle.hlc_floor.specs.Views.{FloorPassView, IsLeast}
-use Rattle.hlc_workers.specs.Rounds.{NeverFalls, HasFound, look_of, IsLeastFound, HasLookedFor}
+use Rattle.hlc_workers.specs.Rounds.{NeverFalls, HasFound, look_of, IsLeastFound, AreLeastFound}
 
 -- the entries of a list with one more
 at_front : (xs : List ℕ) (n k : ℕ) → k < length xs → slice_index (xs ++ n ∷ []) k ≡ slice_index xs k
@@ -102,7 +102,7 @@ least_last first after i m n h is same = record {
 }
 
 -- before the first round
-pub looked-none : (first : FloorPassView) → HasLookedFor first first []
+pub looked-none : (first : FloorPassView) → AreLeastFound first first []
 looked-none first = record {
   board = refl;
   finds = λ k b. ([], sym (append-nil (found_at first.found k)), refl);
@@ -115,9 +115,9 @@ looked-none first = record {
 -- after one more round, which looked at each word once
 pub looked_more : (first before after : FloorPassView) (words : ℕ) (stamps : List ℕ) (n : ℕ) → before.board.words
     ≡ words
-    → HasLookedFor first before stamps → after.board ≡ before.board → IsLeast words after.seen n
+    → AreLeastFound first before stamps → after.board ≡ before.board → IsLeast words after.seen n
     → ((k : ℕ) → k < words → found_at after.found k ≡ found_at before.found k ++ slice_index after.seen k ∷ [])
-    → ((k : ℕ) → slice_index before.seen k ≤ slice_index after.seen k) → HasLookedFor first after (stamps ++ n ∷ [])
+    → ((k : ℕ) → slice_index before.seen k ≤ slice_index after.seen k) → AreLeastFound first after (stamps ++ n ∷ [])
 looked_more first before after words stamps n at h same least finds rises =
     let long : length (stamps ++ n ∷ []) ≡ length stamps + 1 = length-append stamps (n ∷ []) in
     let same_words : words ≡ first.board.words = sym at ∙ ap (λ b. b.words) h.board in

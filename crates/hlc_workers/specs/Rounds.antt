@@ -79,7 +79,7 @@ pub record IsLeastFound (before after : FloorPassView) (i n : ℕ) : Type 0 wher
 
 -- For each of these stamps a pass has made one look at each word of its board, and the stamp is the least that those
 -- looks found. No seen value fell, nor do the stamps, and the last of them is the least of the values seen at the end.
-pub record HasLookedFor (before after : FloorPassView) (stamps : List ℕ) : Type 0 where
+pub record AreLeastFound (before after : FloorPassView) (stamps : List ℕ) : Type 0 where
   pub board : after.board ≡ before.board
   pub finds : (k : ℕ) → k < before.board.words → HasFound before after k (length stamps)
   pub least : (i : ℕ) → i < length stamps → IsLeastFound before after i (slice_index stamps i)
@@ -90,4 +90,4 @@ pub record HasLookedFor (before after : FloorPassView) (stamps : List ℕ) : Typ
 -- this many rounds, each at a stamp for which the pass has looked
 abbrev pub HasServed : List (List ℕ) → ℕ → FloorPassView → FloorPassView → List Receipt → Type 0
 HasServed keys rounds before after receipts =
-    (stamps : List ℕ) × (length stamps ≡ rounds) × AreRounds keys stamps receipts × HasLookedFor before after stamps
+    (stamps : List ℕ) × (length stamps ≡ rounds) × AreRounds keys stamps receipts × AreLeastFound before after stamps
