@@ -47,24 +47,24 @@ impl Core {
         match event {
             CoreEvent::Accept(item) => match self.accept_copy(item) {
                 Ok(accepted) => Ok(CoreReply::Accepted(accepted)),
-                Err(fault) => returned(fault),
+                Err(fault) => refusal_reply(fault),
             },
             CoreEvent::Join => match self.join() {
                 Ok((node, start)) => Ok(CoreReply::Joined { node, start }),
-                Err(fault) => returned(fault),
+                Err(fault) => refusal_reply(fault),
             },
             CoreEvent::OpenAt(stamp) => match self.open(*stamp) {
                 Ok(id) => Ok(CoreReply::Opened { id, stamp: *stamp }),
-                Err(fault) => returned(fault),
+                Err(fault) => refusal_reply(fault),
             },
             CoreEvent::OpenFloor => match self.open_floor() {
                 Ok((id, stamp)) => Ok(CoreReply::Opened { id, stamp }),
-                Err(fault) => returned(fault),
+                Err(fault) => refusal_reply(fault),
             },
             CoreEvent::Read { id, key } => self.read_copy(*id, key.as_slice()),
             CoreEvent::List(id) => match self.list(*id) {
                 Ok(pairs) => Ok(CoreReply::Listing(pairs)),
-                Err(fault) => returned(fault),
+                Err(fault) => refusal_reply(fault),
             },
             CoreEvent::Close(id) => match self.close(*id) {
                 Ok(stamp) => Ok(CoreReply::Closed(stamp)),
@@ -78,7 +78,7 @@ impl Core {
                     node,
                     start: *start,
                 }),
-                Err(fault) => returned(fault),
+                Err(fault) => refusal_reply(fault),
             },
         }
     }
@@ -116,7 +116,7 @@ impl Core {
 }
 
 /// Returns a refusal as a reply, except out of memory.
-fn returned(fault: CoreFault) -> Result<CoreReply, NoMemory>
+fn refusal_reply(fault: CoreFault) -> Result<CoreReply, NoMemory>
     ensures ok { IfOk result
         (λ reply. (reply ≡ CoreReply.Refused fault) × (fault ≢ CoreFault.NoMemory)) }
     ensures err { OnErr result (fault ≡ CoreFault.NoMemory) }
