@@ -5,8 +5,7 @@ use Rattle.std.specs.Prelude.{All, Contains, IfNone, MatchOption, IsTrue, ◌↔
 use Rattle.std.specs.List.Sorted.{IsStrictlySortedBy}
 use Rattle.std.proofs.Math.Seq.{take-append_seam}
 use Rattle.std.proofs.lemmas.List.Elements.{All-nil, All-push, All-take, All-contains, Contains-push}
-use Rattle.std.proofs.lemmas.List.Elements.{Contains-push_cases}
-use Rattle.std.proofs.lemmas.List.Elements.{All-from_recursion, recursion_from_All}
+use Rattle.std.proofs.lemmas.List.Elements.{Contains-push_cases, All-from_recursion, recursion_from_All}
 use Rattle.std.proofs.lemmas.List.Sorted.{IsPermutation-refl, IsPermutation-trans, IsPermutation-append_left}
 use Rattle.std.proofs.lemmas.Map.Views.{All-before_last}
 use Rattle.hlc_values.proofs.MemberLemmas.{Contains-none}
@@ -15,14 +14,13 @@ use Rattle.hlc_columns.specs.Table.{HasNoVersion}
 use Rattle.hlc_witness.specs.Certificate.{RowsAscend, row_cmp}
 use Rattle.hlc_witness.specs.Cost.{IsInLimits}
 use Rattle.hlc_witness.proofs.ListedLemmas.{sorted_append}
-use Rattle.hlc_checkpoint.specs.StoreView.{StoreView, greatest_head}
-use Rattle.hlc_checkpoint.specs.Checkpoint.{IsCheckpoint, IsCopyOf, IsFirstReason, IsHeadReason, IsSoundHead}
-use Rattle.hlc_checkpoint.specs.Checkpoint.{IsUnderHead}
+use Rattle.hlc_checkpoint.specs.StoreView.{StoreView, IsUnderHead, with_rows}
+use Rattle.hlc_checkpoint.specs.Checkpoint.{IsCheckpoint, IsCopyOf, IsFirstReason, IsHeadReason, IsStoreHead}
 use Rattle.hlc_checkpoint.specs.declared.checkpoint.RestoreFault.{RestoreFault}
 use Rattle.hlc_checkpoint.specs.declared.checkpoint.RestoreFault.TheVariants as reasons
-use Rattle.hlc_checkpoint.specs.Growing.{with_rows, with_row, growing_of, without_value, IsLast, IsAfter, HasGrown}
-use Rattle.hlc_checkpoint.specs.Growing.{first_fault}
+use Rattle.hlc_checkpoint.specs.Growing.{with_row, growing_of, without_value, IsLast, IsAfter, HasGrown, first_fault}
 use Rattle.hlc_checkpoint.proofs.AscendLemmas.{row_cmp_total}
+use Rattle.hlc_checkpoint.proofs.CheckpointLemmas.{head-checkpoint}
 use Rattle.hlc_checkpoint.proofs.Restored.{fresh-next}
 
 -- ---- reasons
@@ -56,38 +54,26 @@ not_false : {P : Type 0} → (IsTrue false ↔ P) → P → ⊥
 not_false same p = (let e : false ≡ true = same.1 p in cc)
 
 head_of_grown : (head : StoreView) (stored : List Row) (kept : StoreView)
-    → with_rows head stored ≡ with_rows kept stored → IsSoundHead head → IsSoundHead kept
-head_of_grown head stored kept same sound = subst IsSoundHead (all-else head stored kept same) sound
+    → with_rows head stored ≡ with_rows kept stored → IsStoreHead head → IsStoreHead kept
+head_of_grown head stored kept same sound = subst IsStoreHead (all-else head stored kept same) sound
 
 -- if nothing is wrong with the parts, the flags decide
 pub grown-reason : (head : StoreView) (stored : List Row) (last : Option Row) (ascend under limits : Bool)
-    (kept : StoreView) → HasGrown (growing_of head stored last ascend under limits) kept → IsSoundHead head
-    → head.top ≡ greatest_head head.links
+    (kept : StoreView) → HasGrown (growing_of head stored last ascend under limits) kept → IsStoreHead head
     → MatchOption (first_fault ascend under limits) (IsCheckpoint kept) (IsFirstReason kept)
-grown-reason head stored last false under limits kept grown sound top =
+grown-reason head stored last false under limits kept grown sound =
     (head_of_grown head stored kept grown.same sound, not_false grown.ascend)
-grown-reason head stored last true false limits kept grown sound top =
+grown-reason head stored last true false limits kept grown sound =
     (head_of_grown head stored kept grown.same sound, grown.ascend.0 refl, not_false grown.under)
-grown-reason head stored last true true false kept grown sound top = (
+grown-reason head stored last true true false kept grown sound = (
   head_of_grown head stored kept grown.same sound,
   grown.ascend.0 refl,
   grown.under.0 refl,
   not_false grown.limits,
 )
-grown-reason head stored last true true true kept grown sound top =
-    let s : IsSoundHead kept = head_of_grown head stored kept grown.same sound in
-    record {
-      nodes = s.0.0;
-      stamps = s.0.1;
-      last = s.0.2;
-      top = subst (λ (k : StoreView). k.top ≡ greatest_head k.links) (all-else head stored kept grown.same) top;
-      register = s.1;
-      opened = s.2;
-      horizon = s.3;
-      ascend = grown.ascend.0 refl;
-      under = grown.under.0 refl;
-      limits = grown.limits.0 refl;
-    }
+grown-reason head stored last true true true kept grown sound =
+    head-checkpoint kept (head_of_grown head stored kept grown.same sound) (grown.ascend.0 refl) (grown.under.0 refl)
+    (grown.limits.0 refl)
 
 none_then : {P Q : Type 0} (R : RestoreFault → Type 0) (o : Option RestoreFault) → MatchOption o P R → (P → Q)
     → IfNone o Q
@@ -95,13 +81,12 @@ none_then R None h then = then h
 none_then R (Some fault) h then = tt
 
 pub grown-sound : (head : StoreView) (stored : List Row) (last : Option Row) (ascend under limits : Bool)
-    (kept : StoreView) → HasGrown (growing_of head stored last ascend under limits) kept → IsSoundHead head
-    → head.top ≡ greatest_head head.links
+    (kept : StoreView) → HasGrown (growing_of head stored last ascend under limits) kept → IsStoreHead head
     → IfNone (first_fault ascend under limits)
     ((x : StoreView) × HasGrown (growing_of head stored last ascend under limits) x × IsCheckpoint x)
-grown-sound head stored last ascend under limits kept grown sound top =
+grown-sound head stored last ascend under limits kept grown sound =
     none_then (IsFirstReason kept) (first_fault ascend under limits)
-    (grown-reason head stored last ascend under limits kept grown sound top) (λ is. (kept, grown, is))
+    (grown-reason head stored last ascend under limits kept grown sound) (λ is. (kept, grown, is))
 
 -- with no reason, all flags are true
 pub all_true : (ascend under limits : Bool) → first_fault ascend under limits ≡ None
@@ -233,5 +218,6 @@ pub grown-copy : (head : StoreView) (stored : List Row) (last : Option Row) (a u
     → HasGrown (growing_of head stored last a u l) kept → IsCheckpoint kept → IsCopyOf kept (with_rows head stored)
 grown-copy head stored last a u l kept grown is = record {
   same = grown.same;
-  rows = grown.stored (grown.ascend.1 is.ascend) (grown.under.1 is.under) (grown.limits.1 is.limits);
+  rows = grown.stored (grown.ascend.1 is.ascend) (grown.under.1 is.store.consistent.stored)
+      (grown.limits.1 is.store.sound.limits);
 }

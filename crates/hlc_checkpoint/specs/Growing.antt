@@ -8,12 +8,7 @@ use Rattle.hlc_witness.specs.Cost.{AreInLimits}
 use Rattle.hlc_checkpoint.specs.declared.checkpoint.RestoreFault.{RestoreFault}
 use Rattle.hlc_checkpoint.specs.declared.checkpoint.RestoreFault.TheVariants.{RowsNotAscending, RowAboveHead}
 use Rattle.hlc_checkpoint.specs.declared.checkpoint.RestoreFault.TheVariants.{RowOutOfLimits}
-use Rattle.hlc_checkpoint.specs.StoreView.{StoreView}
-use Rattle.hlc_checkpoint.specs.Checkpoint.{IsUnderHead}
-
--- the state with these rows
-abbrev pub with_rows : StoreView → List Row → StoreView
-with_rows kept rows = record kept { rows = rows }
+use Rattle.hlc_checkpoint.specs.StoreView.{StoreView, IsUnderHead, with_rows}
 
 -- the state with one more row
 abbrev pub with_row : StoreView → Row → StoreView

@@ -23,6 +23,10 @@ pub record StoreView : Type 0 where
 abbrev pub marks_of : List IntakeView → ℕ → HeadsView
 marks_of links top = record { links = links; top = top }
 
+-- the state with these rows
+abbrev pub with_rows : StoreView → List Row → StoreView
+with_rows kept rows = record kept { rows = rows }
+
 -- the state with these rows, at this horizon
 abbrev pub with_rows_left : StoreView → List Row → ℕ → StoreView
 with_rows_left kept rows horizon = record kept { horizon = horizon; rows = rows }
@@ -52,6 +56,10 @@ abbrev pub greatest_head : List IntakeView → ℕ
 greatest_head [] = 0
 greatest_head (link ∷ links) = max link.head (greatest_head links)
 
+-- the row is of one of the nodes, and not above its head
+abbrev pub IsUnderHead : List IntakeView → Row → Type 0
+IsUnderHead links row = (row.node < length links) × (row.stamp ≤ (link_at links row.node).head)
+
 -- there are nodes, and links of them with possible progress; the top is the greatest head; the horizon is not above the
 -- floor; an item may write each row
 pub record IsSound (initial_nodes : ℕ) (links : List IntakeView) (most low : ℕ) (rows : List Row) : Type 0 where
@@ -66,4 +74,4 @@ pub record IsSound (initial_nodes : ℕ) (links : List IntakeView) (most low : �
 pub record IsConsistent (marks : HeadsView) (snapshots : List Snapshot) (rows : List Row) : Type 0 where
   pub opened : All (λ snapshot. snapshot.stamp ≤ floor_of marks) snapshots
   pub row_set : IsRowSet rows
-  pub stored : All (λ row. (row.node < length marks.links) × (row.stamp ≤ (link_at marks.links row.node).head)) rows
+  pub stored : All (IsUnderHead marks.links) rows

@@ -1,8 +1,7 @@
 //! A checkpoint that was checked, with its rows in a table.
 ghost use Rattle.std.specs.Prelude.{◌≡◌, MatchResult};
-ghost use Rattle.hlc_checkpoint.specs.StoreView.{StoreView};
+ghost use Rattle.hlc_checkpoint.specs.StoreView.{StoreView, with_rows};
 ghost use Rattle.hlc_checkpoint.specs.Checkpoint.{IsCheckpoint, IsCopyOf, Restores};
-ghost use Rattle.hlc_checkpoint.specs.Growing.{with_rows};
 
 use crate::checkpoint::{Checkpoint, RestoreFault};
 use crate::restoring::{table_of, table_of_moved};
@@ -20,9 +19,8 @@ pub struct Checked {
 }
 
 impl Model for Checked {
-    ghost use Rattle.hlc_checkpoint.specs.StoreView.{StoreView};
+    ghost use Rattle.hlc_checkpoint.specs.StoreView.{StoreView, with_rows};
     ghost use Rattle.hlc_checkpoint.specs.Checkpoint.{IsCheckpoint, IsCopyOf};
-    ghost use Rattle.hlc_checkpoint.specs.Growing.{with_rows};
 
     ghost Value = { StoreView };
 

@@ -3,9 +3,8 @@ ghost use Rattle.std.specs.Prelude.{◌≡◌, IfOk, ◌↔◌, ◌≤◌, [], I
 ghost use Rattle.hlc_heads.specs.Heads.{floor_of};
 ghost use Rattle.hlc_checkpoint.specs.StoreView.{HasNodes, HasStamps, HasLastItem, greatest_head, marks_of};
 ghost use Rattle.hlc_checkpoint.specs.RestoreFaults.{fault_code};
-ghost use Rattle.hlc_checkpoint.specs.Checkpoint.{IsCheckpoint, IsFirstReason, IsHeadReason, IsSoundHead};
-ghost use Rattle.hlc_checkpoint.specs.Checkpoint.{IsUnderHead, floor_in};
-ghost use Rattle.hlc_checkpoint.specs.Growing.{with_rows};
+ghost use Rattle.hlc_checkpoint.specs.Checkpoint.{IsCheckpoint, IsFirstReason, IsHeadReason, IsStoreHead, floor_in};
+ghost use Rattle.hlc_checkpoint.specs.StoreView.{IsUnderHead, with_rows};
 
 use hlc_clock::Stamp;
 use hlc_heads::{MAX_INITIAL_NODES, MAX_NODES, greater, lower};
@@ -289,9 +288,7 @@ fn reason_against(checkpoint: &Checkpoint) -> Option<RestoreFault>
 
 /// Returns the first reason that needs no rows, or none.
 pub(crate) fn head_reason(checkpoint: &Checkpoint) -> Option<RestoreFault>
-    ensures { MatchOption result
-        (IsSoundHead checkpoint.now × (checkpoint.now.top ≡ greatest_head checkpoint.now.links))
-        (IsHeadReason checkpoint.now) }
+    ensures { MatchOption result (IsStoreHead checkpoint.now) (IsHeadReason checkpoint.now) }
 {
     let links = checkpoint.links();
     let snapshots = checkpoint.snapshots();

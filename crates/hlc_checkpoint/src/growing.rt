@@ -1,12 +1,11 @@
 //! A checkpoint whose rows come one by one: each is checked as it comes, and put into the table of a store.
-ghost use Rattle.std.specs.Prelude.{◌≡◌, ◌++◌, ◌∷◌, ◌↔◌, [], IfNone, IfOk, IsTrue};
-ghost use Rattle.std.specs.Prelude.{MatchOption, OnErr, OnOk};
+ghost use Rattle.std.specs.Prelude.{◌≡◌, ◌++◌, ◌∷◌, ◌↔◌, [], IfNone, IfOk, IsTrue, MatchOption, OnErr, OnOk};
 ghost use Rattle.std.specs.List.Sorted.{IsPermutation};
 ghost use Rattle.hlc_columns.specs.Table.{HasNoVersion};
 ghost use Rattle.hlc_witness.specs.Cost.{IsInLimits};
-ghost use Rattle.hlc_checkpoint.specs.StoreView.{StoreView};
-ghost use Rattle.hlc_checkpoint.specs.Checkpoint.{IsCheckpoint, IsFirstReason, IsUnderHead, Restores};
-ghost use Rattle.hlc_checkpoint.specs.Growing.{HasGrown, IsAfter, first_fault, with_row, with_rows, without_value};
+ghost use Rattle.hlc_checkpoint.specs.StoreView.{StoreView, IsUnderHead, with_rows};
+ghost use Rattle.hlc_checkpoint.specs.Checkpoint.{IsCheckpoint, IsFirstReason, Restores};
+ghost use Rattle.hlc_checkpoint.specs.Growing.{HasGrown, IsAfter, first_fault, with_row, without_value};
 
 use crate::checked::Checked;
 use crate::checkpoint::{Checkpoint, RestoreFault, head_reason, is_under_head};

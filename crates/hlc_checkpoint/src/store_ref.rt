@@ -5,7 +5,7 @@ ghost use Rattle.hlc_table_column.specs.Rows.{rows_in, KeysAscend};
 ghost use Rattle.hlc_columns.specs.Answers.{AreNext};
 ghost use Rattle.hlc_columns.specs.Table.{columns_in};
 ghost use Rattle.hlc_witness.specs.Cost.{AreInLimits};
-ghost use Rattle.hlc_checkpoint.specs.StoreView.{greatest_head, with_rows_left};
+ghost use Rattle.hlc_checkpoint.specs.StoreView.{greatest_head, with_rows};
 ghost use Rattle.hlc_checkpoint.specs.Lent.{IsWritable};
 
 use crate::checkpoint::Checkpoint;
@@ -142,7 +142,7 @@ impl<'a> StoreRef<'a> {
     /// rows. If memory runs out, the rows are lost.
     pub fn with_rows(&self, alloc: Global, rows: Vec<Row>) -> Result<Checkpoint, NoMemory>
         ensures same { IfOk result
-            (λ made. made ≡ with_rows_left self.now made.rows self.now.horizon) }
+            (λ made. made ≡ with_rows self.now made.rows) }
         ensures rows { IfOk result (λ made. made.rows ≡ rows.items) }
     {
         let links = Vec::from_slice(alloc, self.links)?;

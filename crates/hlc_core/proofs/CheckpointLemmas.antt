@@ -1,7 +1,7 @@
 -- A state that represents a past has its floor, and with its rows in order is a checkpoint.
 use Rattle.std.proofs.Common.{◌≡◌, ℕ, ◌+◌, ◌<◌, ◌≤◌, List, [], ◌∷◌, ◌++◌, length, max, get_or}
 use Rattle.std.proofs.Common.{true, false, Some, None, Option, refl, ap, sym, ◌∙◌, subst, inl, inr, arith}
-use Rattle.std.specs.Prelude.{All, Contains, MatchOption}
+use Rattle.std.specs.Prelude.{All, Contains}
 use Rattle.std.proofs.lemmas.Option.{get_or_from_slice_get}
 use Rattle.std.proofs.lemmas.Bool.{cond-true, le-leb, eq-eqb, cases_lt, cases_eq}
 use Rattle.std.proofs.lemmas.Bool.Decides.{nat_tests}
@@ -20,16 +20,14 @@ use Rattle.hlc_snapshot.proofs.RegisterLemmas.{closed-is_register}
 use Rattle.hlc_witness.specs.Certificate.{RowsAscend}
 use Rattle.hlc_witness.specs.Cost.{IsInLimits}
 use Rattle.hlc_core.specs.Past.{Step, initial_nodes, Started, Took, Opened, Closed, Vacuumed, PartVacuumed, Joined}
-use Rattle.hlc_core.specs.Past.{numbered, count, head}
-use Rattle.hlc_core.specs.Past.{retired}
-use Rattle.hlc_core.specs.Past.{top, floor, horizon, last_id, open_snapshots, of_room}
+use Rattle.hlc_core.specs.Past.{numbered, count, head, retired, top, floor, horizon, last_id, open_snapshots, of_room}
 use Rattle.hlc_events.specs.Faults.{of_registry}
 use Rattle.hlc_core.specs.Past.{IsLegal, writes, greatest_accepted}
 use Rattle.hlc_events.specs.declared.fault.CoreFault.TheVariants.{Join}
 use Rattle.hlc_heads.specs.declared.heads.JoinFault.TheVariants.{TooManyNodes}
-use Rattle.hlc_core.specs.StoreView.{StoreView, greatest_head, HasNodes, HasStamps, HasLastItem}
+use Rattle.hlc_core.specs.StoreView.{StoreView, greatest_head, HasNodes, HasStamps, HasLastItem, IsUnderHead}
 use Rattle.hlc_core.specs.StoreView.{Represents}
-use Rattle.hlc_core.specs.Checkpoint.{IsCheckpoint, IsCopyOf, IsUnderHead, floor_in}
+use Rattle.hlc_core.specs.Checkpoint.{IsCheckpoint, IsCopyOf, floor_in}
 use Rattle.hlc_core.proofs.PastLemmas.{inside, rises, head-same, head-other, head-joined, head-joined_other, floor-some}
 use Rattle.hlc_core.proofs.PastLemmas.{count-other, retired-other, fresh, accepted-low, retired-head}
 use Rattle.hlc_core.proofs.PastLemmas.{inside-row, below_head, writes-limits, open-low, open-below, open-above}
@@ -295,41 +293,50 @@ checkpoint-sound kept past h some few ascend =
     let within : most.0 < length kept.links = (let w : most.0 < numbered past = most.1 in omega arith) in
     let d : IntakeView = record { next = 0; head = 0; retired = true } in
     record {
-      nodes = has;
-      stamps = λ k d lt. subst HasStamps (sym (link-is kept past h k d lt)) (count-low past h.legal k);
-      last = λ k d lt. subst HasLastItem (sym (link-is kept past h k d lt)) (count-retired past k);
-      top =
-          (let t : kept.top ≡ top past = h.top in
-          let a : head most.0 past ≡ top past = most.2 in
-          let b : (get_or kept.links most.0 d).head ≡ head most.0 past = link-head kept past h most.0 d within in
-          let c : (get_or kept.links most.0 d).head ≤ greatest_head kept.links =
-          greatest-ge kept.links most.0 d within in
-          let e : greatest_head kept.links ≤ top past =
-          greatest-le kept.links (top past)
-          (λ k d lt. (let f = link-head kept past h k d lt in
-          let g = heads-low past h.legal k in omega (arith, f, g))) in
-          omega arith);
-      register = subst IsRegister
-          (ap (λ xs. record { snapshots = xs; last_id = last_id past }) (sym h.snapshots)
-          ∙ ap (λ n. record { snapshots = kept.snapshots; last_id = n }) (sym h.last_id))
-          (register-of past h.legal);
-      opened = subst (λ xs. All (λ (s : Snapshot). s.stamp ≤ floor_in kept) xs) (sym h.snapshots)
-          (subst (λ f. All (λ (s : Snapshot). s.stamp ≤ f) (open_snapshots past)) (sym at)
-          (open-low past h.legal));
-      horizon = (let low = horizon-low past h.legal in
-          let e : kept.horizon ≡ horizon past = h.horizon in omega (arith, low, at));
+      store = record {
+        consistent = record {
+          opened = subst (λ xs. All (λ (s : Snapshot). s.stamp ≤ floor_in kept) xs) (sym h.snapshots)
+              (subst (λ f. All (λ (s : Snapshot). s.stamp ≤ f) (open_snapshots past)) (sym at)
+              (open-low past h.legal));
+          row_set = h.rows.row_set;
+          stored = All-weaker (Contains kept.rows) (IsUnderHead kept.links)
+              (λ row m.
+              let all' : Contains (writes past) row = h.rows.within row m in
+              let node : row.node < numbered past = inside-row past h.legal row all' in
+              let inside : row.node < length kept.links = omega (arith, node, many) in
+              let same = link-head kept past h row.node no_link inside in
+              let low : row.stamp ≤ head row.node past = below_head past h.legal row all' in
+              (inside, omega (arith, same, low)))
+              kept.rows (All-contains_itself kept.rows);
+        };
+        sound = record {
+          nodes = has;
+          stamps = λ k d lt. subst HasStamps (sym (link-is kept past h k d lt)) (count-low past h.legal k);
+          last = λ k d lt. subst HasLastItem (sym (link-is kept past h k d lt)) (count-retired past k);
+          top =
+              (let t : kept.top ≡ top past = h.top in
+              let a : head most.0 past ≡ top past = most.2 in
+              let b : (get_or kept.links most.0 d).head ≡ head most.0 past = link-head kept past h most.0 d within in
+              let c : (get_or kept.links most.0 d).head ≤ greatest_head kept.links =
+              greatest-ge kept.links most.0 d within in
+              let e : greatest_head kept.links ≤ top past =
+              greatest-le kept.links (top past)
+              (λ k d lt. (let f = link-head kept past h k d lt in
+              let g = heads-low past h.legal k in omega (arith, f, g))) in
+              omega arith);
+          horizon = (let low = horizon-low past h.legal in
+              let e : kept.horizon ≡ horizon past = h.horizon in omega (arith, low, at));
+          limits = All-weaker (Contains kept.rows) IsInLimits
+              (λ row m. All-contains IsInLimits (writes past) row (writes-limits past h.legal)
+              (h.rows.within row m))
+              kept.rows (All-contains_itself kept.rows);
+        };
+        register = subst IsRegister
+            (ap (λ xs. record { snapshots = xs; last_id = last_id past }) (sym h.snapshots)
+            ∙ ap (λ n. record { snapshots = kept.snapshots; last_id = n }) (sym h.last_id))
+            (register-of past h.legal);
+      };
       ascend = ascend;
-      under = All-weaker (Contains kept.rows) (IsUnderHead kept.links)
-          (λ row m.
-          let all' : Contains (writes past) row = h.rows.within row m in
-          let node : row.node < numbered past = inside-row past h.legal row all' in
-          subst (λ o. MatchOption o ⊥ (λ link. row.stamp ≤ link.head)) (sym (h.links.each row.node (omega arith)))
-          (below_head past h.legal row all'))
-          kept.rows (All-contains_itself kept.rows);
-      limits = All-weaker (Contains kept.rows) IsInLimits
-          (λ row m. All-contains IsInLimits (writes past) row (writes-limits past h.legal)
-          (h.rows.within row m))
-          kept.rows (All-contains_itself kept.rows);
     }
 
 pub copy-represents : (kept copy : StoreView) (past : List Step) → Represents kept past → IsCopyOf kept copy

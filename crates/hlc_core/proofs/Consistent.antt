@@ -23,8 +23,7 @@ use Rattle.hlc_heads.proofs.LowLemmas.{low-rises, low-joins}
 use Rattle.hlc_heads.specs.Heads.{HeadsView, a_link, no_link, link_at, advanced, joined, floor_of}
 use Rattle.hlc_core.specs.Past.{body_rows}
 use Rattle.hlc_intake.specs.IntakeView.{IntakeView}
-use Rattle.hlc_core.specs.StoreView.{IsConsistent}
-use Rattle.hlc_checkpoint.proofs.CheckpointLemmas.{IsUnder}
+use Rattle.hlc_core.specs.StoreView.{IsConsistent, IsUnderHead}
 use Rattle.hlc_core.proofs.PastLemmas.{body_rows-are, row_set-body}
 
 -- the head of a node, and whether it has retired
@@ -87,7 +86,7 @@ floor-joined marks start up =
 
 -- a row that was not above its head is not above it after a link advances
 under-advanced : (links : List IntakeView) (node : ℕ) (link : IntakeView) (row : Row) → node < length links
-    → (link_at links node).head < link.head → IsUnder links row → IsUnder (slice_set links node link) row
+    → (link_at links node).head < link.head → IsUnderHead links row → IsUnderHead (slice_set links node link) row
 under-advanced links node link row within up under =
     let l : length (slice_set links node link) ≡ length links = length-set links node link in
     let n : row.node < length links = under.0 in
@@ -103,8 +102,8 @@ under-advanced links node link row within up under =
           ap (λ (y : IntakeView). y.head) (set-other links node row.node link other) in (omega arith, omega arith)
     ]
 
-under-joined : (links : List IntakeView) (x : IntakeView) (row : Row) → IsUnder links row
-    → IsUnder (links ++ x ∷ []) row
+under-joined : (links : List IntakeView) (x : IntakeView) (row : Row) → IsUnderHead links row
+    → IsUnderHead (links ++ x ∷ []) row
 under-joined links x row under =
     let l : length (links ++ x ∷ []) ≡ length links + 1 = length-append links (x ∷ []) in
     let n : row.node < length links = under.0 in
@@ -143,13 +142,13 @@ consistent-accept marks snapshots rows node link body h within here up good =
       row_set = row_set-body node link.head body rows good
           (λ row other m k same.
           let are : (row.node ≡ node) × (row.stamp ≡ link.head) = body_rows-are node link.head body row m in
-          let under : IsUnder links other = All-contains (IsUnder links) rows other h.stored k in
+          let under : IsUnderHead links other = All-contains (IsUnderHead links) rows other h.stored k in
           let below : other.stamp ≤ head_at links other.node = under.1 in
           let at : head_at links other.node ≡ head_at links node = ap (head_at links) (same.node ∙ are.0) in
           omega (arith, same.stamp, are.1))
           h.row_set;
-      stored = under-all (IsUnder new) rows node link.head body
-          (All-weaker (IsUnder links) (IsUnder new)
+      stored = under-all (IsUnderHead new) rows node link.head body
+          (All-weaker (IsUnderHead links) (IsUnderHead new)
           (λ row under. under-advanced links node link row within up under) rows h.stored)
           (λ row of at.
           let f : head_at new row.node ≡ head_at new node = ap (head_at new) of in
@@ -162,7 +161,7 @@ pub consistent-joined : (marks : HeadsView) (snapshots : List Snapshot) (rows : 
 consistent-joined marks snapshots rows start h up = record {
   opened = raised-all (floor_of marks) (floor_of (joined marks start)) snapshots (floor-joined marks start up) h.opened;
   row_set = h.row_set;
-  stored = All-weaker (IsUnder marks.links) (IsUnder (marks.links ++ a_link 0 start false ∷ []))
+  stored = All-weaker (IsUnderHead marks.links) (IsUnderHead (marks.links ++ a_link 0 start false ∷ []))
       (λ row under. under-joined marks.links (a_link 0 start false) row under) rows h.stored;
 }
 
@@ -193,8 +192,9 @@ pub consistent-fewer : (marks : HeadsView) (snapshots : List Snapshot) (rows few
 consistent-fewer marks snapshots rows fewer h apart within = record {
   opened = h.opened;
   row_set = apart;
-  stored = All-weaker (Contains fewer) (IsUnder marks.links)
-      (λ row m. All-contains (IsUnder marks.links) rows row h.stored (within row m)) fewer (All-contains_itself fewer);
+  stored = All-weaker (Contains fewer) (IsUnderHead marks.links)
+      (λ row m. All-contains (IsUnderHead marks.links) rows row h.stored (within row m))
+      fewer (All-contains_itself fewer);
 }
 
 pub consistent-close_result : (marks : HeadsView) (rows : List Row) (old new : RegistryView) (id : ℕ)

@@ -7,9 +7,9 @@ use Rattle.hlc_core.specs.Past.{Step, initial_nodes, numbered, count, head, reti
 use Rattle.hlc_core.specs.Past.{open_snapshots, writes}
 use Rattle.hlc_core.specs.Past.{IsLegal}
 use Rattle.hlc_core.specs.Stored.{IsStoredCount}
-pub use Rattle.hlc_checkpoint.specs.StoreView.{StoreView, marks_of, with_rows_left, without_snapshots}
-pub use Rattle.hlc_checkpoint.specs.StoreView.{greatest_head}
-pub use Rattle.hlc_checkpoint.specs.StoreView.{HasNodes, HasStamps, HasLastItem, IsSound, IsConsistent}
+pub use Rattle.hlc_checkpoint.specs.StoreView.{StoreView, marks_of, with_rows, with_rows_left, without_snapshots}
+pub use Rattle.hlc_checkpoint.specs.StoreView.{greatest_head, HasNodes, HasStamps, HasLastItem, IsUnderHead}
+pub use Rattle.hlc_checkpoint.specs.StoreView.{IsSound, IsConsistent}
 
 -- the links of all nodes after a past, by number
 pub record AreLinks (past : List Step) (links : List IntakeView) : Type 0 where

@@ -34,7 +34,7 @@ use Rattle.hlc_core.specs.Past.{Step, Started, Took, Opened, Closed, Vacuumed, P
 use Rattle.hlc_core.specs.Past.{vacuumed}
 use Rattle.hlc_core.specs.Past.{initial_nodes, numbered, part_dropped, last_id, open_snapshots, writes, item_rows}
 use Rattle.hlc_core.specs.Past.{body_rows, IsLegal}
-use Rattle.hlc_core.specs.StoreView.{StoreView, with_rows_left, Represents}
+use Rattle.hlc_core.specs.StoreView.{StoreView, with_rows, Represents}
 use Rattle.hlc_core.specs.Checkpoint.{IsCheckpoint, floor_in}
 use Rattle.hlc_core.proofs.PastLemmas.{above_floor, body_rows-are, open-above, vacuum-above, vacuumed-low}
 use Rattle.hlc_core.proofs.StayLemmas.{answers-stay, floor-never_falls}
@@ -362,7 +362,7 @@ module _ (since : ℕ) (older newer : StoreView) (upper : List Row) (past more :
       omega (arith, was, older_above, newer_above, many, split, parts, parts', stays, both)
 
   -- so a state with these rows, and else the newer one, represents the past in which vacuums dropped nothing
-  pub joined-represents : Represents (with_rows_left newer (joined since older.rows upper) newer.horizon)
+  pub joined-represents : Represents (with_rows newer (joined since older.rows upper))
       (without_drops more ++ past)
   joined-represents =
       let are = drops-agree more past in
@@ -394,12 +394,12 @@ pub advanced-represents : (older newer made : StoreView) (increment : IncrementV
     → Represents made (without_drops more ++ past)
 advanced-represents older newer made increment past more h g of low is =
     let whole : StoreView =
-    with_rows_left newer (joined increment.since older.rows increment.state.rows) newer.horizon in
+    with_rows newer (joined increment.since older.rows increment.state.rows) in
     let first : Represents whole (without_drops more ++ past) =
     joined-represents increment.since older newer increment.state.rows past more h g low of.horizon
     of.copy.rows.same in
     copy-represents whole made (without_drops more ++ past) first (record {
-      same = is.same ∙ ap (λ (state : StoreView). with_rows_left state made.rows state.horizon) of.copy.same;
+      same = is.same ∙ ap (λ (state : StoreView). with_rows state made.rows) of.copy.same;
       rows = is.rows;
     })
 
@@ -438,13 +438,13 @@ fits-unless_above older newer increment past more h is g of is' (faults.Parts fa
 fits-unless_above older newer increment past more h is g of is' (faults.Parts fault) (inr none) =
     absurd (sound-has_no_reason increment.state fault is' none)
 fits-unless_above older newer increment past more h is g of is' faults.NotLater none =
-    let state : increment.state ≡ with_rows_left newer increment.state.rows newer.horizon = of.copy.same in
+    let state : increment.state ≡ with_rows newer increment.state.rows = of.copy.same in
     let links : length increment.state.links ≡ length newer.links =
     ap (λ (view : StoreView). length view.links) state in
     let at : increment.state.horizon ≡ newer.horizon = ap (λ (view : StoreView). view.horizon) state in
     let grown = numbered-grows past more in
     let rose = horizon-grows past more g.legal in
-    let some : 0 < initial_nodes past = rw (← h.initial_nodes) is.nodes.some in
+    let some : 0 < initial_nodes past = rw (← h.initial_nodes) is.store.sound.nodes.some in
     absurd (none (record {
       initial_nodes = h.initial_nodes ∙ sym (initial_nodes-stay past more some g.legal) ∙ sym g.initial_nodes
           ∙ sym (ap (λ (view : StoreView). view.initial_nodes) state);

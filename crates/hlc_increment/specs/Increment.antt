@@ -4,7 +4,7 @@ use Rattle.std.specs.List.Sorted.{IsPermutation}
 use Rattle.hlc_table_column.specs.Rows.{rows_to}
 use Rattle.hlc_witness.specs.Certificate.{RowsAscend}
 use Rattle.hlc_core.specs.Past.{Step, Started, Took, Opened, Closed, Vacuumed, Joined, PartVacuumed}
-use Rattle.hlc_core.specs.StoreView.{StoreView, with_rows_left}
+use Rattle.hlc_core.specs.StoreView.{StoreView, with_rows}
 use Rattle.hlc_core.specs.Checkpoint.{IsCheckpoint, IsCopyAbove, IsFirstReason, floor_in}
 use Rattle.hlc_increment.specs.declared.increment.IncrementFault.{IncrementFault}
 use Rattle.hlc_increment.specs.declared.increment.IncrementFault.TheVariants as increments
@@ -25,7 +25,7 @@ pub record IsIncrementOf (kept : StoreView) (increment : IncrementView) : Type 0
 -- the checkpoint has all of the increment's state, and the rows of the older checkpoint up to the stamp with those of
 -- the increment, by key, stamp and node
 pub record IsAdvanced (older : StoreView) (increment : IncrementView) (made : StoreView) : Type 0 where
-  pub same : made ≡ with_rows_left increment.state made.rows increment.state.horizon
+  pub same : made ≡ with_rows increment.state made.rows
   pub rows : IsPermutation (rows_to increment.since older.rows ++ increment.state.rows) made.rows
   pub ascend : RowsAscend made.rows
 

@@ -58,7 +58,7 @@ started writer saver tag kept mark frame last more at made has =
     let none : flat_map row_bytes has.rows ≡ [] =
     sym (append_cancel_left (begin_bytes tag kept) [] (flat_map row_bytes has.rows)
     (append-nil (begin_bytes tag kept) ∙ has.spelled)) in
-    let low : rows_upto false [] kept.rows ≡ [] = none_low kept.rows has.leaves.store.limits in
+    let low : rows_upto false [] kept.rows ≡ [] = none_low kept.rows has.leaves.store.sound.limits in
     record {
       store = has.leaves.store;
       fits = has.leaves.fits;

@@ -6,7 +6,8 @@ use Rattle.hlc_rows.specs.declared.row.Row.{Row}
 use Rattle.hlc_core.specs.StoreView.{StoreView}
 use Rattle.hlc_wire.specs.declared.fault.WireFault.{WireFault}
 use Rattle.hlc_wire.specs.declared.fault.WireFault.TheVariants.{Short, Trailing}
-use Rattle.hlc_checkpoint.specs.Growing.{GrowingView, HasGrown, with_row, with_rows}
+use Rattle.hlc_checkpoint.specs.Growing.{GrowingView, HasGrown, with_row}
+use Rattle.hlc_checkpoint.specs.StoreView.{with_rows}
 use Rattle.hlc_wire.specs.declared.fault.DecodeError.TheVariants as errors
 use Rattle.hlc_wire.specs.Reading.{◌>>=◌, whole}
 use Rattle.hlc_wire.proofs.FieldLemmas.{IsBytes}

@@ -15,7 +15,7 @@ use Rattle.hlc_table_column.specs.Rows.{KeyCells}
 use Rattle.hlc_columns.specs.Table.{columns_in}
 use Rattle.hlc_witness.specs.Certificate.{RowsAscend}
 use Rattle.hlc_core.specs.Past.{Step}
-use Rattle.hlc_core.specs.StoreView.{StoreView, Represents, with_rows_left}
+use Rattle.hlc_core.specs.StoreView.{StoreView, Represents, with_rows}
 use Rattle.hlc_core.proofs.CheckpointLemmas.{copy-represents}
 use Rattle.hlc_checkpoint.specs.Checkpoint.{IsCheckpointOf, IsStore}
 use Rattle.hlc_checkpoint.specs.Lent.{IsWritable, AreListOf}
@@ -149,7 +149,7 @@ pub sorted_whole : (tag : ℕ) (kept : StoreView) (rows : List Row) → IsStore 
     → IsPermutation kept.rows rows → RowsAscend rows
     → AreOfStore ((begin_bytes tag kept ++ flat_map row_bytes rows) ++ end_bytes tag kept rows) tag kept
 sorted_whole tag kept rows store fits moved ascend =
-    let made : StoreView = with_rows_left kept rows kept.horizon in
+    let made : StoreView = with_rows kept rows in
     let is : IsCheckpointOf kept made = record {
       copy = record { same = refl; rows = moved };
       ascend = ascend;

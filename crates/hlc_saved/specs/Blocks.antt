@@ -3,7 +3,8 @@ use Rattle.std.specs.Prelude.{◌≡◌, ℕ, ◌<◌, List, ◌++◌, drop, Res
 use Rattle.hlc_core.specs.StoreView.{StoreView}
 use Rattle.hlc_wire.specs.declared.fault.WireFault.{WireFault}
 use Rattle.hlc_wire.specs.declared.fault.WireFault.TheVariants.{Short}
-use Rattle.hlc_checkpoint.specs.Growing.{GrowingView, HasGrown, with_rows}
+use Rattle.hlc_checkpoint.specs.Growing.{GrowingView, HasGrown}
+use Rattle.hlc_checkpoint.specs.StoreView.{with_rows}
 use Rattle.hlc_wire.specs.declared.fault.DecodeError.{DecodeError}
 use Rattle.hlc_wire.specs.Reading.{◌>>=◌, Fails}
 use Rattle.hlc_frame.specs.Reading.{body_so_far}

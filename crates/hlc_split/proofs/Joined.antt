@@ -2,12 +2,12 @@
 use Rattle.std.proofs.Common.{◌≡◌, ℕ, Bool, true, List, ◌++◌, sym, subst}
 use Rattle.std.specs.Prelude.{not}
 use Rattle.hlc_core.specs.Past.{Step, IsLegal}
-use Rattle.hlc_core.specs.StoreView.{StoreView, with_rows_left}
+use Rattle.hlc_core.specs.StoreView.{StoreView, with_rows}
 use Rattle.hlc_split.specs.Split.{RepresentsPart}
 use Rattle.hlc_split.proofs.Merging.{parts-merge}
 
 pub merged_represents : (left right made : StoreView) (past : List Step) (is_of : List ℕ → Bool)
-    → made ≡ with_rows_left left (left.rows ++ right.rows) left.horizon → IsLegal past
+    → made ≡ with_rows left (left.rows ++ right.rows) → IsLegal past
     → RepresentsPart is_of left past → RepresentsPart (λ key. not (is_of key)) right past
     → RepresentsPart (λ _. true) made past
 merged_represents left right made past is_of is legal l r =

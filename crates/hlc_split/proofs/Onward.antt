@@ -9,7 +9,7 @@ use Rattle.hlc_snapshot.specs.RegistryView.{stamps}
 use Rattle.hlc_vacuum.specs.Representing.{RowsRepresent}
 use Rattle.hlc_core.specs.Past.{Step, PartVacuumed, floor, horizon, writes, item_rows, open_snapshots, IsLegal}
 use Rattle.hlc_core.specs.Parts.{rows_of_keys}
-use Rattle.hlc_core.specs.StoreView.{StoreView, with_rows_left, Represents}
+use Rattle.hlc_core.specs.StoreView.{StoreView, with_rows, Represents}
 use Rattle.hlc_core.proofs.PartLemmas.{answer-of_keys}
 use Rattle.hlc_core.proofs.PastLemmas.{vacuum-none, vacuum-above, horizon-low, writes-row_set}
 use Rattle.hlc_split.specs.Split.{body_in, RepresentsPart}
@@ -85,7 +85,7 @@ pub own-parts_merge : (left right : StoreView) (past own_left own_right : List S
     → IsLegal past → IsOwnPast is_of past own_left
     → IsOwnPast (λ key. not (is_of key)) past own_right → Represents left own_left → Represents right own_right
     → left.horizon ≡ right.horizon
-    → RepresentsPart (λ _. true) (with_rows_left left (left.rows ++ right.rows) left.horizon)
+    → RepresentsPart (λ _. true) (with_rows left (left.rows ++ right.rows))
     (PartVacuumed left.horizon 0 ∷ past)
 own-parts_merge left right past own_left own_right is_of legal is_left is_right l r same =
     let at : ℕ = left.horizon in
@@ -106,7 +106,7 @@ own-parts_merge left right past own_left own_right is_of legal is_left is_right 
 
 -- the same of what two parts are joined into
 pub own_merged_represents : (left right made : StoreView) (past own_left own_right : List Step) (is_of : List ℕ → Bool)
-    → made ≡ with_rows_left left (left.rows ++ right.rows) left.horizon → left.horizon ≡ right.horizon
+    → made ≡ with_rows left (left.rows ++ right.rows) → left.horizon ≡ right.horizon
     → IsLegal past → IsOwnPast is_of past own_left
     → IsOwnPast (λ key. not (is_of key)) past own_right → Represents left own_left → Represents right own_right
     → RepresentsPart (λ _. true) made (PartVacuumed left.horizon 0 ∷ past)

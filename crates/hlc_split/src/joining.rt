@@ -2,7 +2,7 @@
 ghost use Rattle.std.specs.Prelude.{◌≡◌, ◌++◌, ◌∷◌, ◌↔◌, not, true, All, IfOk, IfErr, OnOk, OnErr, IsTrue};
 ghost use Rattle.std.specs.Prelude.{ℕ, Bool, List};
 ghost use Rattle.hlc_core.specs.Past.{Step, PartVacuumed, IsLegal};
-ghost use Rattle.hlc_core.specs.StoreView.{with_rows_left, Represents};
+ghost use Rattle.hlc_core.specs.StoreView.{with_rows, Represents};
 ghost use Rattle.hlc_split.specs.Split.{RepresentsPart, is_under, is_from};
 ghost use Rattle.hlc_split.specs.OwnPast.{IsOwnPast};
 ghost use Rattle.hlc_split.specs.Merge.{AreDivided, AreJoinable, HaveSameLinks, HaveSameSnapshots};
@@ -75,7 +75,7 @@ pub fn merge(
     right: Checkpoint,
 ) -> Result<Result<Checkpoint, MergeFault>, NoMemory>
     ensures ok { IfOk result (λ made. IfOk made
-        (λ whole. whole ≡ with_rows_left left (left.rows ++ right.rows) left.horizon)) }
+        (λ whole. whole ≡ with_rows left (left.rows ++ right.rows))) }
     ensures represents { (past : List Step) (is_of : List ℕ → Bool) → IsLegal past
         → RepresentsPart is_of left past → RepresentsPart (λ key. not (is_of key)) right past
         → IfOk result (λ made. IfOk made (λ whole. RepresentsPart (λ _. true) whole past)) }

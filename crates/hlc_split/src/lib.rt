@@ -7,7 +7,7 @@ mod joining;
 ghost use Rattle.std.specs.Prelude.{◌≡◌, ◌<◌, ◌≤◌, ◌++◌, ◌∷◌, ℕ, Bool, true, not, List};
 ghost use Rattle.hlc_rows.specs.Rows.{answer};
 ghost use Rattle.hlc_core.specs.Past.{Step, PartVacuumed, IsLegal, writes, floor, horizon, open_snapshots};
-ghost use Rattle.hlc_core.specs.StoreView.{StoreView, with_rows_left, Represents};
+ghost use Rattle.hlc_core.specs.StoreView.{StoreView, with_rows, Represents};
 ghost use Rattle.hlc_checkpoint.specs.Checkpoint.{IsCheckpoint};
 ghost use Rattle.hlc_witness.specs.Certificate.{RowsAscend};
 ghost use Rattle.hlc_heads.specs.declared.heads.TheConstants.{MAX_INITIAL_NODES};
@@ -47,7 +47,7 @@ pub fn parts_restore()
 pub fn parts_merge()
     ensures { (left right : StoreView) (past : List Step) (is_of : List ℕ → Bool) → IsLegal past
         → RepresentsPart is_of left past → RepresentsPart (λ key. not (is_of key)) right past
-        → RepresentsPart (λ _. true) (with_rows_left left (left.rows ++ right.rows) left.horizon) past }
+        → RepresentsPart (λ _. true) (with_rows left (left.rows ++ right.rows)) past }
 {}
 
 /// Two parts of one past, of the keys of a kind and of the others, that went on and were vacuumed when they chose, but
@@ -58,7 +58,7 @@ pub fn vacuumed_parts_merge()
         → IsLegal past → IsOwnPast is_of past own_left
         → IsOwnPast (λ key. not (is_of key)) past own_right
         → Represents left own_left → Represents right own_right → left.horizon ≡ right.horizon
-        → RepresentsPart (λ _. true) (with_rows_left left (left.rows ++ right.rows) left.horizon)
+        → RepresentsPart (λ _. true) (with_rows left (left.rows ++ right.rows))
         (PartVacuumed left.horizon 0 ∷ past) }
     ensures answers { (left right : StoreView) (past own_left own_right : List Step) (is_of : List ℕ → Bool)
         (key : List ℕ) (stamp : ℕ) → IsLegal past → IsOwnPast is_of past own_left

@@ -2,7 +2,7 @@
 use Rattle.std.specs.Prelude.{◌≡◌, ℕ, ◌⊎◌, List, Ok, Err, ◌++◌}
 use Rattle.hlc_wire.specs.declared.fault.WireFault.{WireFault}
 use Rattle.hlc_wire.specs.Faults.{fault_code}
-use Rattle.hlc_core.specs.StoreView.{StoreView, with_rows_left}
+use Rattle.hlc_core.specs.StoreView.{StoreView, with_rows}
 use Rattle.hlc_checkpoint.specs.Checkpoint.{IsCheckpoint, IsFirstReason}
 use Rattle.hlc_checkpoint.specs.RestoreFaults.{fault_code as reason_code}
 use Rattle.hlc_checkpoint.specs.declared.checkpoint.RestoreFault.{RestoreFault}
@@ -51,7 +51,7 @@ IsNotDivided bytes key code word =
 
 -- the left state with the rows of both, those of the left one first
 abbrev pub join_of : StoreView → StoreView → StoreView
-join_of left right = with_rows_left left (left.rows ++ right.rows) left.horizon
+join_of left right = with_rows left (left.rows ++ right.rows)
 
 -- the bytes are those of the checkpoint into which those of the left and of the right bytes are joined, with the tag
 -- of the left ones

@@ -18,7 +18,7 @@ returns-in-None-clause-first c = λ kept grown.
     rw c.first_fault.ensures
     (grown-reason c.self.inside.head c.self.inside.table c.self.inside.last c.self.inside.checks.ascend
     c.self.inside.checks.under c.self.inside.checks.limits kept
-    (subst (λ g. HasGrown g kept) (sym c.self.view_is) grown) c.in-None.ensures.0 c.in-None.ensures.1)
+    (subst (λ g. HasGrown g kept) (sym c.self.view_is) grown) c.in-None.ensures)
 
 pub returns-in-None-clause-none : goal.returns-in-None-clause-none
 returns-in-None-clause-none c =
@@ -26,5 +26,4 @@ returns-in-None-clause-none c =
     (subst (λ g. IfNone (first_fault c.self.inside.checks.ascend c.self.inside.checks.under c.self.inside.checks.limits)
     ((x : StoreView) × HasGrown g x × IsCheckpoint x)) c.self.view_is
     (grown-sound c.self.inside.head c.self.inside.table c.self.inside.last c.self.inside.checks.ascend
-    c.self.inside.checks.under c.self.inside.checks.limits c.self.invariant.0 c.self.invariant.1 c.in-None.ensures.0
-    c.in-None.ensures.1))
+    c.self.inside.checks.under c.self.inside.checks.limits c.self.invariant.0 c.self.invariant.1 c.in-None.ensures))
