@@ -12,6 +12,7 @@ import struct
 import sys
 
 from raw_calls import Handle, Library
+from reference import Store, listing
 
 HISTORIES = 10_000
 KEYS = [b"a", b"a\0", b"b", b"c\xff", b"d"]
@@ -56,26 +57,20 @@ def take_part(data, at):
 
 
 class History:
-    """A store with its nodes and a replica, and what both must have: all writes, the stamps of the open snapshots by
-    id, and the horizon; the bytes of the items, and the batches: of each its stamp, its node and its writes."""
+    """A store with its nodes and a replica, and the model of both; the bytes of the items, and the batches: of each its
+    stamp, its node and its writes."""
 
     def __init__(self, pick):
-        self.pick, self.store = pick, Handle()
-        self.links = [[0, 0] for _ in range(pick.randint(1, 3))]
-        self.writes, self.snapshots, self.horizon = [], {}, 0
+        self.pick, self.store, self.model = pick, Handle(), Store(pick.randint(1, 3))
         self.replica, self.log, self.fed, self.batches = Handle(), [], 0, []
         for store in (self.store, self.replica):
-            ok("store_open", store, len(self.links))
-
-    def floor(self):
-        return min(last for _, last in self.links)
+            ok("store_open", store, self.model.start)
 
     def issue(self):
         """Lets a node write or delete a key or some keys, or report. Nodes may use the same stamps."""
-        node = self.pick.randrange(len(self.links))
-        number, last = self.links[node]
+        node = self.pick.randrange(len(self.model.links))
+        number, last, _ = self.model.links[node]
         stamp, key = last + self.pick.randint(1, 3), self.pick.choice(KEYS)
-        self.links[node] = [number + 1, stamp]
         kind = self.pick.choice(("write", "write", "write", "delete", "batch", "batch", "report"))
         value = self.pick.choice(VALUES) if kind == "write" else None
         writes, parts = [(key, value)] * (kind in ("write", "delete")), ()
@@ -90,7 +85,7 @@ class History:
         length, data = ok("item_encode_" + kind, node, number, stamp, *parts, ROOM)
         assert len(data) == length
         self.log.append(data)
-        self.writes += [(stamp, node, *write) for write in writes]
+        self.model.accept(node, number, stamp, writes)
 
     def feed(self):
         """Lets the replica read on, from an item before the next one or from that."""
@@ -113,18 +108,18 @@ class History:
         setattr(self, name, again)
 
     def open(self):
-        stamp = self.pick.choice((self.floor(), self.pick.randint(self.horizon, self.floor())))
-        (id,) = ok("snapshot_open", self.store, stamp)
-        self.snapshots[id] = stamp
+        floor = self.model.floor()
+        stamp = self.pick.choice((floor, self.pick.randint(self.model.horizon, floor)))
+        assert ok("snapshot_open", self.store, stamp) == [self.model.open(stamp)]
 
     def close(self):
-        if len(self.snapshots) > 2:
-            id = self.pick.choice(list(self.snapshots))
-            assert ok("snapshot_close", self.store, id) == [self.snapshots.pop(id)]
+        if len(self.model.snapshots) > 2:
+            id = self.pick.choice(list(self.model.snapshots))
+            assert ok("snapshot_close", self.store, id) == [self.model.close(id)]
 
     def vacuum(self):
-        self.horizon = self.pick.randint(self.horizon, self.floor())
-        ok("store_vacuum_to", self.store, self.horizon)
+        stamp = self.pick.randint(self.model.horizon, self.model.floor())
+        assert ok("store_vacuum_to", self.store, stamp) == [stamp, *self.model.vacuum(stamp)[2:]]
 
     def play(self):
         events = [self.issue] * 6 + [self.open] * 2 + [self.close, self.vacuum, self.feed, self.restart]
@@ -139,13 +134,8 @@ class History:
         while at < length:
             key, at = take_part(data, at)
             pairs[key], at = take_part(data, at)
-        assert pairs == self.expected(self.snapshots[id])
+        assert pairs == self.model.list(id)
         return pairs
-
-    def expected(self, at):
-        """What all writes give at a stamp."""
-        newest = {key: value for stamp, _, key, value in sorted(self.writes, key=lambda row: row[:2]) if stamp <= at}
-        return {key: value for key, value in newest.items() if value is not None}
 
     def changes(self, before, after):
         """The changes from one snapshot to another, in pieces by lot: each a key, and its value or none."""
@@ -165,7 +155,7 @@ class History:
 
     def show(self, store, floor):
         """Reads each key at a stamp by lot up to the floor, and judges it by all writes, and by each batch alone."""
-        at = self.pick.randint(self.horizon, max(floor, self.horizon))
+        at = self.pick.randint(self.model.horizon, max(floor, self.model.horizon))
         (id,) = ok("snapshot_open", store, at)
         shown = {}
         for key in KEYS:
@@ -173,15 +163,15 @@ class History:
             if answer == OK:
                 shown[key] = data[:length]
         ok("snapshot_close", store, id)
-        assert shown == self.expected(at)
+        assert shown == listing(self.model.writes, at)
         for stamp, node, writes in self.batches:
-            later = {key for when, who, key, _ in self.writes if (when, who) > (stamp, node) and when <= at}
+            later = {key for key, when, who, _ in self.model.writes if (when, who) > (stamp, node) and when <= at}
             seen = {shown.get(key) == value for key, value in writes if key not in later}
             assert stamp > at or seen <= {True}, "a part of a batch"
 
     def compare(self):
         """Applies the changes between each two snapshots."""
-        listings = {id: self.listing(id) for id in self.snapshots}
+        listings = {id: self.listing(id) for id in self.model.snapshots}
         for before, pairs in listings.items():
             for after, expected in listings.items():
                 patched = dict(pairs)
@@ -201,11 +191,11 @@ for _ in range(HISTORIES):
     history = History(pick)
     history.play()
     compared += history.compare()
-    history.show(history.store, history.floor())
+    history.show(history.store, history.model.floor())
     history.fed = min(history.fed, len(history.log))
     history.feed()
     if history.fed == len(history.log):
-        history.show(history.replica, history.floor())
+        history.show(history.replica, history.model.floor())
     for store in (history.store, history.replica):
         library.call("store_close", store)
 print(f"{compared} pairs of snapshots", file=sys.stderr)

@@ -6,11 +6,13 @@ import hashlib
 import random
 import struct
 import sys
+from copy import copy as copied
 from typing import NamedTuple
-from urllib.parse import unquote_to_bytes
 
 import no_memory
+from model import certificate_line
 from raw_calls import PLACE, Handle, Library
+from reference import Store, sizes
 
 ROUNDS = 300
 OK, NOT_NEXT, ABOVE_FLOOR, BELOW_HORIZON, NO_SNAPSHOT, NO_MEMORY = 0, 6, 8, 9, 10, 15
@@ -117,59 +119,18 @@ def expected(parts, room):
     return MORE if many < len(parts) else OK, len(written), written, many
 
 
-def cost(rows):
-    return sum(len(key) + len(value or b"") + 10 for _, _, key, value in rows)
+class Model(Store):
+    """What a store must have; and the stamp of a vacuum in parts that has not ended, with the key to go on from."""
 
-
-def newest_at_changes(rows, points):
-    """Of one key's rows, the newest at each of the ascending points at which its answer differs from that before."""
-    found, before = [], None
-    for point in points:
-        newest = max((row for row in rows if row[0] <= point), key=lambda row: row[:2], default=None)
-        if newest and newest[3] != before:
-            found.append(newest)
-            before = newest[3]
-    return found
-
-
-class Model:
-    """What a store must have: all writes, each with its stamp, node, key and value, or None for a deletion; the rows
-    that are stored of them; the ids and the stamps of the open snapshots; the horizon; and the stamp of a vacuum in
-    parts that has not ended, with the key to go on from."""
-
-    def __init__(self):
-        self.writes, self.rows, self.snapshots, self.horizon, self.begun = [], [], {}, 0, None
-
-    def write(self, row):
-        self.writes.append(row)
-        self.rows.append(row)
-
-    def write_all(self, rows):
-        for row in rows:
-            self.write(row)
+    begun = None
 
     def keys(self):
-        return sorted({key for _, _, key, _ in self.rows})
-
-    def vacuum(self, at, keys):
-        """Vacuums these keys. Returns how many rows are left of them, what they cost, and how many were dropped."""
-        points = sorted({stamp for stamp in self.snapshots.values() if stamp <= at} | {at})
-        total, kept = len(self.rows), []
-        for key in keys:
-            mine = [row for row in self.rows if row[2] == key]
-            left = newest_at_changes(mine, points)
-            fewest = newest_at_changes([row for row in self.writes if row[2] == key], points)
-            assert (len(left), cost(left)) == (len(fewest), cost(fewest))
-            above = [row for row in mine if row[0] > at]
-            self.rows = [row for row in self.rows if row[2] != key] + left + above
-            kept += left
-        self.horizon = at
-        return len(kept), cost(kept), total - len(self.rows)
+        return sorted({row[0] for row in self.rows})
 
 
 def vacuum_part(pick, store, model):
     """Makes the next part of a vacuum, or the first one of another, and compares what it returns with the model."""
-    floor = ok("store_floor", store)
+    floor = model.floor()
     at, after = model.begun or (pick.randint(model.horizon, floor + 1), b"")
     most, room = pick.randint(0, 3), pick.choice((0, 2, 255))
     made_part = library.call("store_vacuum_part", store, at, after, most, room)
@@ -180,13 +141,13 @@ def vacuum_part(pick, store, model):
         model.begun = None
         return
     keys = [key for key in model.keys() if key > after][:most]
-    assert (answer, word, kept, bytes, dropped) == (OK, at, *model.vacuum(at, keys))
+    assert (answer, word, kept, bytes, dropped) == (OK, at, *model.vacuum(at, keys)[2:])
     assert more == (len(keys) == most)
     last = (keys or [after])[-1] if more else b""
     assert (length, end) == (len(last), last if len(last) <= room else None)
     model.begun = (at, last) if more else None
     if not more and pick.random() < 0.5:
-        kept, bytes, dropped = model.vacuum(at, model.keys())
+        _, _, kept, bytes, dropped = model.vacuum(at)
         certify(pick, store, model, at, kept, bytes)
         assert ok("store_vacuum_to", store, at) == (at, kept, bytes, 0) and dropped == 0
 
@@ -195,12 +156,12 @@ def certify(pick, store, model, at, kept, bytes):
     """Makes the certificate of the rows at or below a stamp, and compares it with the model."""
     *numbers, text = made(pick, "certificate_make", store, at)
     assert numbers == [0, kept, bytes] and ok("certificate_check", text) == (kept, bytes, 0)
-    assert certified_rows(text) == sorted((row for row in model.rows if row[0] <= at), key=by_key)
+    assert certified_rows(text) == sorted(row for row in model.rows if row[1] <= at)
 
 
 def refuse_certificates(pick, store, model):
     """Makes no certificate above the floor or below the horizon."""
-    floor, output = ok("store_floor", store), Handle()
+    floor, output = model.floor(), Handle()
     above = pick.randint(floor + 1, floor + 9)
     assert tuple(library.call("certificate_make", store, above, output)) == (ABOVE_FLOOR, floor, 0, 0, 0)
     if model.horizon > 0:
@@ -211,11 +172,11 @@ def refuse_certificates(pick, store, model):
 
 def vacuum(pick, store, model):
     """Vacuums to the floor, or to a stamp. A certificate is there after it, and before it where it drops nothing."""
-    floor = ok("store_floor", store)
+    floor = model.floor()
     at = floor if pick.random() < 0.3 else pick.randint(model.horizon, floor)
     name, args = ("store_vacuum", ()) if at == floor and pick.random() < 0.9 else ("store_vacuum_to", (at,))
     refuse_certificates(pick, store, model)
-    kept, bytes, dropped = model.vacuum(at, model.keys())
+    _, _, kept, bytes, dropped = model.vacuum(at)
     if dropped > 0:
         output = Handle()
         assert tuple(library.call("certificate_make", store, at, output)) == (NOT_FEWEST, 0, 0, 0, 0)
@@ -235,7 +196,7 @@ class Older(NamedTuple):
 
 
 def older_of(pick, store, model):
-    return Older(whole_state(pick, store), ok("store_floor", store), list(model.rows))
+    return Older(whole_state(pick, store), model.floor(), list(model.rows))
 
 
 def increment_of(pick, store, model, since):
@@ -258,21 +219,21 @@ def newer_of(pick, store, model, older):
     if increment is None:
         return None
     zero, saved = made(pick, "increment_apply", older.saved, increment)
-    rows = [row for row in older.rows if row[0] <= since] + [row for row in model.rows if row[0] > since]
+    rows = [row for row in older.rows if row[1] <= since] + [row for row in model.rows if row[1] > since]
     assert zero == 0
-    if sorted(rows, key=by_key) == sorted(model.rows, key=by_key):
+    if sorted(rows) == sorted(model.rows):
         assert saved == whole_state(pick, store)
-    return Older(saved, ok("store_floor", store), rows)
+    return Older(saved, model.floor(), rows)
 
 
-def shared_record(pick, store, nodes, reading):
+def shared_record(pick, model, nodes, reading):
     """Returns a record that is no item, with its threshold or 0: a node joins at the floor or above, and is one of the
     nodes from then on; or the reading is a threshold."""
     if len(nodes) > 7 or pick.random() < 0.7:
         return whole("record_encode_threshold", reading), reading
-    start = ok("store_floor", store) + pick.randint(0, 2)
+    start = model.floor() + pick.randint(0, 2)
     nodes += library.call("node_open", len(nodes), start)
-    return whole("record_encode_join", len(nodes) - 1, start), 0
+    return whole("record_encode_join", model.join(start), start), 0
 
 
 def item_bytes(kind, node, number, stamp, key=b"", value=b""):
@@ -294,7 +255,7 @@ def feed_batch(pick, store, node, raw, reading, keys, model):
     ]
     count, writes = no_memory.writes_of(*changes)
     number, stamp = ok("node_write_batch", raw, reading, count, writes)
-    model.write_all((stamp, node, key, value) for key, value in changes)
+    model.accept(node, number, stamp, changes)
     encoded = whole("item_encode_batch", node, number, stamp, count, writes)
     assert encoded == no_memory.bytes_of_batch(node, number, stamp, count, writes)
     if pick.random() < 0.5:
@@ -310,8 +271,7 @@ def feed_item(pick, store, node, raw, reading, keys, model):
     value = bytes(pick.choices(b"xyz", k=pick.randint(0, 30))) if kind == "write" else None
     parts = {"write": (key, value), "delete": (key,), "report": ()}[kind]
     number, stamp = ok("node_" + kind, raw, reading, *parts)
-    if parts:
-        model.write((stamp, node, key, value))
+    model.accept(node, number, stamp, [(key, value)] if parts else [])
     encoded = whole("item_encode_" + kind, node, number, stamp, *parts)
     assert encoded == item_bytes(kind, node, number, stamp, *parts)
     assert ok("store_accept_items", store, encoded) == (len(encoded), 1, 0)
@@ -321,22 +281,21 @@ def feed_item(pick, store, node, raw, reading, keys, model):
 def feed(pick, store, nodes, keys):
     """Lets the nodes issue items, which the store takes as bytes, and opens snapshots and vacuums between. Returns the
     model; the records of the log, each with its threshold or 0; and a checkpoint of before."""
-    model, log, reading = Model(), [], 1
-    snapshots, older = model.snapshots, older_of(pick, store, model)
+    model, log, reading = Model(len(nodes)), [], 1
+    older = older_of(pick, store, model)
     for _ in range(pick.randint(5, 60)):
         reading += pick.randint(0, 2)
         node = pick.randrange(len(nodes))
         issue = feed_batch if pick.random() < 0.2 else feed_item
         log.append((issue(pick, store, node, nodes[node], reading, keys, model), 0))
         if pick.random() < 0.1:
-            entry = shared_record(pick, store, nodes, reading)
+            entry = shared_record(pick, model, nodes, reading)
             assert ok("store_apply_records", store, entry[0]) == (len(entry[0]), 1, entry[1], 0)
             log.append(entry)
         if pick.random() < 0.1:
             library.call("node_raise", nodes[node], max(other.last for other in nodes))
-        if pick.random() < 0.2 and len(snapshots) < 6:
-            id, stamp = ok("snapshot_open_at_floor", store)
-            snapshots[id] = stamp
+        if pick.random() < 0.2 and len(model.snapshots) < 6:
+            assert ok("snapshot_open_at_floor", store) == (model.open(model.floor()), model.floor())
         if pick.random() < 0.05:
             vacuum(pick, store, model)
         if pick.random() < 0.3:
@@ -429,16 +388,15 @@ def look_at_changes(pick, store, answers):
 def look_at_versions(pick, store, model, keys):
     """Compares the rows of a key between two stamps with the model."""
     key, room = pick.choice(keys + [b"zz", b""]), pick.randint(0, 200)
-    stamps = [0, TOP, model.horizon, *(stamp + off for stamp, *_ in model.writes for off in (0, 1))]
+    stamps = [0, TOP, model.horizon, *(stamp + off for _, stamp, *_ in model.writes for off in (0, 1))]
     above, to = pick.choice(stamps), pick.choice(stamps)
-    rows = [row for row in model.rows if row[2] == key and above < row[0] <= to]
-    rows.sort(key=lambda row: row[:2], reverse=True)
-    data = b"".join(struct.pack("<QH", stamp, node) + answer(value) for stamp, node, _, value in rows)
+    rows = sorted((row for row in model.rows if row[0] == key and above < row[1] <= to), reverse=True)
+    data = b"".join(struct.pack("<QH", stamp, node) + answer(value) for _, stamp, node, value in rows)
     returned = OK, len(data), data if len(data) <= room else None, len(rows)
     assert library.call("store_versions", store, key, above, to, room) == returned
     if above >= model.horizon:
-        accepted = [row for row in model.writes if row[2] == key and above < row[0] <= to]
-        assert sorted(rows, key=by_key) == sorted(accepted, key=by_key)
+        accepted = [write for write in model.writes if write[0] == key and above < write[1] <= to]
+        assert rows == sorted(accepted, reverse=True)
 
 
 def open_snapshots(store):
@@ -451,45 +409,28 @@ def open_snapshots(store):
         found.append((id, stamp))
 
 
-def compare(pick, store, model, keys, nodes):
+def compare(pick, store, model, keys):
     """Compares all that the store returns with the model."""
-    heads = [ok("store_link", store, node)[1] for node in range(nodes)]
-    assert ok("store_nodes", store) == nodes and ok("store_floor", store) == min(heads)
-    assert ok("store_floor_node", store) == heads.index(min(heads))
+    nodes, floor, heads = len(model.links), model.floor(), [head for _, head, _ in model.links]
+    assert [[*ok("store_link", store, node)] for node in range(nodes)] == model.links
+    assert ok("store_nodes", store) == nodes and ok("store_floor", store) == floor
+    assert ok("store_floor_node", store) == heads.index(floor)
     assert open_snapshots(store) == sorted(model.snapshots.items())
     assert ok("store_horizon", store) == model.horizon
     assert ok("store_size", store) == sizes(model.rows)
-    answers = {}
-    for id, stamp in model.snapshots.items():
-        newest = {key: value for at, _, key, value in sorted(model.writes, key=lambda row: row[:2]) if at <= stamp}
-        answers[id] = {key: value for key, value in newest.items() if value is not None}
-        look(pick, store, id, sorted(answers[id].items()), keys)
+    answers = {id: model.list(id) for id in model.snapshots}
+    for id, pairs in answers.items():
+        look(pick, store, id, [*pairs.items()], keys)
     for _ in range(10):
         if answers:
             look_at_changes(pick, store, answers)
         look_at_versions(pick, store, model, keys)
 
 
-def by_key(row):
-    """Where a row stands in a certificate."""
-    stamp, node, key, _ = row
-    return key, stamp, node
-
-
 def certified_rows(text):
-    """The rows of a certificate: stamp, node, key, and value or none in a deletion mark."""
-    rows = []
-    for _, key, stamp, node, *value in (line.split(b" ") for line in text.split(b"\n") if line.startswith(b"row ")):
-        physical, counter = map(int, stamp.split(b"."))
-        spelled = unquote_to_bytes(value[1].removesuffix(b"%")) if value[0] == b"value" else None
-        rows.append((physical << 16 | counter, int(node), unquote_to_bytes(key), spelled))
-    return rows
-
-
-def sizes(rows):
-    """How many rows and keys these are, the bytes of the keys, each once, and those of the values."""
-    keys = {row[2] for row in rows}
-    return len(rows), len(keys), sum(map(len, keys)), sum(len(row[3]) for row in rows if row[3] is not None)
+    """The rows of a certificate."""
+    rows = (certificate_line(line) for line in text.split(b"\n") if line.startswith(b"row "))
+    return [(key, physical << 16 | counter, node, value) for key, (physical, counter), node, value in rows]
 
 
 def read_saving(pick, saving, store):
@@ -645,7 +586,7 @@ def refuse_increments(pick, store, model, older, many):
     if early[41:-64] != increment[41:-64]:
         assert refusal(saved, framed(b"\1" + framed(early[41:-64], since), 5)) == (NO_INCREMENT, 0)
     other = opened(many + 1)
-    assert refusal(saved, increment_of(pick, other, Model(), 0)) == (NOT_LATER, 0)
+    assert refusal(saved, increment_of(pick, other, Model(many + 1), 0)) == (NOT_LATER, 0)
     library.call("store_close", other)
     if len(increment) < 500 and pick.random() < 0.1:
         for bit in range(8 * len(increment)):
@@ -655,20 +596,20 @@ def refuse_increments(pick, store, model, older, many):
             assert code == NO_INCREMENT and word > 0
 
 
-def look_at_newer(pick, store, model, older, keys, nodes):
+def look_at_newer(pick, store, model, older, keys):
     """Compares a store with the model that is restored from an older checkpoint and an increment. It also has the rows
     that vacuums dropped since, until it is vacuumed itself."""
     newer = newer_of(pick, store, model, older)
     if newer is None:
         return
-    seen, copy = Model(), restored(newer.saved)
-    seen.writes, seen.rows, seen.snapshots, seen.horizon = model.writes, newer.rows, model.snapshots, model.horizon
-    assert whole_state(pick, copy) == newer.saved
-    compare(pick, copy, seen, keys, nodes)
+    seen, other = copied(model), restored(newer.saved)
+    seen.rows = newer.rows
+    assert whole_state(pick, other) == newer.saved
+    compare(pick, other, seen, keys)
     at = model.horizon
-    assert ok("store_vacuum_to", copy, at) == (at, *seen.vacuum(at, seen.keys()))
-    assert ok("store_size", copy) == sizes(seen.rows)
-    library.call("store_close", copy)
+    assert ok("store_vacuum_to", other, at) == (at, *seen.vacuum(at)[2:])
+    assert ok("store_size", other) == sizes(seen.rows)
+    library.call("store_close", other)
 
 
 def restored(saved):
@@ -731,19 +672,19 @@ def play(pick):
     assert save_in_pieces(pick, store, 5) == saved == save_in_pieces(pick, copy, 5)
     change_while_saved(pick, saved)
     for each in store, copy:
-        compare(pick, each, model, keys, len(nodes))
+        compare(pick, each, model, keys)
     assert ok("store_rows", store) == ok("store_size", store)[0]
     refuse(pick, saved, b"".join(entry for entry, _ in log), many)
     refuse_full(pick, store)
-    look_at_newer(pick, store, model, older, keys, len(nodes))
+    look_at_newer(pick, store, model, older, keys)
     refuse_increments(pick, store, model, older, many)
     at, kept, total, _ = ok("store_vacuum", store)
     *numbers, text = made(pick, "certificate_make", store, at)
-    assert at == ok("store_floor", store) and numbers == [0, kept, total]
+    assert at == model.floor() and numbers == [0, kept, total]
     assert ok("certificate_check", text) == (kept, total, 0)
-    above = [row for row in model.writes if row[0] > at]
+    above = [write for write in model.writes if write[1] > at]
     assert ok("store_size", store) == sizes(certified_rows(text) + above)
-    assert ok("store_horizon", store) == ok("store_floor", store)
+    assert ok("store_horizon", store) == model.floor()
     if pick.random() < 0.1:
         vacuumed = whole_state(pick, store)
         refuse_memory(pick, vacuumed, "checkpoint_make", 5)

@@ -1,16 +1,19 @@
-"""What the program is expected to return, written only from the formats and as slowly as they are defined: lists,
-greatest elements, and no rows but all writes that were ever accepted. It shares nothing with the product.
+"""What the program is expected to return, written only from the formats, and of a store from its definitions
+(reference.py). It shares nothing with the product.
 
 A stamp is a pair of a reading and a counter. A write is (key, stamp, node, value), where the value of a deletion is
 None.
 """
 import re
 
+from reference import Refused, Store, cost, newest
+
 MOST_NUM = 2**64 - 1
 MOST_READING = 2**48 - 1
 MOST_COUNTER = 2**16 - 1
-MOST_NUMBERS = 1_024
 START = (0, 0)
+# What the word of a refusal is, by the number of the refusal.
+WORDS = {3: b"at", 6: b"next", 8: b"floor", 9: b"horizon"}
 
 
 def spelled(data):
@@ -56,18 +59,6 @@ def lines_of(text):
     return lines[:-1] if lines[-1] == b"" else lines
 
 
-def newest_write(writes, key, bound):
-    """Returns the newest write of the key, by stamp and node, at or below the bound; None where there is none."""
-    below = [write for write in writes if write[0] == key and write[1] <= bound]
-    return max(below, key=lambda write: write[1:3]) if below else None
-
-
-def newest(writes, key, bound):
-    """Returns the value of that write; None where there is none."""
-    write = newest_write(writes, key, bound)
-    return write[3] if write else None
-
-
 def key_fits(key):
     return 1 <= len(key) <= 255
 
@@ -76,31 +67,15 @@ def value_fits(value):
     return value is None or len(value) <= 65_535
 
 
-def cost(writes):
-    """Returns what rows of these writes cost: for each the bytes of its key and of its value, none for a deletion, and
-    10."""
-    return sum(len(key) + len(value or b"") + 10 for key, _, _, value in writes)
-
-
-def changes(writes, points):
-    """Returns the changes of answers: each key, the point before, if any, and the point at which its answer differs."""
-    found = []
-    for key in sorted({write[0] for write in writes}):
-        before, value = None, None
-        for point in points:
-            if newest(writes, key, point) != value:
-                found.append((key, before, point))
-            before, value = point, newest(writes, key, point)
-    return found
-
-
 def witness_line(change):
     key, before, at = change
     return b"witness %s %s %s" % (spelled(key), put(before) if before else b"none", put(at))
 
 
-class Refused(Exception):
-    pass
+def refusal_line(number, word):
+    if number not in WORDS:
+        return b"refused %d" % number
+    return b"refused %d %s %s" % (number, WORDS[number], put(word) if isinstance(word, tuple) else b"%d" % word)
 
 
 class World:
@@ -128,16 +103,9 @@ class World:
     def __init__(self, nodes):
         self.clocks = [START] * nodes
         self.items = [[] for _ in range(nodes)]
-        self.messages = []
         self.closed = [False] * nodes
-        self.taken = [0] * nodes
-        self.heads = [START] * nodes
-        self.retired = [False] * nodes
-        self.writes = []
-        self.snapshots = {}
-        self.opened = 0
-        self.horizon = START
-        self.kept = 0
+        self.messages = []
+        self.store = Store(nodes, START)
 
     def event(self, line):
         """Returns the call that a line asks for; raises ValueError where it is not the line of an event."""
@@ -153,62 +121,62 @@ class World:
         try:
             return call()
         except Refused as refusal:
-            return [refusal.args[0]]
+            return [refusal_line(*refusal.args)]
 
     def known(self, node):
         if node >= len(self.clocks):
-            raise Refused(b"refused 1")
+            raise Refused(1)
 
     def active(self, node):
         """Checks that the node exists, and has not issued its last item."""
         self.known(node)
         if self.closed[node]:
-            raise Refused(b"refused 27")
+            raise Refused(27)
 
     def join(self):
-        if len(self.clocks) == MOST_NUMBERS:
-            raise Refused(b"refused 26")
-        start = self.least()
-        for parts, first in [(self.clocks, start), (self.items, []), (self.closed, False),
-                             (self.taken, 0), (self.heads, start), (self.retired, False)]:
-            parts.append(first)
-        return [b"joined %d start %s" % (len(self.clocks) - 1, put(start))]
+        start = self.store.floor()
+        node = self.store.join(start)
+        self.clocks.append(start)
+        self.items.append([])
+        self.closed.append(False)
+        return [b"joined %d start %s" % (node, put(start))]
 
     def tick(self, node, reading, other=START):
         """Returns the least stamp above the node's and the other one, at this reading or later, and makes it the
         node's."""
         if reading > MOST_READING:
-            raise Refused(b"refused 2")
+            raise Refused(2)
         last = max(self.clocks[node], other)
         if reading > last[0]:
             self.clocks[node] = (reading, 0)
         elif last[1] == MOST_COUNTER:
-            raise Refused(b"refused 3 at " + put(last))
+            raise Refused(3, last)
         else:
             self.clocks[node] = (last[0], last[1] + 1)
         return self.clocks[node]
 
-    def issue(self, node, reading, key, value, is_write):
+    def issue(self, node, reading, *writes):
         self.active(node)
-        if is_write and not key_fits(key):
-            raise Refused(b"refused 12")
-        if not value_fits(value):
-            raise Refused(b"refused 13")
+        for key, value in writes:
+            if not key_fits(key):
+                raise Refused(12)
+            if not value_fits(value):
+                raise Refused(13)
         at = self.tick(node, reading)
-        self.items[node].append((at, (key, at, node, value) if is_write else None))
+        self.items[node].append((at, writes))
         return [b"stamp %s item %d" % (put(at), len(self.items[node]) - 1)]
 
     def write(self, node, reading, key, value):
-        return self.issue(node, reading, key, value, True)
+        return self.issue(node, reading, (key, value))
 
     def delete(self, node, reading, key):
-        return self.issue(node, reading, key, None, True)
+        return self.issue(node, reading, (key, None))
 
     def report(self, node, reading):
-        return self.issue(node, reading, None, None, False)
+        return self.issue(node, reading)
 
     def retire(self, node, reading):
-        returned = self.issue(node, reading, None, None, False)
+        returned = self.issue(node, reading)
         self.closed[node] = True
         return returned
 
@@ -220,83 +188,47 @@ class World:
     def receive(self, node, reading, message):
         self.active(node)
         if message >= len(self.messages):
-            raise Refused(b"refused 4")
+            raise Refused(4)
         return [b"stamp " + put(self.tick(node, reading, self.messages[message]))]
 
     def observe(self, node, reading, snapshot):
         self.active(node)
-        return [b"stamp " + put(self.tick(node, reading, self.at(snapshot)))]
+        return [b"stamp " + put(self.tick(node, reading, self.store.at(snapshot)))]
 
     def deliver(self, node, item):
         self.known(node)
         if item >= len(self.items[node]):
-            raise Refused(b"refused 5")
-        if self.retired[node]:
-            raise Refused(b"refused 27")
-        if item != self.taken[node]:
-            raise Refused(b"refused 6 next %d" % self.taken[node])
-        at, write = self.items[node][item]
-        self.taken[node] += 1
-        self.heads[node] = at
-        self.retired[node] = self.closed[node] and self.taken[node] == len(self.items[node])
-        if write is not None:
-            self.writes.append(write)
+            raise Refused(5)
+        at, writes = self.items[node][item]
+        self.store.accept(node, item, at, writes, self.closed[node] and item == len(self.items[node]) - 1)
         return [b"accepted " + put(at)]
 
     def open(self, at):
-        if at is not None and at > self.least():
-            raise Refused(b"refused 8 floor " + put(self.least()))
-        if at is not None and at < self.horizon:
-            raise Refused(b"refused 9 horizon " + put(self.horizon))
-        if len(self.snapshots) == 1_024:
-            raise Refused(b"refused 11")
-        self.opened += 1
-        self.snapshots[self.opened] = self.least() if at is None else at
-        return [b"snapshot %d at %s" % (self.opened, put(self.snapshots[self.opened]))]
-
-    def at(self, snapshot):
-        if snapshot not in self.snapshots:
-            raise Refused(b"refused 10")
-        return self.snapshots[snapshot]
+        snapshot = self.store.open(self.store.floor() if at is None else at)
+        return [b"snapshot %d at %s" % (snapshot, put(self.store.at(snapshot)))]
 
     def read(self, snapshot, key):
-        value = newest(self.writes, key, self.at(snapshot))
+        value = self.store.read(snapshot, key)
         return [b"none" if value is None else b"value " + spelled(value)]
 
     def list(self, snapshot):
-        bound = self.at(snapshot)
-        answers = [(key, newest(self.writes, key, bound)) for key in sorted({write[0] for write in self.writes})]
-        rows = [b"row %s %s" % (spelled(key), spelled(value)) for key, value in answers if value is not None]
+        rows = [b"row %s %s" % (spelled(key), spelled(value)) for key, value in self.store.list(snapshot).items()]
         return [b"listing %d" % len(rows)] + rows
 
     def close(self, snapshot):
-        at = self.at(snapshot)
-        del self.snapshots[snapshot]
-        return [b"closed " + put(at)]
-
-    def least(self):
-        """Returns the floor (closed timestamp): the least head of the nodes whose last item was not accepted; if there
-        is none, the greatest accepted stamp."""
-        left = [head for head, retired in zip(self.heads, self.retired) if not retired]
-        return min(left) if left else max(self.heads)
+        return [b"closed " + put(self.store.close(snapshot))]
 
     def floor(self):
-        return [b"floor " + put(self.least())]
-
-    def above(self, bound):
-        return sum(write[1] > bound for write in self.writes)
+        return [b"floor " + put(self.store.floor())]
 
     def vacuum(self):
-        floor = self.least()
-        found = changes(self.writes, sorted({floor, *self.snapshots.values()}))
-        before = self.kept + self.above(self.horizon) - self.above(floor)
-        self.horizon, self.kept = floor, len(found)
-        stays = cost(newest_write(self.writes, key, at) for key, _, at in found)
-        first = b"vacuum %s kept %d dropped %d bytes %d" % (put(floor), len(found), before - len(found), stays)
-        return [first] + [witness_line(change) for change in found]
+        floor = self.store.floor()
+        _, changes, kept, bytes, dropped = self.store.vacuum(floor)
+        first = b"vacuum %s kept %d dropped %d bytes %d" % (put(floor), kept, dropped, bytes)
+        return [first] + [witness_line(change) for change in changes]
 
     def rows(self):
-        return [b"rows %d" % (self.kept + self.above(self.horizon))]
+        return [b"rows %d" % len(self.store.rows)]
 
 
 def run(text):
