@@ -1,22 +1,6 @@
 /* Which answer comes first where more than one reason applies, what the answers say, buffers that are too short, and
  * handles that were moved. */
-#include "hlcstore.h"
-#include <inttypes.h>
-#include <stdio.h>
-#include <string.h>
-
-#define BYTES(s) (const uint8_t *)(s), sizeof(s) - 1
-#define AT(l) ((uint64_t)(l) << 16)
-
-static int wrong;
-
-/* Checks that a call returned, and wrote, what is expected. */
-static void expect(const char *call, uint32_t code, uint64_t returned, uint32_t expected_code, uint64_t expected)
-{
-    if (code == expected_code && returned == expected) return;
-    printf("%s %" PRIu32 " %" PRIu64 "\n", call, code, returned);
-    wrong++;
-}
+#include "expect.h"
 
 static void expect_text(uint32_t answer, const char *text)
 {
@@ -146,6 +130,5 @@ int main(void)
     short_of_room(&store);
     empty_part(&store);
     move(&store, &output);
-    printf("%s\n", wrong ? "wrong" : "all right");
-    return wrong != 0;
+    return ended();
 }

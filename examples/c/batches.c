@@ -1,34 +1,7 @@
 /* Several writes as one item: a snapshot shows all of them or none. The builder and the reader of hlcstore_inline.h,
  * each refusal of the calls for a batch, which leaves nothing, and the bytes of a batch, written out by hand. It is
  * compiled as C and as C++. */
-#include "hlcstore_inline.h"
-#include <inttypes.h>
-#include <stdio.h>
-#include <string.h>
-
-#define EXPECT(made, wanted) expect(__LINE__, (uint64_t)(made), (uint64_t)(wanted))
-#define BYTES(s) (const uint8_t *)(s), sizeof(s) - 1
-#define NONE NULL, 0
-#define AT(l) HLC_STAMP(l, 0)
-
-static int wrong;
-
-static void expect(int line, uint64_t made, uint64_t wanted)
-{
-    if (made == wanted) return;
-    printf("line %d: %" PRIu64 " in place of %" PRIu64 "\n", line, made, wanted);
-    wrong++;
-}
-
-static bool is(hlc_bytes bytes, const char *text)
-{
-    return bytes.len == strlen(text) && memcmp(bytes.at, text, bytes.len) == 0;
-}
-
-static bool is_none(hlc_bytes bytes)
-{
-    return bytes.at == NULL && bytes.len == 0;
-}
+#include "expect.h"
 
 /* Whether a key has this value at a stamp, or none where the text is NULL. */
 static bool has(hlc_store *store, uint64_t stamp, const char *key, const char *text)
@@ -389,6 +362,5 @@ int main(void)
     build_longest();
     read_item();
     refuse_item();
-    printf("%s\n", wrong ? "wrong" : "all right");
-    return wrong != 0;
+    return ended();
 }

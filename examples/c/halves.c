@@ -2,28 +2,15 @@
  * the log: each half takes a write of a key of the other as a report. A half answers as the store does at each of its
  * keys, and no key of the other half is in it. Joined again, the halves are byte for byte the checkpoint of the store.
  * The items are random, of a fixed seed. */
-#include "hlcstore.h"
-#include <inttypes.h>
-#include <stdio.h>
+#include "expect.h"
 #include <stdlib.h>
-#include <string.h>
 
-#define AT(l) ((uint64_t)(l) << 16)
 #define NODES 3
 #define KEYS 26
 #define ROUNDS 200
 #define BOUND 'k'
 
-static int wrong;
 static uint32_t seed = 1;
-
-/* Checks that a call returned, and wrote, what is expected. */
-static void expect(const char *call, uint32_t code, uint64_t word, uint32_t expected_code, uint64_t expected)
-{
-    if (code == expected_code && word == expected) return;
-    printf("%s %" PRIu32 " %" PRIu64 "\n", call, code, word);
-    wrong++;
-}
 
 static uint32_t pick(uint32_t below)
 {
@@ -188,6 +175,5 @@ static void divide(void)
 int main(void)
 {
     for (int i = 0; i < ROUNDS; i++) divide();
-    printf("%s\n", wrong ? "wrong" : "all right");
-    return wrong != 0;
+    return ended();
 }

@@ -1,35 +1,10 @@
 /* hlcstore_inline.h: its readers on bytes that are whole, cut and damaged, its structs beside the calls that they are
  * made of, its reads of a const store, and its texts; items are read as the library reads them. It is compiled as C and
  * as C++. */
-#include "hlcstore_inline.h"
-#include <inttypes.h>
-#include <stdio.h>
-#include <string.h>
+#include "expect.h"
 
-#define EXPECT(made, wanted) expect(__LINE__, (uint64_t)(made), (uint64_t)(wanted))
-#define BYTES(s) (const uint8_t *)(s), sizeof(s) - 1
-#define NONE NULL, 0
 /* A length of eight bytes, of which the low one is given. */
 #define LEN(low) low "\0\0\0\0\0\0\0"
-
-static int wrong;
-
-static void expect(int line, uint64_t made, uint64_t wanted)
-{
-    if (made == wanted) return;
-    printf("line %d: %" PRIu64 " in place of %" PRIu64 "\n", line, made, wanted);
-    wrong++;
-}
-
-static bool is(hlc_bytes bytes, const char *text)
-{
-    return bytes.len == strlen(text) && memcmp(bytes.at, text, bytes.len) == 0;
-}
-
-static bool is_none(hlc_bytes bytes)
-{
-    return bytes.at == NULL && bytes.len == 0;
-}
 
 /* ---- Stamps ---- */
 
@@ -521,6 +496,5 @@ int main(void)
     find_snapshots(HLC_MAX_OPEN_SNAPSHOTS, 2);
     find_snapshots(HLC_MAX_OPEN_SNAPSHOTS, HLC_MAX_OPEN_SNAPSHOTS + 1);
     apply_a_log();
-    printf("%s\n", wrong ? "wrong" : "all right");
-    return wrong != 0;
+    return ended();
 }

@@ -1,25 +1,13 @@
 /* Each limit of hlcstore.h: the library takes as much, and refuses one more; and the greatest lengths of what it
  * writes, of which a buffer of so many bytes gets one. It is compiled as C and as C++. */
-#include "hlcstore.h"
-#include <inttypes.h>
-#include <stdio.h>
+#include "expect.h"
 
-#define EXPECT(made, wanted) expect(__LINE__, (uint64_t)(made), (uint64_t)(wanted))
 #define KEY key, HLC_MAX_KEY
 #define VALUE value, HLC_MAX_VALUE
-#define NONE NULL, 0
 
-static int wrong;
 static uint8_t key[HLC_MAX_KEY + 1], value[HLC_MAX_VALUE + 1];
 /* Room for one of each, and a byte more. */
 static uint8_t out[HLC_MAX_ITEM + 1];
-
-static void expect(int line, uint64_t made, uint64_t wanted)
-{
-    if (made == wanted) return;
-    printf("line %d: %" PRIu64 " in place of %" PRIu64 "\n", line, made, wanted);
-    wrong++;
-}
 
 /* A stamp at a millisecond has its counter at 0. */
 static void limit_stamps(void)
@@ -132,6 +120,5 @@ int main(void)
     limit_nodes();
     limit_snapshots();
     limit_outputs();
-    printf("%s\n", wrong ? "wrong" : "all right");
-    return wrong != 0;
+    return ended();
 }

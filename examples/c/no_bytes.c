@@ -1,21 +1,5 @@
 /* (NULL, 0) represents no bytes: for a key, a value, a buffer, entries and their bytes. */
-#include "hlcstore.h"
-#include <inttypes.h>
-#include <stdio.h>
-
-#define BYTES(s) (const uint8_t *)(s), sizeof(s) - 1
-#define NONE NULL, 0
-#define AT(l) ((uint64_t)(l) << 16)
-
-static int wrong;
-
-/* Checks that a call returned, and wrote, what is expected. */
-static void expect(const char *call, uint32_t code, uint64_t returned, uint32_t expected_code, uint64_t expected)
-{
-    if (code == expected_code && returned == expected) return;
-    printf("%s %" PRIu32 " %" PRIu64 "\n", call, code, returned);
-    wrong++;
-}
+#include "expect.h"
 
 static void issue(hlc_node *node)
 {
@@ -195,6 +179,5 @@ int main(void)
     feed(&store);
     read_back(&store);
     hlc_store_close(&store);
-    printf("%s\n", wrong ? "wrong" : "all right");
-    return wrong != 0;
+    return ended();
 }

@@ -1,12 +1,6 @@
 /* A certificate, a checkpoint and an increment are read from an output, in pieces of any size and from any place. An
  * output that has bytes keeps them, and a call that gets it does nothing. */
-#include "hlcstore.h"
-#include <inttypes.h>
-#include <stdio.h>
-#include <string.h>
-
-#define BYTES(s) (const uint8_t *)(s), sizeof(s) - 1
-#define AT(l) ((uint64_t)(l) << 16)
+#include "expect.h"
 
 enum { ROOM = 256 };
 
@@ -15,15 +9,6 @@ static const char TEXT[] = "point 2.0\nrow city 2.0 0 value Lyon\nwitness city n
 static const size_t TEXT_LEN = sizeof TEXT - 1;
 
 static hlc_store store = HLC_CLOSED_STORE;
-static int wrong;
-
-/* Checks that a call returned, and wrote, what is expected. */
-static void expect(const char *call, uint32_t code, uint64_t returned, uint32_t expected_code, uint64_t expected)
-{
-    if (code == expected_code && returned == expected) return;
-    printf("%s %" PRIu32 " %" PRIu64 "\n", call, code, returned);
-    wrong++;
-}
 
 static void accept(uint64_t number, uint64_t stamp, const uint8_t *value, size_t value_len)
 {
@@ -210,6 +195,5 @@ int main(void)
     advance(&output);
     save(&output);
     hlc_output_drop(&output);
-    printf("%s\n", wrong ? "wrong" : "all right");
-    return wrong != 0;
+    return ended();
 }

@@ -1,11 +1,7 @@
-/* A vacuum in parts, in which keys lose all their rows, and one that ends at the longest key; savings in pieces of which
- * some are given up or refused, and restores from pieces likewise. Keys and values are longer than 30 bytes, so each of them has an allocation. */
-#include "hlcstore.h"
-#include <inttypes.h>
-#include <stdio.h>
-#include <string.h>
-
-#define AT(l) ((uint64_t)(l) << 16)
+/* A vacuum in parts, in which keys lose all their rows, and one that ends at the longest key; savings in pieces of
+ * which some are given up or refused, and restores from pieces likewise. Keys and values are longer than 30 bytes, so
+ * each of them has an allocation. */
+#include "expect.h"
 
 enum { VALUE = 30, LONGEST = 255, ROOM = 4096 };
 
@@ -24,15 +20,6 @@ struct part {
 
 static hlc_store store = HLC_CLOSED_STORE;
 static uint64_t number;
-static int wrong;
-
-/* Checks that a call returned, and wrote, what is expected. */
-static void expect(const char *call, uint32_t code, uint64_t returned, uint32_t expected_code, uint64_t expected)
-{
-    if (code == expected_code && returned == expected) return;
-    printf("%s %" PRIu32 " %" PRIu64 "\n", call, code, returned);
-    wrong++;
-}
 
 static void fill(uint8_t *key, int place)
 {
@@ -220,6 +207,5 @@ int main(void)
     restore_in_vain();
     save_in_vain();
     hlc_store_close(&store);
-    printf("%s\n", wrong ? "wrong" : "all right");
-    return wrong != 0;
+    return ended();
 }

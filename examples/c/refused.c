@@ -1,17 +1,12 @@
 /* Refuses one request for memory after another of a story, and of a batch, and checks that the store is unchanged and
  * works on. */
-#include "hlcstore_inline.h"
-#include <stdio.h>
+#include "expect.h"
 #include <stdlib.h>
-#include <string.h>
 
-#define BYTES(s) (const uint8_t *)(s), sizeof(s) - 1
-#define AT(l) ((uint64_t)(l) << 16)
 #define STEPS 23
 #define PIECE 50
 
 static long left = -1;
-static int wrong;
 
 /* The checkpoint that the restores read. */
 static uint8_t saved[1024];
@@ -339,6 +334,5 @@ int main(void)
         while (request < 1000 && refuse_batch(request, way)) request++;
         if (request < 5 || request == 1000) wrong++;
     }
-    printf("%s\n", wrong ? "wrong" : "all right");
-    return wrong != 0;
+    return ended();
 }

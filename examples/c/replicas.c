@@ -1,12 +1,8 @@
 /* Two stores accept the same items in different orders. In each a node joins at the same start and a vacuum drops rows
  * up to the same stamp, while their floors (closed timestamps) differ: both assign the same number to the node, keep
  * the same rows, and return the same answers. */
-#include "hlcstore.h"
-#include <inttypes.h>
-#include <stdio.h>
-#include <string.h>
+#include "expect.h"
 
-#define AT(l) ((uint64_t)(l) << 16)
 #define START AT(25)
 #define THRESHOLD AT(20)
 
@@ -25,16 +21,6 @@ static const struct item items[] = {
 static const int before[2][5] = { { 0, 1, 2, 3, -1 }, { 1, 3, 0, 2, 4 } };
 static const int behind[2][2] = { { 4, 5 }, { 5, -1 } };
 static const uint64_t floors[2] = { AT(20), AT(21) };
-
-static int wrong;
-
-/* Checks that a call returned, and wrote, what is expected. */
-static void expect(const char *call, uint32_t code, uint64_t word, uint32_t expected_code, uint64_t expected)
-{
-    if (code == expected_code && word == expected) return;
-    printf("%s %" PRIu32 " %" PRIu64 "\n", call, code, word);
-    wrong++;
-}
 
 static void accept(hlc_store *store, const int *indices, int many)
 {
@@ -111,6 +97,5 @@ int main(void)
         hlc_store_close(&store);
     }
     if (len[0] != len[1] || memcmp(out[0], out[1], len[0]) != 0) wrong++;
-    printf("%s\n", wrong ? "wrong" : "all right");
-    return wrong != 0;
+    return ended();
 }

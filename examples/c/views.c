@@ -1,27 +1,12 @@
 /* What hlc_snapshot_view finds: the answers of hlc_snapshot_read, without a copy, at a place that stays. Values lie in
  * a row up to 30 bytes, and beside it from 31 on. It is compiled as C and as C++. */
-#include "hlcstore.h"
-#include "hlcstore_inline.h"
-#include <inttypes.h>
-#include <stdio.h>
-#include <string.h>
+#include "expect.h"
 
-#define EXPECT(made, wanted) expect(__LINE__, (uint64_t)(made), (uint64_t)(wanted))
-#define AT(l) HLC_STAMP(l, 0)
 #define LENGTHS 7
-#define NONE NULL, 0
 
 static const size_t lengths[LENGTHS] = { 0, 1, 29, 30, 31, 4096, HLC_MAX_VALUE };
 static uint8_t bytes[HLC_MAX_VALUE], out[HLC_MAX_VALUE];
 static uint64_t number, reading;
-static int wrong;
-
-static void expect(int line, uint64_t made, uint64_t wanted)
-{
-    if (made == wanted) return;
-    printf("line %d: %" PRIu64 " in place of %" PRIu64 "\n", line, made, wanted);
-    wrong++;
-}
 
 /* The bytes of the value of a write. */
 static const uint8_t *value_of(uint64_t write, size_t len)
@@ -153,6 +138,5 @@ int main(void)
     view_lengths();
     view_beside();
     view_by_lot();
-    printf("%s\n", wrong ? "wrong" : "all right");
-    return wrong != 0;
+    return ended();
 }
