@@ -1,5 +1,5 @@
 -- The floor of the links is that of the state, which without its rows is one of a store if no reason was found.
-use Rattle.std.proofs.Common.{◌≡◌, ◌≤◌, All, List, true≢false, sym, subst, rules, tt}
+use Rattle.std.proofs.Common.{◌≡◌, ◌≤◌, All, List, true≢false, sym, subst, rules}
 use Rattle.std.proofs.lemmas.Grind.{common_steps}
 use Rattle.std.proofs.lemmas.List.Elements.{All-nil}
 use Rattle.hlc_snapshot.specs.declared.snapshot.Snapshot.{Snapshot}
