@@ -1,5 +1,5 @@
 pub mod Entered
-pub mod Certificates
+pub mod Certifying
 pub mod Refusals
 pub mod Holders
 pub mod Logs
