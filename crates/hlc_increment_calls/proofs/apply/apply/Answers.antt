@@ -1,6 +1,7 @@
 -- What was read is what the bytes are of, and the newer checkpoint is what was made of it.
 use Rattle.std.proofs.Common.{◌≡◌, ℕ, ap, sym, ◌∙◌, subst, refl, inl, inr, rules}
 use Rattle.std.proofs.lemmas.Grind.{common_steps}
+use Rattle.std.proofs.lemmas.Result.{err_from_is_err_and}
 use Rattle.hlc_wire.proofs.FieldLemmas.{ok_is}
 use Rattle.hlc_core.specs.StoreView.{StoreView, Represents}
 use Rattle.hlc_body.specs.Reading.{saved}
@@ -10,6 +11,19 @@ use Rattle.hlc_increment.specs.Increment.{IncrementView, IsIncrementOf}
 use Rattle.hlc_increment.specs.Bytes.{increment_at}
 use Rattle.hlc_increment.proofs.BytesLemmas.{increment_again}
 use Rattle.hlc_increment_calls.proofs.apply.apply.Goals as goal
+
+pub returns-in_err-made-clause-err : goal.returns-in_err-made-clause-err
+returns-in_err-made-clause-err c =
+    let p = err_from_is_err_and c.from_residual-in_err-made.result c.from_residual-in_err-made.ensures.1 in
+    rw (p.1, p.2)
+    (inr (inr (
+      c.in_ok-kept.kept,
+      c.in_ok-read.field-0.tag,
+      c.in_ok-read.field-0.increment,
+      c.in_ok-kept.ensures,
+      c.in_ok-read.ensures,
+      inl c.in_err-made.ensures.err,
+    )))
 
 pub returns-in-Err : goal.returns-in-Err
 returns-in-Err c = record {
