@@ -11,6 +11,7 @@ import random
 import struct
 import sys
 
+from no_memory import writes_of
 from raw_calls import Handle, Library
 from reference import Store, listing
 
@@ -42,14 +43,6 @@ def accept(name, *args):
     ok(name, *args)
 
 
-def spelled(writes):
-    """The bytes of the writes of a batch."""
-    parts = []
-    for key, value in writes:
-        parts += [bytes([len(key)]), key, b"\0" if value is None else b"\1" + struct.pack(">H", len(value)) + value]
-    return b"".join(parts)
-
-
 def take_part(data, at):
     """The bytes at a place, with their length before them, and the place behind them."""
     (length,) = struct.unpack_from("<Q", data, at)
@@ -77,7 +70,7 @@ class History:
         if kind == "batch":
             keys = self.pick.sample(KEYS, self.pick.randint(1, len(KEYS)))
             writes = [(key, self.pick.choice((None, *VALUES))) for key in keys]
-            parts = (len(writes), spelled(writes))
+            parts = writes_of(*writes)
             self.batches.append((stamp, node, writes))
         elif kind != "report":
             parts = (key,) if value is None else (key, value)

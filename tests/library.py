@@ -11,6 +11,7 @@ from typing import NamedTuple
 
 import no_memory
 from model import certificate_line
+from no_memory import framed
 from raw_calls import PLACE, Handle, Library
 from reference import Store, sizes
 
@@ -236,14 +237,9 @@ def shared_record(pick, model, nodes, reading):
     return whole("record_encode_join", model.join(start), start), 0
 
 
-def item_bytes(kind, node, number, stamp, key=b"", value=b""):
-    """The bytes of an item, as docs/formats.md has them."""
-    body = {
-        "write": b"\0%c%s\1" % (len(key), key) + struct.pack(">H", len(value)) + value,
-        "delete": b"\0%c%s\0" % (len(key), key),
-        "report": b"\1",
-        "retire": b"\2",
-    }[kind]
+def item_bytes(kind, node, number, stamp, key=b"", value=None):
+    """The bytes of an item that is no batch, as docs/formats.md has them."""
+    body = {"report": b"\1", "retire": b"\2"}.get(kind) or b"\0" + no_memory.writes_of((key, value))[1]
     return struct.pack(">BHQQ", 1, node, number, stamp) + body
 
 
@@ -428,7 +424,7 @@ def compare(pick, store, model, keys):
 
 
 def certified_rows(text):
-    """The rows of a certificate."""
+    """The rows of a certificate, as those of a store."""
     rows = (certificate_line(line) for line in text.split(b"\n") if line.startswith(b"row "))
     return [(key, physical << 16 | counter, node, value) for key, (physical, counter), node, value in rows]
 
@@ -549,12 +545,6 @@ def refuse_full(pick, store):
     assert tuple(library.call("increment_apply", saved, b"", output)) == (HAS_BYTES, 0, 0)
     assert read_pieces(pick, output, length) == saved and whole_state(pick, store) == saved
     library.call("output_drop", output)
-
-
-def framed(body, tag):
-    """The bytes of a frame, as docs/formats.md has them."""
-    front = struct.pack(">IQQ", 1, len(body), tag) + body
-    return front + hashlib.sha256(front).digest()
 
 
 def refuse_increments(pick, store, model, older, many):

@@ -144,12 +144,16 @@ def filled_store(calls):
     return store, number
 
 
+def framed(body, tag):
+    """The bytes of a frame, as docs/formats.md has them."""
+    front = struct.pack(">IQQ", 1, len(body), tag) + body
+    return front + hashlib.sha256(front).digest()
+
+
 def checkpoint_of(nodes, next, opened):
     """The bytes of a checkpoint of so many nodes at the start, of which there is one, and of so many snapshots that
     were opened."""
-    body = struct.pack(">HHQQBHQQQ", nodes, 1, next, TOP, 0, 0, opened, 0, 0)
-    front = struct.pack(">IQQ", 1, len(body), 0) + body
-    return front + hashlib.sha256(front).digest()
+    return framed(struct.pack(">HHQQBHQQQ", nodes, 1, next, TOP, 0, 0, opened, 0, 0), 0)
 
 
 def spent_store(calls):
