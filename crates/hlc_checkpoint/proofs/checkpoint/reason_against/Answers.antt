@@ -12,6 +12,7 @@ pub returns : goal.returns
 returns c =
     let head : IsStoreHead c.args.checkpoint.now = search (rules, common_steps) in
     let ascend : RowsAscend c.args.checkpoint.now.rows = search (rules, common_steps) in
-    let under : All (IsUnderHead c.args.checkpoint.now.links) c.args.checkpoint.now.rows = search (rules, common_steps) in
+    let under : All (IsUnderHead c.args.checkpoint.now.links) c.args.checkpoint.now.rows =
+    search (rules, common_steps) in
     let limits : AreInLimits c.args.checkpoint.now.rows = search (rules, common_steps) in
     head-checkpoint c.args.checkpoint.now head ascend under limits
