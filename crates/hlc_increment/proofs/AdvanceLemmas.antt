@@ -435,9 +435,9 @@ pub fits-unless_above : (older newer : StoreView) (increment : IncrementView) (p
     → IsReason older increment fault → floor past < increment.since
 fits-unless_above older newer increment past more h is g of is' (faults.Parts fault) (inl none) =
     absurd (sound-has_no_reason older fault is none)
-fits-unless_above older newer increment past more h is g of is' (faults.Parts fault) (inr none) =
+fits-unless_above older newer increment past more h is g of is' (faults.Parts fault) (inr (sound, none)) =
     absurd (sound-has_no_reason increment.state fault is' none)
-fits-unless_above older newer increment past more h is g of is' faults.NotLater none =
+fits-unless_above older newer increment past more h is g of is' faults.NotLater reason =
     let state : increment.state ≡ with_rows newer increment.state.rows = of.copy.same in
     let links : length increment.state.links ≡ length newer.links =
     ap (λ (view : StoreView). length view.links) state in
@@ -445,7 +445,7 @@ fits-unless_above older newer increment past more h is g of is' faults.NotLater 
     let grown = numbered-grows past more in
     let rose = horizon-grows past more g.legal in
     let some : 0 < initial_nodes past = rw (← h.initial_nodes) is.store.sound.nodes.some in
-    absurd (none (record {
+    absurd (reason.2 (record {
       initial_nodes = h.initial_nodes ∙ sym (initial_nodes-stay past more some g.legal) ∙ sym g.initial_nodes
           ∙ sym (ap (λ (view : StoreView). view.initial_nodes) state);
       links = (let before = h.links.many in let after = g.links.many in omega (arith, before, grown, after, links));
@@ -453,13 +453,13 @@ fits-unless_above older newer increment past more h is g of is' faults.NotLater 
     }))
 fits-unless_above older newer increment past more h is g of is' (faults.AboveFloor f) reason =
     let same : floor_in older ≡ floor past = floor-in older past h in
-    omega (arith, same, reason.0, reason.1)
+    omega (arith, same, reason.1, reason.2)
 fits-unless_above older newer increment past more h is g of is' (faults.BelowHorizon f) reason =
     absurd (let at : increment.state.horizon ≡ newer.horizon =
     ap (λ (view : StoreView). view.horizon) of.copy.same in
-    let high = of.horizon in omega (arith, at, high, reason.0, reason.1))
-fits-unless_above older newer increment past more h is g of is' faults.RowUpToStamp none =
-    absurd (none (All-permutation (λ (row : Row). increment.since < row.stamp)
+    let high = of.horizon in omega (arith, at, high, reason.2, reason.3))
+fits-unless_above older newer increment past more h is g of is' faults.RowUpToStamp reason =
+    absurd (reason.3 (All-permutation (λ (row : Row). increment.since < row.stamp)
     (rows_above increment.since newer.rows) increment.state.rows of.copy.rows.same
     (All-weaker (λ (row : Row). ltb increment.since row.stamp ≡ true) (λ (row : Row). increment.since < row.stamp)
     (λ row t. ltb-true increment.since row.stamp t) (rows_above increment.since newer.rows)

@@ -61,11 +61,22 @@ pub record AreFitting (older : StoreView) (increment : IncrementView) : Type 0 w
   pub high : increment.state.horizon ≤ increment.since
   pub above : All (λ row. increment.since < row.stamp) increment.state.rows
 
--- why the checkpoint does not become a newer one
+-- both are checkpoints, the one perhaps later than the other
+abbrev pub AreInOrder : StoreView → StoreView → Type 0
+AreInOrder older newer = IsCheckpoint older × IsCheckpoint newer × MayBeLater older newer
+
+-- the first reason why the checkpoint does not become a newer one
 abbrev pub IsReason : StoreView → IncrementView → AdvanceFault → Type 0
-IsReason older increment (Parts fault) = IsFirstReason older fault ⊎ IsFirstReason increment.state fault
-IsReason older increment NotLater = MayBeLater older increment.state → ⊥
-IsReason older increment (AboveFloor floor) = (floor ≡ floor_in older) × (floor < increment.since)
+IsReason older increment (Parts fault) =
+    IsFirstReason older fault ⊎ (IsCheckpoint older × IsFirstReason increment.state fault)
+IsReason older increment NotLater =
+    IsCheckpoint older × IsCheckpoint increment.state × (MayBeLater older increment.state → ⊥)
+IsReason older increment (AboveFloor floor) =
+    AreInOrder older increment.state × (floor ≡ floor_in older) × (floor < increment.since)
 IsReason older increment (BelowHorizon horizon) =
-    (horizon ≡ increment.state.horizon) × (increment.since < horizon)
-IsReason older increment RowUpToStamp = All (λ row. increment.since < row.stamp) increment.state.rows → ⊥
+    AreInOrder older increment.state × (increment.since ≤ floor_in older) × (horizon ≡ increment.state.horizon)
+    × (increment.since < horizon)
+IsReason older increment RowUpToStamp =
+    AreInOrder older increment.state × (increment.since ≤ floor_in older)
+    × (increment.state.horizon ≤ increment.since)
+    × (All (λ row. increment.since < row.stamp) increment.state.rows → ⊥)

@@ -1,5 +1,6 @@
 //! An older checkpoint that becomes a newer one by an increment.
-ghost use Rattle.std.specs.Prelude.{◌≡◌, ◌<◌, ◌++◌, ◌↔◌, All, IfOk, IfErr, OnErr, IfSome, IsTrue, List, None};
+ghost use Rattle.std.specs.Prelude.{◌≡◌, ◌<◌, ◌++◌, ◌↔◌, All, IfOk, IfErr, OnOk, OnErr, IfSome, IsTrue, List};
+ghost use Rattle.std.specs.Prelude.{None};
 ghost use Rattle.std.specs.List.Sorted.{IsPermutation};
 ghost use Rattle.hlc_table_column.specs.Rows.{rows_to};
 ghost use Rattle.hlc_witness.specs.Certificate.{RowsAscend};
@@ -99,6 +100,7 @@ pub fn advance(
     increment: Increment,
 ) -> Result<Result<Checkpoint, AdvanceFault>, NoMemory>
     ensures ok { IfOk result (λ made. IfOk made (IsAdvanced older increment)) }
+    ensures fitting { IfOk result (λ made. OnOk made (AreFitting older increment)) }
     ensures represents { (past more : List Step) (newer : StoreView) → Represents older past
         → Represents newer (more ++ past) → IsIncrementOf newer increment
         → IfOk result (λ made. IfOk made

@@ -57,7 +57,8 @@ IsNotJoined older increment code word =
     ⊎ ((reason : AdvanceFault) × IsReason older increment reason × (code ≡ advance_code reason)
     × (word ≡ advance_word reason))
 
--- the bytes are those of the checkpoint that the older one becomes by the increment, with the increment's tag
+-- the bytes are those of the checkpoint that the older one becomes by the increment, which fits it, with the
+-- increment's tag
 pub record AreAdvanced (older increment bytes : List ℕ) : Type 0 where
   pub kept : StoreView
   pub tag : ℕ
@@ -65,22 +66,24 @@ pub record AreAdvanced (older increment bytes : List ℕ) : Type 0 where
   pub made : StoreView
   pub of_older : IsRead older kept
   pub of_increment : IsReadIncrement increment tag read
+  pub fit : AreFitting kept read
   pub advanced : IsAdvanced kept read made
   pub spelled : AreOf bytes tag made
 
--- what both make is no checkpoint, for a reason: the increment is not of a later state; or out of memory, and it is one
+-- both fit each other, but what they make is no checkpoint, since the increment is not of a later state; or out of
+-- memory, and it is one
 abbrev pub MakesNone : StoreView → IncrementView → ℕ → ℕ → Type 0
 MakesNone kept read code word =
-    (made : StoreView) × IsAdvanced kept read made
+    (made : StoreView) × AreFitting kept read × IsAdvanced kept read made
     × (((code ≡ 15) × IsCheckpoint made) ⊎ ((reason : RestoreFault) × IsFirstReason made reason × (code ≡ 111)))
     × (word ≡ 0)
 
--- no bytes were made: one of both was not read, or they were not joined; or what they make is no checkpoint, since the
--- increment is not of a later state of the store
+-- no bytes were made: the older one was not read; it was, but not the increment; both were, but not joined; or what
+-- they make is no checkpoint
 abbrev pub IsNotAdvanced : List ℕ → List ℕ → ℕ → ℕ → Type 0
 IsNotAdvanced older increment code word =
     IsNotRead older code word
-    ⊎ (IsNotReadIncrement increment code word
-    ⊎ ((kept : StoreView) × (after : ℕ) × (read : IncrementView) × IsRead older kept
-    × IsReadIncrement increment after read
-    × (IsNotJoined kept read code word ⊎ MakesNone kept read code word)))
+    ⊎ ((kept : StoreView) × IsRead older kept
+    × (IsNotReadIncrement increment code word
+    ⊎ ((after : ℕ) × (read : IncrementView) × IsReadIncrement increment after read
+    × (IsNotJoined kept read code word ⊎ MakesNone kept read code word))))

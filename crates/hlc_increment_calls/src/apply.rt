@@ -1,9 +1,10 @@
 //! The bytes of an older checkpoint, which become those of a newer one by an increment.
-ghost use Rattle.std.specs.Prelude.{◌≡◌, ◌++◌, ℕ, List, IfOk, IfErr, MatchResult};
+ghost use Rattle.std.specs.Prelude.{◌≡◌, ◌++◌, ℕ, List, IfOk, IfErr, OnOk, MatchResult};
 ghost use Rattle.hlc_core.specs.Past.{Step};
 ghost use Rattle.hlc_core.specs.StoreView.{StoreView, Represents};
 ghost use Rattle.hlc_saved.specs.Saved.{AreOf, BytesRepresent};
-ghost use Rattle.hlc_increment.specs.Increment.{IncrementView, IsAdvanced, IsIncrementOf, without_drops};
+ghost use Rattle.hlc_increment.specs.Increment.{IncrementView, AreFitting, IsAdvanced, IsIncrementOf};
+ghost use Rattle.hlc_increment.specs.Increment.{without_drops};
 ghost use Rattle.hlc_increment.specs.Faults.{advance_code, advance_word};
 ghost use Rattle.hlc_increment.specs.Bytes.{IncrementFits, increment_bytes};
 ghost use Rattle.hlc_increment_calls.specs.Increments.{AreAdvanced, IsNotAdvanced, IsRead, IsReadIncrement};
@@ -59,6 +60,7 @@ fn refuse(fault: &AdvanceFault, word: &mut u64) -> u32
 /// Joins both. Returns the newer checkpoint; or 107 and the number of the reason, 111, 8 and the floor, 110, or 15.
 fn joined(older: Checkpoint, increment: Increment, word: &mut u64) -> Result<Checkpoint, u32>
     ensures ok { IfOk result (IsAdvanced older increment) }
+    ensures fitting { OnOk result (AreFitting older increment) }
     ensures represents { (past more : List Step) (newer : StoreView) → Represents older past
         → Represents newer (more ++ past) → IsIncrementOf newer increment
         → IfOk result (λ made. Represents made (without_drops more ++ past)) }

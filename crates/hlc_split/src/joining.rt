@@ -85,7 +85,7 @@ pub fn merge(
         → Represents left own_left → Represents right own_right
         → IfOk result (λ made. IfOk made
         (λ whole. RepresentsPart (λ _. true) whole (PartVacuumed left.horizon 0 ∷ past))) }
-    ensures divided { IfOk result (λ made. OnOk made (AreJoinable left right)) }
+    ensures joinable { IfOk result (λ made. OnOk made (AreJoinable left right)) }
     ensures err { IfOk result (λ made. IfErr made (IsReason left right)) }
     ensures memory { OnErr result (AreJoinable left right) }
 {

@@ -41,13 +41,14 @@ pub record AreHalves (bytes key left right : List ℕ) : Type 0 where
   pub below : AreOf left tag (part_of (is_under key) kept)
   pub rest : AreOf right tag (part_of (is_from key) kept)
 
--- no bytes were made: the checkpoint was not read, or a part of it is none; or memory ran out
+-- no bytes were made: the checkpoint was not read; or the part below the key is none; or it is one, but the rest is
+-- none; or memory ran out
 abbrev pub IsNotDivided : List ℕ → List ℕ → ℕ → ℕ → Type 0
 IsNotDivided bytes key code word =
     IsNotRead bytes code word
     ⊎ ((own : ℕ) × (kept : StoreView) × IsRead bytes own kept
     × (IsNoCheckpoint (part_of (is_under key) kept) code word
-    ⊎ IsNoCheckpoint (part_of (is_from key) kept) code word))
+    ⊎ (IsCheckpoint (part_of (is_under key) kept) × IsNoCheckpoint (part_of (is_from key) kept) code word)))
 
 -- the left state with the rows of both, those of the left one first
 abbrev pub join_of : StoreView → StoreView → StoreView
@@ -71,12 +72,13 @@ IsNotMerged lower upper code word =
     (IsShort code word × AreJoinable lower upper)
     ⊎ ((fault : MergeFault) × IsReason lower upper fault × (code ≡ 113) × (word ≡ merge_code fault))
 
--- no bytes were made: the left or else the right bytes were not read; or both are not joined; or what both make is no
--- checkpoint
+-- no bytes were made: the left one was not read; it was, but not the right one; both were, but not joined; or what they
+-- make is no checkpoint
 abbrev pub IsNotJoined : List ℕ → List ℕ → ℕ → ℕ → Type 0
 IsNotJoined left right code word =
     IsNotRead left code word
-    ⊎ (IsNotRead right code word
-    ⊎ ((own : ℕ) × (other : ℕ) × (lower : StoreView) × (upper : StoreView) × IsRead left own lower
-    × IsRead right other upper
-    × (IsNotMerged lower upper code word ⊎ IsNoCheckpoint (join_of lower upper) code word)))
+    ⊎ ((own : ℕ) × (lower : StoreView) × IsRead left own lower
+    × (IsNotRead right code word
+    ⊎ ((other : ℕ) × (upper : StoreView) × IsRead right other upper
+    × (IsNotMerged lower upper code word
+    ⊎ (AreJoinable lower upper × IsNoCheckpoint (join_of lower upper) code word)))))

@@ -6,5 +6,5 @@ pub returns-in-Err-written-clause-err : goal.returns-in-Err-written-clause-err
 returns-in-Err-written-clause-err c = not_joined
     c.args.left.now c.args.right.now c.in_ok-lower.field-0.tag c.in_ok-upper.field-0.tag c.in-Err-written.code
     c.written.new.word c.in_ok-lower.field-0.checkpoint c.in_ok-upper.field-0.checkpoint c.in-Ok-Ok.made
-    c.in_ok-lower.ensures c.in_ok-upper.ensures (rw c.in-Ok-Ok.field-0-is at c.in-Ok-Ok.ensures.ok)
-    c.in-Err-written.ensures.err
+    c.in_ok-lower.ensures c.in_ok-upper.ensures (rw c.in-Ok-Ok.field-0-is at c.in-Ok-Ok.ensures.joinable)
+    (rw c.in-Ok-Ok.field-0-is at c.in-Ok-Ok.ensures.ok) c.in-Err-written.ensures.err
