@@ -114,8 +114,8 @@ ReturnsEnd (Some key) len more old new = (len ≡ length key) × (more ≡ true)
 abbrev pub ReturnsPart
     : StoreView → StoreView → ℕ → List ℕ → ℕ → List Step
     → ℕ → ℕ → ℕ → ℕ → ℕ → Bool → List ℕ → List ℕ → Type 0
-ReturnsPart old new at after most past floor kept bytes dropped len more before out =
-    (report : Report) × (end : Option (List ℕ)) × EndsAt old after most end
+ReturnsPart old new at after limit past floor kept bytes dropped len more before out =
+    (report : Report) × (end : Option (List ℕ)) × EndsAt old after limit end
     × VacuumsKeys old new at past (in_part after end) report × AreNumbers (numbers_of report) floor kept bytes dropped
     × ReturnsEnd end len more before out
 
@@ -123,6 +123,6 @@ ReturnsPart old new at after most past floor kept bytes dropped len more before 
 abbrev pub ReturnsVacuumedPart
     : StoreView → StoreView → ℕ → List ℕ → ℕ → List Step
     → ℕ → ℕ → ℕ → ℕ → ℕ → ℕ → Bool → List ℕ → List ℕ → Type 0
-ReturnsVacuumedPart old new at after most past code returned kept bytes dropped len more before out =
+ReturnsVacuumedPart old new at after limit past code returned kept bytes dropped len more before out =
     IsAnswered (vacuum_refusal past at) ⊤
-    (ReturnsPart old new at after most past returned kept bytes dropped len more before out) code returned
+    (ReturnsPart old new at after limit past returned kept bytes dropped len more before out) code returned

@@ -98,14 +98,14 @@ pub fn vacuum_to(
     }
 }
 
-/// Makes a part of a vacuum to a stamp, of the first keys above `after`, at most `most` keys. Returns 0, the stamp, the
-/// numbers of the part, the length of its last key and, where it fits, the key, and whether a key is left above it; or
-/// 8, 9 or 15 and its word, and then changes nothing.
+/// Makes a part of a vacuum to a stamp, of the first keys above `after`, at most `limit` keys. Returns 0, the stamp,
+/// the numbers of the part, the length of its last key and, where it fits, the key, and whether a key is left above it;
+/// or 8, 9 or 15 and its word, and then changes nothing.
 pub fn vacuum_part(
     core: &mut Core,
     at: Stamp,
     after: &[u8],
-    most: usize,
+    limit: usize,
     returned: &mut u64,
     kept: &mut u64,
     bytes: &mut u64,
@@ -115,7 +115,7 @@ pub fn vacuum_part(
     more: &mut bool,
 ) -> u32
     ensures answer { (past : List Step) → Represents core.old past
-        → ReturnsVacuumedPart core.old core.new at after.now most past result returned.new
+        → ReturnsVacuumedPart core.old core.new at after.now limit past result returned.new
         kept.new bytes.new dropped.new len.new more.new out.old out.new }
     ensures unchanged { result ≢ 0 → core.new ≡ core.old }
     ensures nothing { result ≢ 0 → (kept.new ≡ 0) × (bytes.new ≡ 0) × (dropped.new ≡ 0)
@@ -126,7 +126,7 @@ pub fn vacuum_part(
     *dropped = 0;
     *len = 0;
     *more = false;
-    match core.vacuum_part_counted(at, after, most) {
+    match core.vacuum_part_counted(at, after, limit) {
         Ok((numbers, end)) => {
             put_numbers(numbers, returned, kept, bytes, dropped);
             put_end(&end, out, len, more);

@@ -156,10 +156,10 @@ leaf-writable (first ∷ leaves) (suc i) leaf at each =
     leaf-writable leaves i leaf at (all_right IsWritable first (columns_in leaves) each)
 
 -- the columns of the next keys of a table are such columns
-pub next-writable : (rows : List Row) (key : List ℕ) (most : ℕ) (columns : List KeyCells)
-    → IsRowSet rows → AreInLimits rows → AreNext rows key most columns
+pub next-writable : (rows : List Row) (key : List ℕ) (limit : ℕ) (columns : List KeyCells)
+    → IsRowSet rows → AreInLimits rows → AreNext rows key limit columns
     → All IsWritable columns
-next-writable rows key most columns apart low next =
-    let is_in : Row → Bool = λ row. in_part key (part_end key most columns) row.key in
+next-writable rows key limit columns apart low next =
+    let is_in : Row → Bool = λ row. in_part key (part_end key limit columns) row.key in
     all-writable columns (subst IsRowSet next.exact (filter-IsRowSet is_in rows apart))
     (subst AreInLimits next.exact (All-filter is_in IsInLimits rows low))

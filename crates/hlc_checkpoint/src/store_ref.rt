@@ -127,14 +127,14 @@ impl<'a> StoreRef<'a> {
         Ok(Leaves { list })
     }
 
-    /// Returns the columns of the first keys above a key, at most `most` columns, in byte order. It looks up the key,
+    /// Returns the columns of the first keys above a key, at most `limit` columns, in byte order. It looks up the key,
     /// and needs memory for each column, and none for a row.
-    pub fn columns_after(&self, key: &[u8], most: usize) -> Result<Vec<Keyed<'a>>, NoMemory>
+    pub fn columns_after(&self, key: &[u8], limit: usize) -> Result<Vec<Keyed<'a>>, NoMemory>
         requires { AreInLimits self.now.rows }
-        ensures next { IfOk result (λ columns. AreNext self.now.rows key.now most columns.items) }
+        ensures next { IfOk result (λ columns. AreNext self.now.rows key.now limit columns.items) }
         ensures writable { IfOk result (λ columns. All IsWritable columns.items) }
     {
-        let columns = self.table.columns_after(key, most)?;
+        let columns = self.table.columns_after(key, limit)?;
         Ok(columns)
     }
 

@@ -125,19 +125,19 @@ not_greater_gt o ne = elim o as (λ p. o ≡ p → is_gt p ≡ false) [
   | Greater ↦ λ is. absurd (ne is)
 ] refl
 
-module _ (key : List ℕ) (most : ℕ) (above : List Entry) (over : All (λ e. key_cmp e.0 key ≡ Greater) above)
+module _ (key : List ℕ) (limit : ℕ) (above : List Entry) (over : All (λ e. key_cmp e.0 key ≡ Greater) above)
     (up : IsStrictlySortedBy key_cmp (keys_in above)) where
   abbrev first : List Entry
-  first = take most above
+  first = take limit above
 
   abbrev rest : List Entry
-  rest = drop most above
+  rest = drop limit above
 
   abbrev end : Option (List ℕ)
-  end = part_end key most (keyed first)
+  end = part_end key limit (keyed first)
 
   parts : above ≡ first ++ rest
-  parts = sym (take-append-drop most above)
+  parts = sym (take-append-drop limit above)
 
   over_parts : All (λ e. key_cmp e.0 key ≡ Greater) (first ++ rest)
   over_parts = subst (All (λ (e : Entry). key_cmp e.0 key ≡ Greater)) parts over
@@ -149,7 +149,7 @@ module _ (key : List ℕ) (most : ℕ) (above : List Entry) (over : All (λ e. k
   first_up = sorted_first first rest up_parts
 
   upto_end : All (λ e. is_upto end e.0 ≡ true) first
-  upto_end = elim (ltb (length (keyed first)) most) as (λ b.
+  upto_end = elim (ltb (length (keyed first)) limit) as (λ b.
       All (λ (e : Entry). is_upto (cond b None (Some (last_key key (keyed first)))) e.0 ≡ true) first) [
         | true ↦ λ i d lt. refl
         | false ↦ All-weaker (λ (e : Entry). is_gt (key_cmp e.0 (last_key key (keyed first))) ≡ false)
@@ -164,12 +164,12 @@ module _ (key : List ℕ) (most : ℕ) (above : List Entry) (over : All (λ e. k
       (upto_end i d lt)
 
   rest_over : All (λ e. in_part key end e.0 ≡ false) rest
-  rest_over = elim (cases_Bool (ltb (length (keyed first)) most)) [
+  rest_over = elim (cases_Bool (ltb (length (keyed first)) limit)) [
     | inl t ↦
-        let few = ltb-true (length (keyed first)) most t in
+        let few = ltb-true (length (keyed first)) limit t in
         let long = length-map first one_of in
         subst (All (λ (e : Entry). in_part key end e.0 ≡ false))
-        (sym (drop_none most above (omega (arith, few, long))))
+        (sym (drop_none limit above (omega (arith, few, long))))
         (All-nil (λ (e : Entry). in_part key end e.0 ≡ false))
     | inr f ↦ subst (λ b. All (λ (e : Entry). in_part key (cond b None (Some (last_key key (keyed first)))) e.0 ≡ false)
         rest) (sym f)
@@ -190,29 +190,29 @@ module _ (key : List ℕ) (most : ℕ) (above : List Entry) (over : All (λ e. k
       (pass_none (in_part key end) rest rest_over)
       ∙ append-nil (table_rows first)
 
-  pub next_few : length (keyed first) ≤ most
-  next_few = let few = take_few most above in let long = length-map first one_of in omega (arith, few, long)
+  pub next_few : length (keyed first) ≤ limit
+  next_few = let few = take_few limit above in let long = length-map first one_of in omega (arith, few, long)
 
   pub next_ascend : KeysAscend (keyed first)
   next_ascend = keys_keyed first first_up
 
-pub are_next : (es : List Entry) (key : List ℕ) (above : List Entry) → AreAbove es key above → (most : ℕ)
-    (columns : List KeyCells) → columns ≡ keyed (take most above) → IsStrictlySortedBy key_cmp (keys_in es)
-    → All (λ e. 0 < length e.1) es → AreNext (table_rows es) key most columns
-are_next es key above h most columns is up filled =
+pub are_next : (es : List Entry) (key : List ℕ) (above : List Entry) → AreAbove es key above → (limit : ℕ)
+    (columns : List KeyCells) → columns ≡ keyed (take limit above) → IsStrictlySortedBy key_cmp (keys_in es)
+    → All (λ e. 0 < length e.1) es → AreNext (table_rows es) key limit columns
+are_next es key above h limit columns is up filled =
     let up_whole : IsStrictlySortedBy key_cmp (keys_in (h.front ++ above)) =
     subst (λ es. IsStrictlySortedBy key_cmp (keys_in es)) h.whole up in
     let up_above = ascend_from h.front above up_whole in
     let some = subst (All (λ (e : Entry). 0 < length e.1)) h.whole filled in
     let some_above = all_right (λ (e : Entry). 0 < length e.1) h.front above some in
-    let end : Option (List ℕ) = part_end key most (keyed (take most above)) in
-    subst (AreNext (table_rows es) key most) (sym is) (record {
-      few = next_few key most above h.all_above up_above;
-      ascend = next_ascend key most above h.all_above up_above;
-      filled = All-map (λ (one : KeyCells). 0 < length one.cells) one_of (take most above)
-          (All-take (λ (e : Entry). 0 < length e.1) most above some_above);
-      inside = All-map (λ (one : KeyCells). in_part key end one.key ≡ true) one_of (take most above)
-          (first_inside key most above h.all_above up_above);
+    let end : Option (List ℕ) = part_end key limit (keyed (take limit above)) in
+    subst (AreNext (table_rows es) key limit) (sym is) (record {
+      few = next_few key limit above h.all_above up_above;
+      ascend = next_ascend key limit above h.all_above up_above;
+      filled = All-map (λ (one : KeyCells). 0 < length one.cells) one_of (take limit above)
+          (All-take (λ (e : Entry). 0 < length e.1) limit above some_above);
+      inside = All-map (λ (one : KeyCells). in_part key end one.key ≡ true) one_of (take limit above)
+          (first_inside key limit above h.all_above up_above);
       exact = ap (λ es. filter (λ (row : Row). in_part key end row.key) (table_rows es)) h.whole
           ∙ ap (filter (λ (row : Row). in_part key end row.key)) (rows_both h.front above)
           ∙ filter-append (λ (row : Row). in_part key end row.key) (table_rows h.front) (table_rows above)
@@ -220,6 +220,6 @@ are_next es key above h most columns is up filled =
           (pass_none (in_part key end) h.front
           (λ i d lt. ap (λ b. b && is_upto end (get_or h.front i d).0)
           (not_greater_gt _ (h.not_above i d lt))))
-          (above_exact key most above h.all_above up_above)
-          ∙ sym (rows_keyed (take most above));
+          (above_exact key limit above h.all_above up_above)
+          ∙ sym (rows_keyed (take limit above));
     })

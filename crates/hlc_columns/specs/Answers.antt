@@ -87,7 +87,7 @@ last_key key (one ∷ columns) = last_key one.key columns
 -- where a part of at most this many columns ends: at its last key, or nowhere if it has fewer columns, since no key is
 -- left
 abbrev pub part_end : List ℕ → ℕ → List KeyCells → Option (List ℕ)
-part_end key most columns = if nat_lt (length columns) most then None else Some (last_key key columns)
+part_end key limit columns = if nat_lt (length columns) limit then None else Some (last_key key columns)
 
 -- a key is not above the end of a part, if it has one
 abbrev pub is_upto : Option (List ℕ) → List ℕ → Bool
@@ -99,9 +99,9 @@ abbrev pub in_part : List ℕ → Option (List ℕ) → List ℕ → Bool
 in_part from to key = is_gt (slice_cmp nat_cmp key from) && is_upto to key
 
 -- the columns of the first keys above a key, at most this many
-pub record AreNext (rows : List Row) (key : List ℕ) (most : ℕ) (columns : List KeyCells) : Type 0 where
-  pub few : length columns ≤ most
+pub record AreNext (rows : List Row) (key : List ℕ) (limit : ℕ) (columns : List KeyCells) : Type 0 where
+  pub few : length columns ≤ limit
   pub ascend : KeysAscend columns
   pub filled : All (λ one. 0 < length one.cells) columns
-  pub inside : All (λ one. in_part key (part_end key most columns) one.key ≡ true) columns
-  pub exact : filter (λ row. in_part key (part_end key most columns) row.key) rows ≡ rows_in columns
+  pub inside : All (λ one. in_part key (part_end key limit columns) one.key ≡ true) columns
+  pub exact : filter (λ row. in_part key (part_end key limit columns) row.key) rows ≡ rows_in columns

@@ -18,14 +18,14 @@ pub(crate) fn columns_above<'a>(
     alloc: Global,
     columns: &'a Index<Rows>,
     key: &[u8],
-    most: usize,
+    limit: usize,
 ) -> Result<Vec<Keyed<'a>>, NoMemory>
     ensures list { IfOk result (λ list. (above : List (List ℕ × List Cell))
-        × AreAbove (entries_in columns.now) key.now above × (list.items ≡ keyed (take most above))) }
+        × AreAbove (entries_in columns.now) key.now above × (list.items ≡ keyed (take limit above))) }
     ensures ascend { IsStrictlySortedBy key_cmp (keys_in (entries_in columns.now)) }
 {
     let mut walk = walk_above(columns, key);
-    take_columns(alloc, &mut walk, most)
+    take_columns(alloc, &mut walk, limit)
 }
 
 /// Returns a walk over the columns whose keys are above a key.
@@ -45,12 +45,12 @@ fn walk_above<'a>(columns: &'a Index<Rows>, key: &[u8]) -> Walk<'a>
 fn take_columns<'a>(
     alloc: Global,
     walk: &mut Walk<'a>,
-    most: usize,
+    limit: usize,
 ) -> Result<Vec<Keyed<'a>>, NoMemory>
-    ensures { IfOk result (λ list. list.items ≡ keyed (take most (entries_left walk.old))) }
+    ensures { IfOk result (λ list. list.items ≡ keyed (take limit (entries_left walk.old))) }
 {
     let mut list = Vec::new(alloc);
-    for _ in 0..most {
+    for _ in 0..limit {
         let Some(next) = walk.next() else {
             return Ok(list);
         };

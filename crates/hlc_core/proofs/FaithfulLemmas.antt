@@ -172,7 +172,7 @@ reported past (Close id) report expected = absurd expected.1
 reported past (JoinAt start) report expected = absurd expected.1
 reported past Vacuum report expected = (floor past, refl, expected.1)
 reported past (VacuumTo at) report expected = (at, refl, expected.1)
-reported past (VacuumPart at after most) report expected = absurd expected.1
+reported past (VacuumPart at after limit) report expected = absurd expected.1
 
 vacuums-least : (nodes : ℕ) (h : List (CoreEvent × CoreReply)) → IsLegalHistory nodes h
     → VacuumsAreFewest nodes h
@@ -220,7 +220,7 @@ left nodes kept before Vacuum report expected core =
     (subst (λ at. IsReport at (past_of nodes before) report) (sym expected.1.at_stamp) expected.1)
 left nodes kept before (VacuumTo at) report expected core =
     leaves-fewest kept at (past_of nodes before) report core expected.1
-left nodes kept before (VacuumPart at after most) report expected core = absurd expected.1
+left nodes kept before (VacuumPart at after limit) report expected core = absurd expected.1
 
 fewest-left : (nodes : ℕ) (kept : StoreView) (h : List (CoreEvent × CoreReply)) → RepresentsHistory nodes kept h
     → FewestAreLeft nodes h kept.rows
@@ -231,9 +231,9 @@ fewest-left nodes kept h represents = λ before event report is.
 
 -- each change of the keys of a part forces a row of them
 parts-least : (nodes : ℕ) (h : List (CoreEvent × CoreReply)) → IsLegalHistory nodes h → PartsAreFewest nodes h
-parts-least nodes h legal = λ before at after most report end moment.
-    let expected : IsExpected (past_of nodes before) (VacuumPart at after most) (VacuumedPart report end) =
-    (moment-legal nodes h ((VacuumPart at after most, VacuumedPart report end) ∷ before) legal moment).0 in
+parts-least nodes h legal = λ before at after limit report end moment.
+    let expected : IsExpected (past_of nodes before) (VacuumPart at after limit) (VacuumedPart report end) =
+    (moment-legal nodes h ((VacuumPart at after limit, VacuumedPart report end) ∷ before) legal moment).0 in
     let part : IsPartReport at (past_of nodes before) (in_part after end) report = expected.1.made.2.expected in
     let all : List Row = rows_of_keys (in_part after end) (writes (past_of nodes before)) in (
       part,
@@ -252,7 +252,7 @@ parts-least nodes h legal = λ before at after most report end moment.
 -- the rows that a part left of its keys are the fewest
 parts-left : (nodes : ℕ) (kept : StoreView) (h : List (CoreEvent × CoreReply)) → RepresentsHistory nodes kept h
     → FewestAreLeftByParts nodes h kept.rows
-parts-left nodes kept h represents = λ before at after most report end is.
+parts-left nodes kept h represents = λ before at after limit report end is.
     subst (λ x. IsLeft nodes x kept.rows) is represents.left
 
 -- a core is faithful to each history that it represents

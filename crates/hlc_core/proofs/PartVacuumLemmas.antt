@@ -124,12 +124,12 @@ vacuums_keys kept at past rows is_of report h none are apart others made at_stam
     }
 
 -- what was planned for a part at a stamp from the horizon to the floor, and carried out, is part of a vacuum to it
-pub part-vacuums_keys : (kept : StoreView) (at : ℕ) (past : List Step) (after : List ℕ) (most : ℕ) (part : PartPlan)
+pub part-vacuums_keys : (kept : StoreView) (at : ℕ) (past : List Step) (after : List ℕ) (limit : ℕ) (part : PartPlan)
     (rows : List Row) → Represents kept past → at ≤ floor_in kept → kept.horizon ≤ at
-    → IsPartPlanAt kept at after most part
+    → IsPartPlanAt kept at after limit part
     → IsPartVacuum kept.rows rows (in_part after part.end) (report_of part.plan)
-    → VacuumsPart kept (with_rows_left kept rows at) at after most past (Ok (report_of part.plan, part.end))
-part-vacuums_keys kept at past after most part rows h low high planned made =
+    → VacuumsPart kept (with_rows_left kept rows at) at after limit past (Ok (report_of part.plan, part.end))
+part-vacuums_keys kept at past after limit part rows h low high planned made =
     let floor-is = floor-in kept past h in
     let below : at ≤ floor past = omega (arith, low, floor-is) in
     let above : horizon past ≤ at = (let e = h.horizon in omega (arith, high, e)) in

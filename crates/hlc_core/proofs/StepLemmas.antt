@@ -29,13 +29,13 @@ use Rattle.hlc_core.specs.Past.{Step, of_body, of_room, item_refusal, join_at_re
 use Rattle.hlc_core.specs.History.{RepresentsHistory, IsStep, Steps, IsExpected, MayRunOutOfMemory}
 use Rattle.hlc_core.specs.History.{past_of, expected_refusal}
 
-pub part_is_step : (nodes : ℕ) (old new : StoreView) (at : ℕ) (after : List ℕ) (most : ℕ)
+pub part_is_step : (nodes : ℕ) (old new : StoreView) (at : ℕ) (after : List ℕ) (limit : ℕ)
     (history : List (CoreEvent × CoreReply)) (report : Report) (end : Option (List ℕ))
     → RepresentsHistory nodes old history
-    → VacuumsPart old new at after most (past_of nodes history) (Ok (report, end))
-    → IsStep nodes old new (VacuumPart at after most) history (VacuumedPart report end)
-part_is_step nodes old new at after most history report end represents made =
-    let expected : IsExpected (past_of nodes history) (VacuumPart at after most) (VacuumedPart report end) = (
+    → VacuumsPart old new at after limit (past_of nodes history) (Ok (report, end))
+    → IsStep nodes old new (VacuumPart at after limit) history (VacuumedPart report end)
+part_is_step nodes old new at after limit history report end represents made =
+    let expected : IsExpected (past_of nodes history) (VacuumPart at after limit) (VacuumedPart report end) = (
       made.0,
       record { old = old; new = new; represents = represents.core; made = made },
     ) in (
@@ -73,7 +73,7 @@ refused_is_step nodes old (JoinAt at) history fault h is =
     (is, record { legal = (is, h.legal); core = h.core; left = tt }, tt)
 refused_is_step nodes old (VacuumTo at) history fault h is =
     (is, record { legal = (is, h.legal); core = h.core; left = tt }, tt)
-refused_is_step nodes old (VacuumPart at after most) history fault h is =
+refused_is_step nodes old (VacuumPart at after limit) history fault h is =
     (is, record { legal = (is, h.legal); core = h.core; left = tt }, tt)
 
 -- no call is refused for memory but where memory runs out

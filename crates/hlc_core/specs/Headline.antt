@@ -97,9 +97,9 @@ FewestAreLeft nodes history rows =
 -- rows that it kept of them, or costs less
 abbrev pub PartsAreFewest : ℕ → List (CoreEvent × CoreReply) → Type 0
 PartsAreFewest nodes history =
-    (before : List (CoreEvent × CoreReply)) (at : ℕ) (after : List ℕ) (most : ℕ) (report : Report)
+    (before : List (CoreEvent × CoreReply)) (at : ℕ) (after : List ℕ) (limit : ℕ) (report : Report)
     (end : Option (List ℕ))
-    → IsMoment history ((VacuumPart at after most, VacuumedPart report end) ∷ before)
+    → IsMoment history ((VacuumPart at after limit, VacuumedPart report end) ∷ before)
     → IsPartReport at (past_of nodes before) (in_part after end) report
     × ((others : List Row) → IsRowSet others
     → Alike others (rows_of_keys (in_part after end) (writes (past_of nodes before))) report.points
@@ -109,9 +109,9 @@ PartsAreFewest nodes history =
 -- as it kept and cost what it reported, and are the fewest and the cheapest
 abbrev pub FewestAreLeftByParts : ℕ → List (CoreEvent × CoreReply) → List Row → Type 0
 FewestAreLeftByParts nodes history rows =
-    (before : List (CoreEvent × CoreReply)) (at : ℕ) (after : List ℕ) (most : ℕ) (report : Report)
+    (before : List (CoreEvent × CoreReply)) (at : ℕ) (after : List ℕ) (limit : ℕ) (report : Report)
     (end : Option (List ℕ))
-    → history ≡ (VacuumPart at after most, VacuumedPart report end) ∷ before
+    → history ≡ (VacuumPart at after limit, VacuumedPart report end) ∷ before
     → LeavesFewest (rows_of_keys (in_part after end) rows)
     (rows_of_keys (in_part after end) (writes (past_of nodes before))) report
 

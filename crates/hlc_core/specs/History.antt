@@ -34,7 +34,7 @@ step_of (Close id) (Closed stamp) = Some (ClosedOf id)
 step_of (JoinAt at) (Joined node start) = Some (JoinedAt node start)
 step_of Vacuum (Vacuumed report) = Some (VacuumedTo report.floor)
 step_of (VacuumTo at) (Vacuumed report) = Some (VacuumedTo at)
-step_of (VacuumPart at after most) (VacuumedPart report end) = Some (PartVacuumed at report.dropped)
+step_of (VacuumPart at after limit) (VacuumedPart report end) = Some (PartVacuumed at report.dropped)
 step_of _ _ = None
 
 -- the past, and this step after it
@@ -59,7 +59,7 @@ expected_refusal past (Close id) = list_refusal (stamp_of id past)
 expected_refusal past Vacuum = None
 expected_refusal past (JoinAt start) = join_at_refusal past start
 expected_refusal past (VacuumTo at) = vacuum_refusal past at
-expected_refusal past (VacuumPart at after most) = vacuum_refusal past at
+expected_refusal past (VacuumPart at after limit) = vacuum_refusal past at
 
 -- the value is that of these answers at the snapshot's stamp
 abbrev pub IsAnswer : Option ℕ → (ℕ → Option (List ℕ)) → Option (List ℕ) → Type 0
@@ -79,8 +79,8 @@ IsExpectedReply past (Close id) (Closed stamp) = stamp_of id past ≡ Some stamp
 IsExpectedReply past Vacuum (Vacuumed report) = IsReport (floor past) past report
 IsExpectedReply past (JoinAt at) (Joined node start) = (node ≡ numbered past) × (start ≡ at)
 IsExpectedReply past (VacuumTo at) (Vacuumed report) = IsReport at past report
-IsExpectedReply past (VacuumPart at after most) (VacuumedPart report end) =
-    MayVacuumPart at after most past report end
+IsExpectedReply past (VacuumPart at after limit) (VacuumedPart report end) =
+    MayVacuumPart at after limit past report end
 IsExpectedReply past _ _ = ⊥
 
 -- the reply is the expected refusal; or, if none is expected, an expected reply
@@ -96,7 +96,7 @@ IsLegalHistory nodes (entry ∷ history) = IsExpected (past_of nodes history) en
 
 -- where part of a vacuum took place after this past, the fewest and cheapest rows of its keys are among these rows
 abbrev pub LeavesPart : List Step → CoreEvent → CoreReply → List Row → Type 0
-LeavesPart past (VacuumPart at after most) (VacuumedPart report end) rows =
+LeavesPart past (VacuumPart at after limit) (VacuumedPart report end) rows =
     LeavesFewest (rows_of_keys (in_part after end) rows) (rows_of_keys (in_part after end) (writes past)) report
 LeavesPart past _ _ rows = ⊤
 
@@ -127,8 +127,8 @@ MayRunOutOfMemory past _ = ⊤
 
 -- where part of a vacuum took place, it was one of these very stored rows, and ended where the reply says
 abbrev pub IsPartMade : StoreView → StoreView → List Step → CoreEvent → CoreReply → Type 0
-IsPartMade old new past (VacuumPart at after most) (VacuumedPart report end) =
-    VacuumsPart old new at after most past (Ok (report, end))
+IsPartMade old new past (VacuumPart at after limit) (VacuumedPart report end) =
+    VacuumsPart old new at after limit past (Ok (report, end))
 IsPartMade old new past _ _ = ⊤
 
 -- after a history that the core represented, the reply is expected, and the core represents the history with it
@@ -155,7 +155,7 @@ IsQuestion _ = ⊥
 abbrev pub IsVacuum : CoreEvent → Type 0
 IsVacuum Vacuum = ⊤
 IsVacuum (VacuumTo at) = ⊤
-IsVacuum (VacuumPart at after most) = ⊤
+IsVacuum (VacuumPart at after limit) = ⊤
 IsVacuum _ = ⊥
 
 -- the reply is a refusal
@@ -185,6 +185,6 @@ IsReplyTo Vacuum (Vacuumed report) = ⊤
 IsReplyTo Vacuum (Refused fault) = ⊥
 IsReplyTo (JoinAt at) (Joined node start) = start ≡ at
 IsReplyTo (VacuumTo at) (Vacuumed report) = ⊤
-IsReplyTo (VacuumPart at after most) (VacuumedPart report end) = ⊤
+IsReplyTo (VacuumPart at after limit) (VacuumedPart report end) = ⊤
 IsReplyTo event (Refused fault) = ⊤
 IsReplyTo _ _ = ⊥

@@ -41,20 +41,20 @@ pub record VacuumsKeys (old new : StoreView) (at : ℕ) (past : List Step) (is_o
 
 -- a part of the stored rows, of the first keys above one, at most this many, ends at this key; or nowhere, if there is
 -- no key above it
-pub record EndsAt (kept : StoreView) (after : List ℕ) (most : ℕ) (end : Option (List ℕ)) : Type 0 where
+pub record EndsAt (kept : StoreView) (after : List ℕ) (limit : ℕ) (end : Option (List ℕ)) : Type 0 where
   pub columns : List KeyCells
-  pub next : AreNext kept.rows after most columns
-  pub is : end ≡ part_end after most columns
+  pub next : AreNext kept.rows after limit columns
+  pub is : end ≡ part_end after limit columns
 
 -- part of a vacuum to the stamp took place, of the first keys above one, at most this many, and where it ended is
 -- returned; or it was refused
 abbrev pub VacuumsPart
     : StoreView → StoreView → ℕ → List ℕ → ℕ → List Step
     → Result (Report × Option (List ℕ)) CoreFault → Type 0
-VacuumsPart old new at after most past (Ok made) =
-    (vacuum_refusal past at ≡ None) × EndsAt old after most made.1
+VacuumsPart old new at after limit past (Ok made) =
+    (vacuum_refusal past at ≡ None) × EndsAt old after limit made.1
     × VacuumsKeys old new at past (in_part after made.1) made.0
-VacuumsPart old new at after most past (Err fault) = IsRefusal (vacuum_refusal past at) ⊤ fault
+VacuumsPart old new at after limit past (Err fault) = IsRefusal (vacuum_refusal past at) ⊤ fault
 
 -- part of a vacuum to the stamp took place, and these are the numbers of its report
 pub record VacuumsKeysCounted (old new : StoreView) (at : ℕ) (past : List Step) (is_of : List ℕ → Bool)
@@ -67,16 +67,16 @@ pub record VacuumsKeysCounted (old new : StoreView) (at : ℕ) (past : List Step
 abbrev pub VacuumsPartCounted
     : StoreView → StoreView → ℕ → List ℕ → ℕ → List Step
     → Result (Numbers × Option (List ℕ)) CoreFault → Type 0
-VacuumsPartCounted old new at after most past (Ok made) =
-    (vacuum_refusal past at ≡ None) × EndsAt old after most made.1
+VacuumsPartCounted old new at after limit past (Ok made) =
+    (vacuum_refusal past at ≡ None) × EndsAt old after limit made.1
     × VacuumsKeysCounted old new at past (in_part after made.1) made.0
-VacuumsPartCounted old new at after most past (Err fault) = IsRefusal (vacuum_refusal past at) ⊤ fault
+VacuumsPartCounted old new at after limit past (Err fault) = IsRefusal (vacuum_refusal past at) ⊤ fault
 
 -- After this past part of a vacuum may have this report and end there: in some store that represents the past it does.
 -- Which keys have stored rows also depends on the keys of the parts before it, which a past does not have.
-pub record MayVacuumPart (at : ℕ) (after : List ℕ) (most : ℕ) (past : List Step) (report : Report)
+pub record MayVacuumPart (at : ℕ) (after : List ℕ) (limit : ℕ) (past : List Step) (report : Report)
     (end : Option (List ℕ)) : Type 0 where
   pub old : StoreView
   pub new : StoreView
   pub represents : Represents old past
-  pub made : VacuumsPart old new at after most past (Ok (report, end))
+  pub made : VacuumsPart old new at after limit past (Ok (report, end))

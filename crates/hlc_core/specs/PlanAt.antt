@@ -20,12 +20,12 @@ pub record IsTallyAt (kept : StoreView) (at : ℕ) (tally : TallyView) : Type 0 
   pub is : tally ≡ tally_of plan
 
 -- the plan was made of the stored rows of the first keys above one, at most this many, at these stamps
-pub record IsPartPlanAt (kept : StoreView) (at : ℕ) (after : List ℕ) (most : ℕ) (part : PartPlan) : Type 0 where
-  pub made : IsPartOf part kept.rows after most
+pub record IsPartPlanAt (kept : StoreView) (at : ℕ) (after : List ℕ) (limit : ℕ) (part : PartPlan) : Type 0 where
+  pub made : IsPartOf part kept.rows after limit
   pub points : ArePoints (stamps_to at kept.snapshots) at part.plan.points
 
 -- the tally of a part has what such a plan has
-pub record IsPartTallyAt (kept : StoreView) (at : ℕ) (after : List ℕ) (most : ℕ) (part : PartTally) : Type 0 where
+pub record IsPartTallyAt (kept : StoreView) (at : ℕ) (after : List ℕ) (limit : ℕ) (part : PartTally) : Type 0 where
   pub plan : PlanView
-  pub planned : IsPartPlanAt kept at after most (with_plan part plan)
+  pub planned : IsPartPlanAt kept at after limit (with_plan part plan)
   pub is : part.tally ≡ tally_of plan

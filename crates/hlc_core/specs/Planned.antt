@@ -18,7 +18,7 @@ use Rattle.hlc_core.specs.History.{IsReplyTo, expected_refusal}
 abbrev pub IsAsked : StoreView → CoreEvent → ℕ → Type 0
 IsAsked kept Vacuum at = (past : List Step) → Represents kept past → at ≡ floor past
 IsAsked kept (VacuumTo to) at = at ≡ to
-IsAsked kept (VacuumPart to after most) at = at ≡ to
+IsAsked kept (VacuumPart to after limit) at = at ≡ to
 IsAsked kept _ at = ⊥
 
 -- the event asks for a whole vacuum to this stamp
@@ -30,9 +30,9 @@ AsksWhole kept event at =
 -- the event asks for a part to this stamp, and this is its plan
 pub record IsPartFor (kept : StoreView) (event : CoreEvent) (at : ℕ) (part : PartPlan) : Type 0 where
   pub after : List ℕ
-  pub most : ℕ
-  pub is : event ≡ VacuumPart at after most
-  pub planned : IsPartPlanAt kept at after most part
+  pub limit : ℕ
+  pub is : event ≡ VacuumPart at after limit
+  pub planned : IsPartPlanAt kept at after limit part
 
 -- no refusal of the event is expected, and its stamp is from the horizon to the floor
 pub record IsPossible (kept : StoreView) (event : CoreEvent) (at : ℕ) : Type 0 where

@@ -67,8 +67,8 @@ impl Core {
         };
         let block = BoxedReport::blank(self.alloc)?;
         match event {
-            CoreEvent::VacuumPart { after, most, .. } => {
-                let part = self.plan_next(at, after.as_slice(), *most)?;
+            CoreEvent::VacuumPart { after, limit, .. } => {
+                let part = self.plan_next(at, after.as_slice(), *limit)?;
                 Ok(Planned::Part { at, part, block })
             }
             _ => {

@@ -116,7 +116,7 @@ impl Core {
     }
 
     /// Does a part of `vacuum_to`, so that one call does bounded work: it drops rows of the first keys above `after`,
-    /// at most `most` keys, and returns the numbers of the report of the rows of these keys, as `vacuum_counted` does,
+    /// at most `limit` keys, and returns the numbers of the report of the rows of these keys, as `vacuum_counted` does,
     /// and the last of the keys: the next part begins above it. It returns no key if there is none left. The first part
     /// begins with the empty key, and between parts all calls are possible: each part vacuums its keys at the snapshots
     /// that are open then. The stamp becomes the horizon with the first part. Rows of other keys stay.
@@ -127,14 +127,14 @@ impl Core {
         &mut self,
         at: Stamp,
         after: &[u8],
-        most: usize,
+        limit: usize,
     ) -> Result<(Numbers, Option<Bytes>), CoreFault>
         ensures represents { (past : List Step) → Represents self.old past
-            → VacuumsPartCounted self.old self.new at after.now most past result }
+            → VacuumsPartCounted self.old self.new at after.now limit past result }
         ensures unchanged { OnErr result (self.new ≡ self.old) }
     {
         self.check_vacuum(at)?;
-        let part = self.tally_next(at, after, most)?;
+        let part = self.tally_next(at, after, limit)?;
         Ok(self.carry_out_part_tally(at, part))
     }
 

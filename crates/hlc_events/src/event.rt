@@ -29,11 +29,11 @@ pub enum CoreEvent {
     JoinAt(Stamp),
     /// Rows up to this stamp that no reader needs any more are dropped.
     VacuumTo(Stamp),
-    /// Part of a vacuum to the stamp: such rows of the first stored keys above `after`, at most `most` keys, are
+    /// Part of a vacuum to the stamp: such rows of the first stored keys above `after`, at most `limit` keys, are
     /// dropped. The first part begins with the empty key.
     VacuumPart {
         at: Stamp,
         after: Bytes,
-        most: usize,
+        limit: usize,
     },
 }

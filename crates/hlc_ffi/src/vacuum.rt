@@ -57,7 +57,7 @@ pub extern "C" fn hlc_store_vacuum_to(
     })
 }
 
-/// Makes a part of `hlc_store_vacuum_to`, of the first keys above `after`, at most `most` keys. Returns what that
+/// Makes a part of `hlc_store_vacuum_to`, of the first keys above `after`, at most `limit` keys. Returns what that
 /// returns, of these keys; the length of the last one and, where it fits, the key; and whether a key is left above it.
 #[unsafe(no_mangle)]
 pub extern "C" fn hlc_store_vacuum_part(
@@ -65,7 +65,7 @@ pub extern "C" fn hlc_store_vacuum_part(
     store: &mut Store,
     at: u64,
     after: &[u8],
-    most: usize,
+    limit: usize,
     word: &mut u64,
     kept: &mut u64,
     bytes: &mut u64,
@@ -76,7 +76,7 @@ pub extern "C" fn hlc_store_vacuum_part(
 ) -> u32
     ensures answer { OnStore store.old.value store.new.value
         ((result ≡ 100) × (word.new ≡ 0)) (λ old new. (past : List Step) → Represents old past
-        → ReturnsVacuumedPart old new at after.now most past result word.new kept.new bytes.new
+        → ReturnsVacuumedPart old new at after.now limit past result word.new kept.new bytes.new
         dropped.new len.new more.new out.old out.new) }
     ensures nothing { result ≢ 0 → (kept.new ≡ 0) × (bytes.new ≡ 0) × (dropped.new ≡ 0)
         × (len.new ≡ 0) × (more.new ≡ false) × (out.new ≡ out.old) }
@@ -86,7 +86,7 @@ pub extern "C" fn hlc_store_vacuum_part(
     let at = Stamp::from_bits(at);
     on_core!(alloc, store, [word, kept, bytes, dropped, len], |core| {
         vacuum_part(
-            core, at, after, most, word, kept, bytes, dropped, out, len, more
+            core, at, after, limit, word, kept, bytes, dropped, out, len, more
         )
     })
 }

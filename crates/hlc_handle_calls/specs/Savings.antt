@@ -3,9 +3,11 @@ use Rattle.std.specs.Prelude.{◌≡◌, ◌≢◌, ◌⊎◌, ◌<◌, ◌≤�
 use Rattle.std.specs.Prelude.{drop}
 use Rattle.hlc_core.specs.StoreView.{StoreView}
 use Rattle.hlc_body.specs.Spelling.{saved_bytes}
+use Rattle.hlc_saved.specs.declared.fault.SaverError.{SaverError}
 use Rattle.hlc_saved.specs.declared.savings.Saver.{Saver}
+use Rattle.hlc_saved.specs.Faults.{saver_code}
 use Rattle.hlc_saved.specs.Saved.{AreOfStore}
-use Rattle.hlc_saved.specs.Saver.{HasMade, mark_of}
+use Rattle.hlc_saved.specs.Saver.{HasMade, IsRefused, mark_of}
 
 -- it has begun, nothing was read, and it will be this many bytes; or it did not start, out of memory; one that was
 -- under way goes on
@@ -18,22 +20,26 @@ HasBegun None new tag core code len = MatchOption new ((code ≡ 15) × (len ≡
 abbrev pub AreWritten : ℕ → List ℕ → List ℕ → Type 0
 AreWritten len old out = (len ≤ length old) × (drop len out ≡ drop len old)
 
--- the last bytes were read: with those before, all are a checkpoint of the store; and the saving has ended
+-- of a store that did not change since the start the last bytes were read: with those before, all are a checkpoint of
+-- it; and the saving has ended
 abbrev pub ReadsLast : Saver → StoreView → ℕ → ℕ → List ℕ → List ℕ → Type 0
 ReadsLast before core code len old out =
-    (code ≡ 0) × AreWritten len old out
+    (code ≡ 0) × (mark_of core ≡ before.mark) × AreWritten len old out
     × ((tag : ℕ) (read : List ℕ) → HasMade before tag core read → AreOfStore (read ++ take len out) tag core)
 
--- the next bytes were read, at least one if the buffer has room; and the saving goes on
+-- of a store that did not change since the start the next bytes were read, at least one if the buffer has room; and the
+-- saving goes on
 abbrev pub ReadsNext : Saver → Saver → StoreView → ℕ → ℕ → List ℕ → List ℕ → Type 0
 ReadsNext before after core code len old out =
-    (code ≡ 104) × AreWritten len old out × ((0 < len) ⊎ (length old ≡ 0))
+    (code ≡ 104) × (mark_of core ≡ before.mark) × AreWritten len old out × ((0 < len) ⊎ (length old ≡ 0))
     × ((tag : ℕ) (read : List ℕ) → HasMade before tag core read → HasMade after tag core (read ++ take len out))
 
--- nothing was read, since the store is not as it was at the start, or memory ran out; and the saving is as it was
+-- nothing was read, since the store changed since the start, or it did not and memory ran out; and the saving is as it
+-- was
 abbrev pub ReadsNone : Saver → Saver → StoreView → ℕ → ℕ → List ℕ → List ℕ → Type 0
 ReadsNone before after core code len old out =
-    (len ≡ 0) × (out ≡ old) × (after ≡ before) × (((code ≡ 112) × (mark_of core ≢ before.mark)) ⊎ (code ≡ 15))
+    (len ≡ 0) × (out ≡ old) × (after ≡ before) × (error : SaverError) × IsRefused before core error
+    × (code ≡ saver_code error)
 
 -- what a call reads of a saving that is under way, if one is
 abbrev pub HasReadOn : Option Saver → Option Saver → StoreView → ℕ → ℕ → List ℕ → List ℕ → Type 0

@@ -144,8 +144,8 @@ parted p q r (row ∷ rows) each =
       ]
     ]
 
-module _ (rows : List Row) (last : List ℕ) (most : ℕ) (one : KeyCells) (others : List KeyCells)
-    (next : AreNext rows last most (one ∷ others)) where
+module _ (rows : List Row) (last : List ℕ) (limit : ℕ) (one : KeyCells) (others : List KeyCells)
+    (next : AreNext rows last limit (one ∷ others)) where
   abbrev columns : List KeyCells
   columns = one ∷ others
 
@@ -156,12 +156,12 @@ module _ (rows : List Row) (last : List ℕ) (most : ℕ) (one : KeyCells) (othe
   upto key row = is_le (cmp row.key key)
 
   abbrev is_in : Row → Bool
-  is_in row = in_part last (part_end last most columns) row.key
+  is_in row = in_part last (part_end last limit columns) row.key
 
   end_gt : cmp end last ≡ Greater
   end_gt =
-      part_gt (cmp end last) (is_upto (part_end last most columns) end)
-      (each_key (λ key. in_part last (part_end last most columns) key ≡ true) columns end next.inside
+      part_gt (cmp end last) (is_upto (part_end last limit columns) end)
+      (each_key (λ key. in_part last (part_end last limit columns) key ≡ true) columns end next.inside
       (last_among last one others))
 
   -- a row above the last key, up to the end, is in the part
@@ -173,13 +173,13 @@ module _ (rows : List Row) (last : List ℕ) (most : ℕ) (one : KeyCells) (othe
         | true ↦ refl
         | false ↦ sym (not_gt (cmp row.key end)) ∙ le
       ]) in
-      at (nat_lt (length columns) most)
+      at (nat_lt (length columns) limit)
 
   each_parted : (row : Row) → Contains rows row → Parted (upto end) (upto last) is_in row
   each_parted row m = elim (le_or_gt (cmp row.key last)) [
     | inl (le, low) ↦ inl (
       le,
-      ap (λ b. b && is_upto (part_end last most columns) row.key) low,
+      ap (λ b. b && is_upto (part_end last limit columns) row.key) low,
       ap is_le (le_lt_trans nat_list_cmp_total row.key last end le (turned_less end last end_gt)),
     )
     | inr (high, gt) ↦ elim (is_in row) as (λ b. is_in row ≡ b → Parted (upto end) (upto last) is_in row) [
@@ -219,15 +219,15 @@ module _ (rows : List Row) (last : List ℕ) (most : ℕ) (one : KeyCells) (othe
         (Contains-permutation new (rows_in columns) y
         (IsPermutation-sym (rows_in columns) new (list-same columns new listed)) n) in
         let high : cmp y.key last ≡ Greater =
-        part_gt (cmp y.key last) (is_upto (part_end last most columns) y.key)
+        part_gt (cmp y.key last) (is_upto (part_end last limit columns) y.key)
         (Contains-from_filter is_in rows y there).1 in
         key-less x y (le_lt_trans nat_list_cmp_total x.key last y.key low (turned_less y.key last high))),
   )
 
 -- where no key is left, these are all rows
-pub rows_all : (rows : List Row) (last : List ℕ) (most : ℕ) (done : List Row) → nat_lt 0 most ≡ true
-    → AreNext rows last most [] → IsPermutation (rows_upto false last rows) done → IsPermutation rows done
-rows_all rows last most done some next same =
+pub rows_all : (rows : List Row) (last : List ℕ) (limit : ℕ) (done : List Row) → nat_lt 0 limit ≡ true
+    → AreNext rows last limit [] → IsPermutation (rows_upto false last rows) done → IsPermutation rows done
+rows_all rows last limit done some next same =
     let low : Row → Bool = λ row. is_le (cmp row.key last) in
     let high : Row → Bool = λ row. is_gt (cmp row.key last) && true in
     let none : filter high rows ≡ [] =

@@ -92,17 +92,17 @@ read_all : (saver : Saver) (tag : ℕ) (kept : StoreView) (read : List ℕ) → 
 read_all saver tag kept read all' has =
     sym (append-nil read) ∙ ap (λ (l : List ℕ). read ++ l) (sym (drop_all saver.at saver.made.items all')) ∙ has.spelled
 
-pub rows_made : (old new : Saver) (tag : ℕ) (kept : StoreView) (read : List ℕ) (most : ℕ) (columns : List KeyCells)
+pub rows_made : (old new : Saver) (tag : ℕ) (kept : StoreView) (read : List ℕ) (limit : ℕ) (columns : List KeyCells)
     → length old.made.items ≤ old.at → old.is_whole ≡ false → new.mark ≡ old.mark → new.is_whole ≡ old.is_whole
     → new.last.items ≡ last_key old.last.items columns → new.at ≡ 0 → 0 < length columns
-    → AreNext kept.rows old.last.items most columns → HasColumns columns [] new.made.items
+    → AreNext kept.rows old.last.items limit columns → HasColumns columns [] new.made.items
     → ((front body : List ℕ) → HasPut old.frame front body → HasPut new.frame front (body ++ new.made.items))
     → HasMade old tag kept read → HasMade new tag kept read
-rows_made old new tag kept read most [] all' more mark whole last at some next made put has =
+rows_made old new tag kept read limit [] all' more mark whole last at some next made put has =
     absurd (omega (arith, some))
-rows_made old new tag kept read most (one ∷ others) all' more mark whole last at some next (rows, listed, is) put has =
+rows_made old new tag kept read limit (one ∷ others) all' more mark whole last at some next (rows, listed, is) put has =
     let fm : List ℕ = flat_map row_bytes rows in
-    let follow = rows_follow kept.rows old.last.items most one others next has.rows rows
+    let follow = rows_follow kept.rows old.last.items limit one others next has.rows rows
     (subst (λ b. IsPermutation (rows_upto b old.last.items kept.rows) has.rows) more has.same) has.ascend listed in
     let body : body_to kept has.rows ++ new.made.items ≡ body_to kept (has.rows ++ rows) =
     ap (λ (l : List ℕ). body_to kept has.rows ++ l) is
@@ -127,18 +127,18 @@ rows_made old new tag kept read most (one ∷ others) all' more mark whole last 
           (put (front_of tag kept) (body_to kept has.rows) has.put);
     }
 
-pub digest_made : (old new : Saver) (tag : ℕ) (kept : StoreView) (read : List ℕ) (most : ℕ)
+pub digest_made : (old new : Saver) (tag : ℕ) (kept : StoreView) (read : List ℕ) (limit : ℕ)
     → length old.made.items ≤ old.at → old.is_whole ≡ false → new.mark ≡ old.mark → new.frame ≡ old.frame
-    → new.is_whole ≡ true → new.at ≡ 0 → nat_lt 0 most ≡ true → AreNext kept.rows old.last.items most []
+    → new.is_whole ≡ true → new.at ≡ 0 → nat_lt 0 limit ≡ true → AreNext kept.rows old.last.items limit []
     → ((front body : List ℕ) → HasPut old.frame front body → new.made.items ≡ [] ++ sha256 (front ++ body))
     → HasMade old tag kept read → HasMade new tag kept read
-digest_made old new tag kept read most all' more mark frame whole at some next made has = record {
+digest_made old new tag kept read limit all' more mark frame whole at some next made has = record {
   store = has.store;
   fits = has.fits;
   mark = mark ∙ has.mark;
   rows = has.rows;
   same = subst (λ b. IsPermutation (rows_upto b new.last.items kept.rows) has.rows) (sym whole)
-      (rows_all kept.rows old.last.items most has.rows some next
+      (rows_all kept.rows old.last.items limit has.rows some next
       (subst (λ b. IsPermutation (rows_upto b old.last.items kept.rows) has.rows) more has.same));
   ascend = has.ascend;
   spelled = ap₂ (λ (a b : List ℕ). a ++ b)

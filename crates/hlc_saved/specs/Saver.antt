@@ -1,5 +1,5 @@
 -- The bytes of a store, made as they are read.
-use Rattle.std.specs.Prelude.{◌≡◌, ◌≤◌, ℕ, ◌+◌, ◌%◌, List, ◌++◌, Bool, true, false, length, drop, filter, fold}
+use Rattle.std.specs.Prelude.{◌≡◌, ◌≢◌, ◌≤◌, ℕ, ◌+◌, ◌%◌, List, ◌++◌, Bool, true, false, length, drop, filter, fold}
 use Rattle.std.specs.List.{flat_map}
 use Rattle.std.specs.List.Sorted.{IsPermutation}
 use Rattle.std.specs.Cmp.Lexicographic.{slice_cmp}
@@ -11,6 +11,8 @@ use Rattle.hlc_checkpoint.specs.Checkpoint.{IsStore}
 use Rattle.hlc_core.specs.StoreView.{StoreView}
 use Rattle.hlc_frame.specs.Writing.{HasPut}
 use Rattle.hlc_body.specs.Spelling.{row_bytes, SavedFits}
+use Rattle.hlc_saved.specs.declared.fault.SaverError.{SaverError}
+use Rattle.hlc_saved.specs.declared.fault.SaverError.TheVariants.{Changed, NoMemory}
 use Rattle.hlc_saved.specs.declared.mark.Mark.{Mark}
 use Rattle.hlc_saved.specs.declared.savings.Saver.{Saver}
 use Rattle.hlc_saved.specs.Writing.{front_of, body_to, begin_bytes, end_bytes}
@@ -51,6 +53,11 @@ pub record HasMade (saver : Saver) (tag : ℕ) (kept : StoreView) (read : List �
   pub ascend : RowsAscend rows
   pub spelled : read ++ drop saver.at saver.made.items ≡ bytes_upto saver.is_whole tag kept rows
   pub put : HasPut saver.frame (front_of tag kept) (body_to kept rows)
+
+-- why no bytes were read: the store changed since the saving began; or it did not, and memory ran out
+abbrev pub IsRefused : Saver → StoreView → SaverError → Type 0
+IsRefused saver kept Changed = mark_of kept ≢ saver.mark
+IsRefused saver kept NoMemory = mark_of kept ≡ saver.mark
 
 -- all bytes were made, and read
 abbrev pub IsRead : Saver → Type 0

@@ -6,9 +6,8 @@ ghost use Rattle.hlc_body.specs.Spelling.{saved_bytes};
 ghost use Rattle.hlc_checkpoint.specs.Checkpoint.{IsStore};
 ghost use Rattle.hlc_checkpoint.specs.Lent.{IsWritable};
 ghost use Rattle.hlc_core.specs.StoreView.{StoreView};
-ghost use Rattle.hlc_saved.specs.declared.fault.SaverError.TheVariants.{Changed as changed};
 ghost use Rattle.hlc_saved.specs.Saved.{AreOfStore};
-ghost use Rattle.hlc_saved.specs.Saver.{HasMade, IsRead, mark_of};
+ghost use Rattle.hlc_saved.specs.Saver.{HasMade, IsRead, IsRefused, mark_of};
 
 use crate::bytes::{bytes_from, copy_front};
 use crate::fault::SaverError;
@@ -88,7 +87,7 @@ impl Saver {
         ensures room { IfOk result (λ len. len ≤ length out.old) }
         ensures rest { IfOk result (λ len. drop len out.new ≡ drop len out.old) }
         ensures same { IfOk result (λ _. mark_of core.now ≡ self.old.mark) }
-        ensures changed { IfErr result (λ error. error ≡ changed → mark_of core.now ≢ self.old.mark) }
+        ensures err { IfErr result (IsRefused self.old core.now) }
         ensures unchanged { OnErr result (self.new ≡ self.old) }
         ensures buffer { OnErr result (out.new ≡ out.old) }
     {

@@ -396,43 +396,43 @@ kept-within (key ∷ keys) flags rows row i =
     (kept-within keys (drop n flags) (rows_kept key (take n flags) rows) row i))
 
 -- what a plan of some columns does
-pub part-vacuum : (part : PartPlan) (old new : List Row) (after : List ℕ) (most : ℕ) (report : Report)
-    → IsPartOf part old after most → new ≡ all_kept part.keys.items part.plan.keep old → report ≡ report_of part.plan
+pub part-vacuum : (part : PartPlan) (old new : List Row) (after : List ℕ) (limit : ℕ) (report : Report)
+    → IsPartOf part old after limit → new ≡ all_kept part.keys.items part.plan.keep old → report ≡ report_of part.plan
     → IsPartVacuum old new (in_part after part.end) report
-part-vacuum part old new after most report h is made =
+part-vacuum part old new after limit report h is made =
     let columns : List KeyCells = h.columns in
     let keep : List Bool = part.plan.keep in
     subst (λ (end : Option (List ℕ)). IsPartVacuum old new (in_part after end) report) (sym h.end)
-    (subst (λ (rows : List Row). IsPartVacuum old rows (in_part after (part_end after most columns)) report)
+    (subst (λ (rows : List Row). IsPartVacuum old rows (in_part after (part_end after limit columns)) report)
     (sym (is ∙ ap (λ keys. all_kept keys keep old) h.keys))
-    (subst (IsPartVacuum old (all_kept (keys_in columns) keep old) (in_part after (part_end after most columns)))
+    (subst (IsPartVacuum old (all_kept (keys_in columns) keep old) (in_part after (part_end after limit columns)))
     (sym made) (record {
       row_set = kept-row_set (keys_in columns) keep old h.row_set;
       within = kept-within (keys_in columns) keep old;
-      others = kept-others (in_part after (part_end after most columns)) (keys_in columns) keep old
-          (All-map (λ key. in_part after (part_end after most columns) key ≡ true) (λ (one : KeyCells). one.key) columns
-          h.next.inside);
+      others = kept-others (in_part after (part_end after limit columns)) (keys_in columns) keep old
+          (All-map (λ key. in_part after (part_end after limit columns) key ≡ true) (λ (one : KeyCells). one.key)
+          columns h.next.inside);
       vacuumed =
           subst (λ (rows : List Row). IsVacuumOf rows part.plan.points part.plan.witnesses
-          (filter (λ (row : Row). in_part after (part_end after most columns) row.key)
+          (filter (λ (row : Row). in_part after (part_end after limit columns) row.key)
           (all_kept (keys_in columns) keep old))) (sym h.next.exact)
           (subst (IsVacuumOf (rows_in columns) part.plan.points part.plan.witnesses)
-          (sym (kept-own (in_part after (part_end after most columns)) columns keep old h.next.ascend h.next.inside
+          (sym (kept-own (in_part after (part_end after limit columns)) columns keep old h.next.ascend h.next.inside
           h.next.exact h.plan.each)) h.plan.vacuumed);
       kept = refl;
       bytes = h.plan.cost ∙ ap (λ rows. rows_cost (rows_to (last_point part.plan.points) rows))
-          (sym (kept-own (in_part after (part_end after most columns)) columns keep old h.next.ascend h.next.inside
+          (sym (kept-own (in_part after (part_end after limit columns)) columns keep old h.next.ascend h.next.inside
           h.next.exact h.plan.each));
       dropped =
-          let count = kept-count (in_part after (part_end after most columns)) columns keep old h.next.ascend
+          let count = kept-count (in_part after (part_end after limit columns)) columns keep old h.next.ascend
           h.next.inside h.next.exact h.plan.each in omega (arith, count);
     })))
 
-pub part-flags : (part : PartPlan) (old : List Row) (after : List ℕ) (most : ℕ) → IsPartOf part old after most
+pub part-flags : (part : PartPlan) (old : List Row) (after : List ℕ) (limit : ℕ) → IsPartOf part old after limit
     → HaveFlags part.keys.items part.plan.keep old
-part-flags part old after most h =
+part-flags part old after limit h =
     subst (λ keys. HaveFlags keys part.plan.keep old) (sym h.keys)
-    (have-flags (in_part after (part_end after most h.columns)) h.columns part.plan.keep old h.next.ascend
+    (have-flags (in_part after (part_end after limit h.columns)) h.columns part.plan.keep old h.next.ascend
     h.next.inside h.next.exact h.plan.each)
 
 -- the end of a part by its keys
@@ -444,10 +444,10 @@ end-last after (one ∷ []) (suc i) d long = absurd (omega (arith, long))
 end-last after (one ∷ two ∷ columns) zero d long = absurd (omega (arith, long))
 end-last after (one ∷ two ∷ columns) (suc i) d long = end-last one.key (two ∷ columns) i d (omega (arith, long))
 
-pub end-copied : (after : List ℕ) (most : ℕ) (columns : List KeyCells) (keys : List (List ℕ)) (copy : List ℕ)
-    → keys ≡ keys_in columns → most ≤ length keys → (length keys ≡ 0 → ⊥)
-    → copy ≡ get_or keys (length keys - 1) copy → Some copy ≡ part_end after most columns
-end-copied after most columns keys copy is enough some read =
+pub end-copied : (after : List ℕ) (limit : ℕ) (columns : List KeyCells) (keys : List (List ℕ)) (copy : List ℕ)
+    → keys ≡ keys_in columns → limit ≤ length keys → (length keys ≡ 0 → ⊥)
+    → copy ≡ get_or keys (length keys - 1) copy → Some copy ≡ part_end after limit columns
+end-copied after limit columns keys copy is enough some read =
     let long : length keys ≡ length columns = ap length is ∙ length-map columns (λ (one : KeyCells). one.key) in
     let last : copy ≡ last_key after columns =
     read ∙ ap (λ ks. get_or ks (length ks - 1) copy) is
@@ -455,7 +455,7 @@ end-copied after most columns keys copy is enough some read =
     (let n = ap length is in omega (arith, n, some)) in
     ap Some last
     ∙ ap (λ b. cond b None (Some (last_key after columns)))
-    (sym (le-ltb (length columns) most (omega (arith, enough, long))))
+    (sym (le-ltb (length columns) limit (omega (arith, enough, long))))
 
 -- one more key
 pub flags-step : (keys : List (List ℕ)) (i : ℕ) (key : List ℕ) (left : List Bool) (now : List Row) → i < length keys

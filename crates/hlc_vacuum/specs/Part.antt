@@ -31,22 +31,22 @@ HaveFlags (key ∷ keys) flags rows =
 
 -- The part has the plan of the columns of the first keys above one, at most this many, with these keys and where they
 -- end.
-pub record IsPartOf (part : PartPlan) (rows : List Row) (after : List ℕ) (most : ℕ) : Type 0 where
+pub record IsPartOf (part : PartPlan) (rows : List Row) (after : List ℕ) (limit : ℕ) : Type 0 where
   pub columns : List KeyCells
-  pub next : AreNext rows after most columns
+  pub next : AreNext rows after limit columns
   pub row_set : IsRowSet rows
   pub keys : part.keys.items ≡ keys_in columns
   pub plan : IsPlanOf part.plan (rows_in columns)
-  pub end : part.end ≡ part_end after most columns
+  pub end : part.end ≡ part_end after limit columns
 
 -- the part with a plan in place of its tally
 abbrev pub with_plan : PartTally → PlanView → PartPlan
 with_plan part plan = record { plan = plan; keys = part.keys; end = part.end }
 
 -- The part has the tally of such a plan, with these keys and where they end.
-pub record IsPartTallyOf (part : PartTally) (rows : List Row) (after : List ℕ) (most : ℕ) : Type 0 where
+pub record IsPartTallyOf (part : PartTally) (rows : List Row) (after : List ℕ) (limit : ℕ) : Type 0 where
   pub plan : PlanView
-  pub made : IsPartOf (with_plan part plan) rows after most
+  pub made : IsPartOf (with_plan part plan) rows after limit
   pub is : part.tally ≡ tally_of plan
 
 -- Rows of the keys of a kind were vacuumed, as the report says, and all others stayed.

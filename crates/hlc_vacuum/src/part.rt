@@ -34,25 +34,25 @@ pub struct PartTally {
     pub end: Option<Bytes>,
 }
 
-/// Plans a vacuum of the first keys above a key, at most `most` keys, at ascending points, as `plan_table` does for
+/// Plans a vacuum of the first keys above a key, at most `limit` keys, at ascending points, as `plan_table` does for
 /// all. It reads no other columns, and changes nothing.
 pub fn plan_part(
     alloc: Global,
     table: &Table,
     after: &[u8],
-    most: usize,
+    limit: usize,
     points: &[Stamp],
 ) -> Result<PartPlan, NoMemory>
     requires { PointsAscend points.now }
-    ensures made { IfOk result (λ part. IsPartOf part table.now after.now most) }
+    ensures made { IfOk result (λ part. IsPartOf part table.now after.now limit) }
     ensures points { IfOk result (λ part. part.plan.points ≡ points.now) }
 {
-    let columns = table.columns_after(after, most)?;
+    let columns = table.columns_after(after, limit)?;
     let mut witnesses = Vec::new(alloc);
     let draft = plan_columns(alloc, columns.as_slice(), points, &mut witnesses)?;
     let plan = plan_of(alloc, points, Piece { draft, witnesses })?;
     let keys = copy_keys(alloc, columns.as_slice())?;
-    let end = end_of(alloc, after, most, keys.as_slice())?;
+    let end = end_of(alloc, after, limit, keys.as_slice())?;
     Ok(PartPlan { plan, keys, end })
 }
 
@@ -61,18 +61,18 @@ pub fn tally_part(
     alloc: Global,
     table: &Table,
     after: &[u8],
-    most: usize,
+    limit: usize,
     points: &[Stamp],
 ) -> Result<PartTally, NoMemory>
     requires { PointsAscend points.now }
-    ensures made { IfOk result (λ part. IsPartTallyOf part table.now after.now most) }
+    ensures made { IfOk result (λ part. IsPartTallyOf part table.now after.now limit) }
     ensures points { IfOk result (λ part. part.tally.points ≡ points.now) }
 {
-    let columns = table.columns_after(after, most)?;
+    let columns = table.columns_after(after, limit)?;
     let draft = plan_columns(alloc, columns.as_slice(), points, &mut Unlisted)?;
     let tally = tally_of(alloc, points, draft)?;
     let keys = copy_keys(alloc, columns.as_slice())?;
-    let end = end_of(alloc, after, most, keys.as_slice())?;
+    let end = end_of(alloc, after, limit, keys.as_slice())?;
     Ok(PartTally { tally, keys, end })
 }
 
@@ -87,17 +87,17 @@ fn copy_keys(alloc: Global, columns: &[Keyed<'_>]) -> Result<Vec<Bytes>, NoMemor
     Ok(keys)
 }
 
-/// Returns a copy of the last of the keys, or of `after` if there are none; or none if they are fewer than `most`.
+/// Returns a copy of the last of the keys, or of `after` if there are none; or none if they are fewer than `limit`.
 fn end_of(
     alloc: Global,
     after: &[u8],
-    most: usize,
+    limit: usize,
     keys: &[Bytes],
 ) -> Result<Option<Bytes>, NoMemory>
     ensures { IfOk result (λ end. (columns : List KeyCells) → keys.now ≡ keys_in columns
-        → end ≡ part_end after.now most columns) }
+        → end ≡ part_end after.now limit columns) }
 {
-    if keys.len() < most {
+    if keys.len() < limit {
         return Ok(None);
     }
     if keys.is_empty() {
@@ -109,8 +109,8 @@ fn end_of(
 
 /// Carries out the plan of the columns of some keys of this table. All other rows stay. It needs no memory.
 pub fn apply_part(table: &mut Table, part: PartPlan) -> (Report, Option<Bytes>)
-    requires { (after : List ℕ) × (most : ℕ) × IsPartOf part table.old after most }
-    ensures vacuumed { (after : List ℕ) (most : ℕ) → IsPartOf part table.old after most
+    requires { (after : List ℕ) × (limit : ℕ) × IsPartOf part table.old after limit }
+    ensures vacuumed { (after : List ℕ) (limit : ℕ) → IsPartOf part table.old after limit
         → IsPartVacuum table.old table.new (in_part after part.end) result.0 }
     ensures report { result.0 ≡ report_of part.plan }
     ensures end { result.1 ≡ part.end }
@@ -123,9 +123,9 @@ pub fn apply_part(table: &mut Table, part: PartPlan) -> (Report, Option<Bytes>)
 /// Carries out the tally of the columns of some keys of this table, and returns the numbers of the report of each plan
 /// that has this tally. All other rows stay. It needs no memory.
 pub fn apply_part_tally(table: &mut Table, part: PartTally) -> (Numbers, Option<Bytes>)
-    requires { (after : List ℕ) × (most : ℕ) × IsPartTallyOf part table.old after most }
-    ensures vacuumed { (after : List ℕ) (most : ℕ) (plan : PlanView)
-        → IsPartOf (with_plan part plan) table.old after most → part.tally ≡ tally_of plan
+    requires { (after : List ℕ) × (limit : ℕ) × IsPartTallyOf part table.old after limit }
+    ensures vacuumed { (after : List ℕ) (limit : ℕ) (plan : PlanView)
+        → IsPartOf (with_plan part plan) table.old after limit → part.tally ≡ tally_of plan
         → IsPartVacuum table.old table.new (in_part after part.end) (report_of plan) }
     ensures numbers { result.0 ≡ numbers_in part.tally }
     ensures end { result.1 ≡ part.end }

@@ -114,14 +114,14 @@ abbrev inside : Option (List ℕ) → List ℕ
 inside None = []
 inside (Some key) = key
 
-ends-from : (kept : StoreView) (after : List ℕ) (most : ℕ) (key : List ℕ) → EndsAt kept after most (Some key)
+ends-from : (kept : StoreView) (after : List ℕ) (limit : ℕ) (key : List ℕ) → EndsAt kept after limit (Some key)
     → IsFrom after key
-ends-from kept after most key ends =
-    elim (nat_lt (length ends.columns) most) as (λ b.
+ends-from kept after limit key ends =
+    elim (nat_lt (length ends.columns) limit) as (λ b.
     Some key ≡ cond b None (Some (last_key after ends.columns)) → IsFrom after key) [
       | true ↦ λ e. absurd (both_ways true (ap is_some e) refl)
       | false ↦ λ e. subst (IsFrom after) (sym (ap inside e))
-          (last-from after (part_end after most ends.columns) after ends.columns (inl refl) ends.next.inside)
+          (last-from after (part_end after limit ends.columns) after ends.columns (inl refl) ends.next.inside)
     ] ends.is
 
 -- What is known after a part, or after several: the store represents the past with it, and the report is the expected
@@ -224,8 +224,8 @@ passes old at after past part (next ∷ parts) (made, on) =
       | Some key ↦ λ is rest.
           pass-on old part.left (left_by next parts) at past (in_part after None) (in_part after (Some key))
           (in_part key None) part.report (report_of next parts)
-          (halves after key (ends-from old after part.most key
-          (subst (λ e. EndsAt old after part.most e) is made.1)))
+          (halves after key (ends-from old after part.limit key
+          (subst (λ e. EndsAt old after part.limit e) is made.1)))
           (has-passed old part.left at past (in_part after (Some key)) part.report
           (subst (λ e. VacuumsKeys old part.left at past (in_part after e) part.report) is made.2))
           (passes part.left at key (PartVacuumed at part.report.dropped ∷ past) next parts rest)

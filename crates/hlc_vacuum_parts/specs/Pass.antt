@@ -7,7 +7,7 @@ use Rattle.hlc_core.specs.Parts.{VacuumsPart}
 
 -- a part that was made: of how many keys at most, its report, where it ended, and the store that it left
 pub record Part : Type 0 where
-  pub most : ℕ
+  pub limit : ℕ
   pub report : Report
   pub end : Option (List ℕ)
   pub left : StoreView
@@ -16,9 +16,9 @@ pub record Part : Type 0 where
 -- this key, each other one where the one before it ended, and the last one ended nowhere: no key is left.
 abbrev pub ArePass : StoreView → ℕ → List ℕ → List Step → Part → List Part → Type 0
 ArePass old at after past part [] =
-    VacuumsPart old part.left at after part.most past (Ok (part.report, part.end)) × (part.end ≡ None)
+    VacuumsPart old part.left at after part.limit past (Ok (part.report, part.end)) × (part.end ≡ None)
 ArePass old at after past part (next ∷ parts) =
-    VacuumsPart old part.left at after part.most past (Ok (part.report, part.end))
+    VacuumsPart old part.left at after part.limit past (Ok (part.report, part.end))
     × MatchOption part.end ⊥
     (λ key. ArePass part.left at key (PartVacuumed at part.report.dropped ∷ past) next parts)
 

@@ -120,7 +120,7 @@ past-step past core_event.Vacuum (core_reply.Vacuumed report) expected legal =
     let low : horizon past ≤ floor past = horizon-low past legal in
     (vacuum-none past report.floor (omega arith) (omega arith), legal)
 past-step past (core_event.VacuumTo at) (core_reply.Vacuumed report) expected legal = (expected.0, legal)
-past-step past (core_event.VacuumPart at after most) (core_reply.VacuumedPart report end) expected legal =
+past-step past (core_event.VacuumPart at after limit) (core_reply.VacuumedPart report end) expected legal =
     (expected.0, legal)
 past-step past _ _ expected legal = legal
 

@@ -72,7 +72,7 @@ pub(crate) fn event_of(alloc: Global, words: &mut LineWords<'_>) -> Option<CoreE
         "vacuum_part" => Some(CoreEvent::VacuumPart {
             at: next_stamp(words),
             after: next_text(alloc, words)?,
-            most: next_number(words) as usize,
+            limit: next_number(words) as usize,
         }),
         "read" => Some(CoreEvent::Read {
             id: next_number(words),

@@ -111,8 +111,8 @@ fn change(rt: &HostRuntime, core: &mut Core, name: &str, words: &mut LineWords<'
         "vacuum_to_counted" => answer(rt, "vacuumed", core.vacuum_to_counted(next_stamp(words))),
         "vacuum_part_counted" => {
             let (at, mut room) = (next_stamp(words), [0; LONGEST]);
-            let (after, most) = (next_key(words, &mut room), next_number(words) as usize);
-            answer(rt, "vacuumed", core.vacuum_part_counted(at, after, most))
+            let (after, limit) = (next_key(words, &mut room), next_number(words) as usize);
+            answer(rt, "vacuumed", core.vacuum_part_counted(at, after, limit))
         }
         "fill" => fill(rt, core, words),
         _ => ask(rt, core, name, words),

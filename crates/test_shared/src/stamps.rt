@@ -77,7 +77,7 @@ fn part<L: Ledger, R: Wait + Threads + Abort + Sync>(
     let event = CoreEvent::VacuumPart {
         at: at_second(2),
         after: Bytes::from_slice(alloc, after).expect(rt, "memory"),
-        most: 1,
+        limit: 1,
     };
     client.asks(rt, shared, event)
 }

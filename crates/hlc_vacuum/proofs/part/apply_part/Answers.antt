@@ -13,8 +13,8 @@ apply_to_keys-numbers-requires c =
     (part-flags c.args.part c.args.table.now c.requires.0 c.requires.1 c.requires.2))
 
 pub returns-clause-vacuumed : goal.returns-clause-vacuumed
-returns-clause-vacuumed c = λ after most h.
-    part-vacuum c.args.part c.args.table.now c.apply_to_keys-numbers.new.table after most c.into_report.result h
+returns-clause-vacuumed c = λ after limit h.
+    part-vacuum c.args.part c.args.table.now c.apply_to_keys-numbers.new.table after limit c.into_report.result h
     (c.apply_to_keys-numbers.ensures.rows
     ∙ ap (λ keys. all_kept keys c.tally.result.now.keep c.args.table.now) c.as_slice.ensures.value
     ∙ ap (λ (tally : TallyView). all_kept c.args.part.keys.items tally.keep c.args.table.now) c.tally.ensures)

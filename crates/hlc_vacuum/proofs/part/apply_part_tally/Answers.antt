@@ -15,8 +15,8 @@ apply_to_keys-requires c =
     (part-flags (with_plan c.args.part of.plan) c.args.table.now c.requires.0 c.requires.1 of.made))
 
 pub returns-clause-vacuumed : goal.returns-clause-vacuumed
-returns-clause-vacuumed c = λ after most plan h is.
-    part-vacuum (with_plan c.args.part plan) c.args.table.now c.apply_to_keys.new.table after most (report_of plan) h
+returns-clause-vacuumed c = λ after limit plan h is.
+    part-vacuum (with_plan c.args.part plan) c.args.table.now c.apply_to_keys.new.table after limit (report_of plan) h
     (c.apply_to_keys.ensures.rows
     ∙ ap (λ keys. all_kept keys c.args.part.tally.keep c.args.table.now) c.as_slice.ensures.value
     ∙ ap (λ (tally : TallyView). all_kept c.args.part.keys.items tally.keep c.args.table.now) is)

@@ -22,7 +22,7 @@ returns-clause-made c =
       keys = keys;
       plan = piece_plans columns c.args.points.now (rows_in columns) c.requires next.ascend refl
           (subst IsRowSet next.exact
-          (filter-IsRowSet (λ row. in_part c.args.after.now (part_end c.args.after.now c.args.most columns) row.key)
+          (filter-IsRowSet (λ row. in_part c.args.after.now (part_end c.args.after.now c.args.limit columns) row.key)
           c.args.table.now c.in_ok-columns.ensures.row_set))
           (record { draft = c.in_ok-draft.draft; witnesses = c.plan_columns.new.changes }) c.in_ok-plan.plan
           (record {

@@ -15,7 +15,7 @@ returns-clause-made c =
     let keys = c.in_ok-keys.ensures ∙ ap keys_in c.as_slice-2.ensures.value in
     let of = draft_is_tally columns c.args.points.now (rows_in columns) c.requires next.ascend refl
     (subst IsRowSet next.exact
-    (filter-IsRowSet (λ row. in_part c.args.after.now (part_end c.args.after.now c.args.most columns) row.key)
+    (filter-IsRowSet (λ row. in_part c.args.after.now (part_end c.args.after.now c.args.limit columns) row.key)
     c.args.table.now c.in_ok-columns.ensures.row_set))
     c.in_ok-draft.draft c.in_ok-tally.tally
     (subst (λ columns. IsDraftOf columns c.args.points.now c.in_ok-draft.draft) c.as_slice.ensures.value

@@ -9,7 +9,7 @@ use Rattle.hlc_columns.proofs.table.Table.columns_after.Goals as goal
 pub returns-clause-next : goal.returns-clause-next
 returns-clause-next c =
     IfOk-weaker c.columns_above.result _ _
-    (λ list h. subst (λ rows. AreNext rows c.args.key.now c.args.most list.items) c.self.view_is
-    (are_next (entries_in c.self.inside.columns) c.args.key.now h.0 h.1 c.args.most list.items h.2
+    (λ list h. subst (λ rows. AreNext rows c.args.key.now c.args.limit list.items) c.self.view_is
+    (are_next (entries_in c.self.inside.columns) c.args.key.now h.0 h.1 c.args.limit list.items h.2
     c.columns_above.ensures.ascend c.self.invariant.0))
     c.columns_above.ensures.list

@@ -23,12 +23,12 @@ invariant_of-self c =
     )
 
 pub returns-clause-vacuums : goal.returns-clause-vacuums
-returns-clause-vacuums c = λ past after most h plan.
-    let planned = subst (λ kept. IsPartPlanAt kept c.args.at after most c.args.part) (sym c.self.view_is) plan in
+returns-clause-vacuums c = λ past after limit h plan.
+    let planned = subst (λ kept. IsPartPlanAt kept c.args.at after limit c.args.part) (sym c.self.view_is) plan in
     let made = subst (IsPartVacuum c.self.inside.table c.apply_part-made.new.table (in_part after c.args.part.end))
-    c.apply_part-made.ensures.report (c.apply_part-made.ensures.vacuumed after most planned.made) in
+    c.apply_part-made.ensures.report (c.apply_part-made.ensures.vacuumed after limit planned.made) in
     rw (← c.self.view_is)
     (rw (c.apply_part-made.ensures.report, c.apply_part-made.ensures.end)
-    (part-vacuums_keys _ c.args.at past after most c.args.part c.apply_part-made.new.table
+    (part-vacuums_keys _ c.args.at past after limit c.args.part c.apply_part-made.new.table
     (rw (← c.self.view_is) at h) (rw (← c.self.view_is) at c.requires.low) (rw (← c.self.view_is) at c.requires.high)
     planned made))

@@ -29,12 +29,12 @@ invariant_of-self c =
     )
 
 pub returns : goal.returns
-returns c = λ past after most h tally.
-    let of = subst (λ kept. IsPartTallyAt kept c.args.at after most c.args.part) (sym c.self.view_is) tally in
-    let made = part-vacuums_keys _ c.args.at past after most (with_plan c.args.part of.plan)
+returns c = λ past after limit h tally.
+    let of = subst (λ kept. IsPartTallyAt kept c.args.at after limit c.args.part) (sym c.self.view_is) tally in
+    let made = part-vacuums_keys _ c.args.at past after limit (with_plan c.args.part of.plan)
     c.apply_part_tally-made.new.table (rw (← c.self.view_is) at h)
     (rw (← c.self.view_is) at c.requires.low) (rw (← c.self.view_is) at c.requires.high) of.planned
-    (c.apply_part_tally-made.ensures.vacuumed after most of.plan of.planned.made of.is) in
+    (c.apply_part_tally-made.ensures.vacuumed after limit of.plan of.planned.made of.is) in
     rw (← c.self.view_is)
     (rw (c.apply_part_tally-made.ensures.end) (
       made.0,

@@ -17,6 +17,6 @@ returns-in-Part-clause-step c = λ nodes event history planned represents.
     (sym c.with-in-Part.ensures)
     (subst (λ e. IsStep nodes c.args.self.now made.new.self e history (VacuumedPart made.result.0 made.result.1))
     (sym of.is)
-    (part_is_step nodes c.args.self.now made.new.self c.in-Part.at of.after of.most history made.result.0 made.result.1
+    (part_is_step nodes c.args.self.now made.new.self c.in-Part.at of.after of.limit history made.result.0 made.result.1
     represents
-    (made.ensures.vacuums (past_of nodes history) of.after of.most represents.core of.planned)))
+    (made.ensures.vacuums (past_of nodes history) of.after of.limit represents.core of.planned)))

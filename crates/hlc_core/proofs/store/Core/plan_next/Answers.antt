@@ -10,7 +10,7 @@ pub returns : goal.returns
 returns c =
     let points = c.in_ok-part.ensures.points ∙ c.as_slice.ensures.value in
     record {
-      made = subst (λ (kept : StoreView). IsPartOf c.in_ok-part.part kept.rows c.args.after.now c.args.most)
+      made = subst (λ (kept : StoreView). IsPartOf c.in_ok-part.part kept.rows c.args.after.now c.args.limit)
           c.self.view_is c.in_ok-part.ensures.made;
       points =
           subst (λ (kept : StoreView). ArePoints (stamps_to c.args.at kept.snapshots) c.args.at

@@ -16,7 +16,7 @@ returns c =
     record {
       plan = made.plan;
       planned = record {
-        made = subst (λ (kept : StoreView). IsPartOf part kept.rows c.args.after.now c.args.most)
+        made = subst (λ (kept : StoreView). IsPartOf part kept.rows c.args.after.now c.args.limit)
             c.self.view_is made.made;
         points =
             subst (λ (kept : StoreView). ArePoints (stamps_to c.args.at kept.snapshots) c.args.at made.plan.points)
