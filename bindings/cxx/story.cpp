@@ -411,10 +411,10 @@ void keep_above(store& store, node& node) {
 }
 
 // Vacuums in parts of so many keys, and prints the key after which each next part goes on.
-void vacuum_parts(store& store, timestamp stamp, std::size_t most) try {
+void vacuum_parts(store& store, timestamp stamp, std::size_t limit) try {
   std::optional<string> after = "";
   while (after) {
-    const hlcstore::partial_vacuum made = store.vacuum_part(stamp, *after, most);
+    const hlcstore::partial_vacuum made = store.vacuum_part(stamp, *after, limit);
     std::printf("part 0 %llu %llu %llu %llu %d ", wide(made.stamp.word), wide(made.kept), wide(made.bytes),
                 wide(made.dropped), made.next.has_value());
     after = made.next;

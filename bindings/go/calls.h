@@ -572,10 +572,10 @@ typedef struct {
 } hlcgo_vacuum_part_of;
 
 static inline hlcgo_vacuum_part_of hlcgo_vacuum_part(hlc_store *store, uint64_t stamp, const uint8_t *after,
-                                                     size_t after_len, size_t most)
+                                                     size_t after_len, size_t limit)
 {
     hlcgo_vacuum_part_of part = { 0 };
-    part.done.code = hlc_store_vacuum_part(store, stamp, after, after_len, most, &part.done.word, &part.done.kept,
+    part.done.code = hlc_store_vacuum_part(store, stamp, after, after_len, limit, &part.done.word, &part.done.kept,
                                            &part.done.bytes, &part.done.dropped, part.last, sizeof part.last, &part.len,
                                            &part.more);
     return part;

@@ -42,16 +42,16 @@ func (s *Store) VacuumTo(stamp Stamp) (Vacuumed, error) {
 // the context's error. The store has the stamp as its horizon from the first part on. A later call begins anew.
 //
 // Refusals: those of VacuumTo; also between parts, where another vacuum went above the stamp.
-func (s *Store) VacuumInParts(ctx context.Context, stamp Stamp, keys int) (Vacuumed, error) {
-	if keys < 1 {
-		keys = 1
+func (s *Store) VacuumInParts(ctx context.Context, stamp Stamp, limit int) (Vacuumed, error) {
+	if limit < 1 {
+		limit = 1
 	}
 	done := Vacuumed{Stamp: stamp}
 	for after, more := []byte(nil), true; more; {
 		if err := ctx.Err(); err != nil {
 			return done, err
 		}
-		part, err := s.VacuumPart(stamp, after, keys)
+		part, err := s.VacuumPart(stamp, after, limit)
 		if err != nil {
 			return done, err
 		}
@@ -74,14 +74,14 @@ type VacuumPart struct {
 // most this many. The first part makes the stamp the horizon.
 //
 // Refusals: those of VacuumTo.
-func (s *Store) VacuumPart(stamp Stamp, after []byte, keys int) (VacuumPart, error) {
-	if keys < 0 {
-		keys = 0
+func (s *Store) VacuumPart(stamp Stamp, after []byte, limit int) (VacuumPart, error) {
+	if limit < 0 {
+		limit = 0
 	}
 	afterAt, afterLen := pointer(after)
 	s.mu.Lock()
 	defer s.mu.Unlock()
-	part := C.hlcgo_vacuum_part(&s.raw, C.uint64_t(stamp), afterAt, afterLen, C.size_t(keys))
+	part := C.hlcgo_vacuum_part(&s.raw, C.uint64_t(stamp), afterAt, afterLen, C.size_t(limit))
 	done, err := vacuumed(part.done)
 	return VacuumPart{done, lastKey(&part, after), bool(part.more)}, err
 }

@@ -404,7 +404,7 @@ static void use_store(void)
 /* A refused part has its word, and the next call makes it. Parts of one key and of none are parts too. */
 static void vacuum_in_parts(void)
 {
-    static const size_t most[] = { 1, 0, 3 };
+    static const size_t limit[] = { 1, 0, 3 };
     static const uint64_t kept[] = { 1, 0, 1 };
     hlc_store store = HLC_CLOSED_STORE;
     hlc_partial_vacuum part = HLC_FIRST_PART;
@@ -414,7 +414,7 @@ static void vacuum_in_parts(void)
     EXPECT(part.more && part.after_len == 0, true);
     for (int i = 0; i < 3; i++) {
         EXPECT(part.more, true);
-        EXPECT(hlc_store_run_vacuum_part(&store, HLC_STAMP(4, 0), most[i], &part), HLC_OK);
+        EXPECT(hlc_store_run_vacuum_part(&store, HLC_STAMP(4, 0), limit[i], &part), HLC_OK);
         EXPECT(part.report.stamp, HLC_STAMP(4, 0));
         EXPECT(part.report.word, 0);
         EXPECT(part.report.kept, kept[i]);

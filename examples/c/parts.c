@@ -59,13 +59,13 @@ static void expect_sizes(uint64_t rows, uint64_t keys, uint64_t key_bytes, uint6
 
 /* Vacuums so many keys after a key, or the first ones where `after` has no bytes. Puts the last key of the part there,
  * if a key is left, and returns its length. */
-static size_t vacuum_part(uint64_t stamp, uint8_t *after, size_t after_len, size_t most, struct part expected)
+static size_t vacuum_part(uint64_t stamp, uint8_t *after, size_t after_len, size_t limit, struct part expected)
 {
     uint8_t out[LONGEST] = { 0 }, key[LONGEST];
     uint64_t found[4];
     size_t len, expected_len = expected.more ? KEYS[expected.last].len : 0;
     bool more;
-    uint32_t code = hlc_store_vacuum_part(&store, stamp, after, after_len, most, &found[0], &found[1], &found[2],
+    uint32_t code = hlc_store_vacuum_part(&store, stamp, after, after_len, limit, &found[0], &found[1], &found[2],
                                           &found[3], out, sizeof out, &len, &more);
     expect("part", code, found[0], HLC_OK, stamp);
     expect("kept", code, found[1], HLC_OK, expected.kept);

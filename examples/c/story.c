@@ -373,13 +373,13 @@ static void keep_above(hlc_node *node)
 }
 
 /* Vacuums the next keys, at most so many, and prints the key to go on from. Returns whether a key may be left. */
-static bool vacuum_part(uint64_t stamp, size_t most, uint8_t key[255], size_t *key_len)
+static bool vacuum_part(uint64_t stamp, size_t limit, uint8_t key[255], size_t *key_len)
 {
     uint64_t kept, cost, dropped;
     bool more;
     uint8_t out[255];
     size_t len;
-    uint32_t code = hlc_store_vacuum_part(&store, stamp, key, *key_len, most, &word, &kept, &cost, &dropped, out,
+    uint32_t code = hlc_store_vacuum_part(&store, stamp, key, *key_len, limit, &word, &kept, &cost, &dropped, out,
                                           sizeof out, &len, &more);
     printf("part %" PRIu32 " %" PRIu64 " %" PRIu64 " %" PRIu64 " %" PRIu64 " %d ", code, word, kept, cost, dropped,
            more);
@@ -391,11 +391,11 @@ static bool vacuum_part(uint64_t stamp, size_t most, uint8_t key[255], size_t *k
 }
 
 /* Vacuums in parts of so many keys. */
-static void vacuum_parts(uint64_t stamp, size_t most)
+static void vacuum_parts(uint64_t stamp, size_t limit)
 {
     uint8_t key[255];
     size_t len = 0;
-    while (vacuum_part(stamp, most, key, &len)) continue;
+    while (vacuum_part(stamp, limit, key, &len)) continue;
 }
 
 /* Vacuums key by key, and by two keys at a later stamp, after which a whole vacuum drops nothing. */

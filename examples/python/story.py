@@ -333,12 +333,12 @@ def keep_above(store, node):
     print_sizes(store)
 
 
-def vacuum_parts(store, at, most):
+def vacuum_parts(store, at, limit):
     """Vacuums in parts of so many keys, and prints the key after which each next part goes on."""
     after = b""
     while after is not None:
         try:
-            *numbers, after = store.vacuum_part(at, after, most)
+            *numbers, after = store.vacuum_part(at, after, limit)
         except Error as refused:
             put("part", refused.code, refused.word, 0, 0, 0, 0, "")
             return

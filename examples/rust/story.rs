@@ -334,10 +334,10 @@ fn keep_above(store: &Store, node: &mut Node) {
 }
 
 // Vacuums in parts of so many keys, and prints the key after which each next part goes on.
-fn vacuum_parts(store: &Store, stamp: Stamp, most: usize) {
+fn vacuum_parts(store: &Store, stamp: Stamp, limit: usize) {
     let mut after = Some(Vec::new());
     while let Some(key) = after {
-        match store.vacuum_part(stamp, &key, most) {
+        match store.vacuum_part(stamp, &key, limit) {
             Ok(VacuumPart { vacuumed, next }) => {
                 let Vacuumed { stamp, kept, bytes, dropped } = vacuumed;
                 let (stamp, more, last) = (stamp.to_bits(), next.is_some() as u8, hex(next.as_deref().unwrap_or(b"")));

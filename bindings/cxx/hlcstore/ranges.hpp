@@ -517,10 +517,10 @@ class ranges {
 
   // Vacuums each store to the stamp, or to the cut where that is below it, in parts of this many keys. Its report has
   // the stamp, and sums over the stores. Where it throws, some stores were vacuumed, and it may be called again.
-  vacuum_report vacuum_to(timestamp stamp, std::size_t most = 1024) {
+  vacuum_report vacuum_to(timestamp stamp, std::size_t limit = 1024) {
     vacuum_report all{std::min(stamp, cut()), 0, 0, 0};
     for (shared_store& one : stores_) {
-      const vacuum_report made = one.vacuum_in_parts(all.stamp, most);
+      const vacuum_report made = one.vacuum_in_parts(all.stamp, limit);
       all.kept += made.kept;
       all.bytes += made.bytes;
       all.dropped += made.dropped;

@@ -271,16 +271,16 @@ class shared_store {
 
   vacuum_report vacuum() { return make(&store::vacuum); }
   vacuum_report vacuum_to(timestamp stamp) { return make(&store::vacuum_to, stamp); }
-  partial_vacuum vacuum_part(timestamp stamp, std::string_view after = {}, std::size_t most = 1024) {
-    return make(&store::vacuum_part, stamp, after, most);
+  partial_vacuum vacuum_part(timestamp stamp, std::string_view after = {}, std::size_t limit = 1024) {
+    return make(&store::vacuum_part, stamp, after, limit);
   }
 
   // Makes a vacuum_to by its parts, each of this many keys and alone under the lock. Readers that wait run between two
   // parts. Where it throws, parts were made, and it may be called again.
-  vacuum_report vacuum_in_parts(timestamp stamp, std::size_t most = 1024) {
+  vacuum_report vacuum_in_parts(timestamp stamp, std::size_t limit = 1024) {
     vacuum_report all{stamp, 0, 0, 0};
     for (std::optional<std::string> after = ""; after;) {
-      partial_vacuum made = vacuum_part(stamp, *after, most);
+      partial_vacuum made = vacuum_part(stamp, *after, limit);
       all.kept += made.kept;
       all.bytes += made.bytes;
       all.dropped += made.dropped;

@@ -404,13 +404,13 @@ class store {
   // Does a part of vacuum_to, so that one call does a bounded amount of work: of the first keys above one, or the first
   // of all where that has no bytes, at most this many. The first part makes the stamp the horizon. All calls are
   // allowed between parts. Each leaves the fewest rows of its keys at the snapshots that are open then.
-  partial_vacuum vacuum_part(timestamp stamp, std::string_view after = {}, std::size_t most = 1024) {
+  partial_vacuum vacuum_part(timestamp stamp, std::string_view after = {}, std::size_t limit = 1024) {
     partial_vacuum made;
     // A part of no keys ends where it begins.
     std::string next(std::max(detail::longest_key, after.size()), '\0');
     std::size_t len = 0;
     bool more = false;
-    const std::uint32_t code = hlc_store_vacuum_part(own(), stamp.word, detail::bytes(after), after.size(), most,
+    const std::uint32_t code = hlc_store_vacuum_part(own(), stamp.word, detail::bytes(after), after.size(), limit,
                                                      &made.stamp.word, &made.kept, &made.bytes, &made.dropped,
                                                      detail::bytes(next), next.size(), &len, &more);
     detail::check(code, made.stamp.word);

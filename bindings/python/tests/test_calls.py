@@ -483,7 +483,7 @@ class Vacuums(unittest.TestCase):
         self.assertEqual((self.store.horizon, self.store.rows), (stamp(2), 3))
 
     def test_in_parts(self):
-        first = self.store.vacuum_part(stamp(4), most=1)
+        first = self.store.vacuum_part(stamp(4), limit=1)
         self.assertEqual(first, VacuumPart(stamp=stamp(4), kept=1, cost=13, dropped=1, next=b"a"))
         self.assertEqual((self.store.horizon, self.store.rows), (stamp(4), 3))
         self.assertEqual(self.store.vacuum_part(stamp(4), bytearray(b"a"), 2), (stamp(4), 1, 13, 1, None))
@@ -494,7 +494,7 @@ class Vacuums(unittest.TestCase):
     def test_a_part_ends_at_the_longest_key(self):
         keys = [bytes([i]) * 255 for i in b"abc"]
         store, _ = filled([(key, b"x") for key in keys])
-        self.assertEqual(store.vacuum_part(stamp(3), most=1), (stamp(3), 1, 266, 0, keys[0]))
+        self.assertEqual(store.vacuum_part(stamp(3), limit=1), (stamp(3), 1, 266, 0, keys[0]))
         self.assertEqual(store.vacuum_part(stamp(3), keys[0], 1), (stamp(3), 1, 266, 0, keys[1]))
         self.assertEqual(store.vacuum_part(stamp(3), keys[1], 2), (stamp(3), 1, 266, 0, None))
 

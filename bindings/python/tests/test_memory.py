@@ -124,7 +124,7 @@ def keep(store):
     store.versions(KEY), store.versions(bytearray(LONG_KEY), 0, vacuum.stamp)
     refuse(TypeError, store.versions, KEY, "1")
     refuse(hlcstore.AboveFloor, store.certificate, 2**63)
-    store.vacuum_part(vacuum.stamp, most=1), store.vacuum_part(vacuum.stamp, bytearray(KEY), 0)
+    store.vacuum_part(vacuum.stamp, limit=1), store.vacuum_part(vacuum.stamp, bytearray(KEY), 0)
     refuse(hlcstore.AboveFloor, store.vacuum_to, 2**63)
     refuse(hlcstore.AboveFloor, store.vacuum_part, 2**63, KEY)
     refuse(TypeError, store.vacuum_part, vacuum.stamp, KEY, "1")
@@ -161,9 +161,9 @@ def empty_a_key(store):
     node = Node.restore(0, store.link(0).head, store.link(0).next)
     store.accept_all([node.write(9, LONG_KEY, VALUE), node.delete(10, LONG_KEY)])
     store.close_all()
-    keys, part = store.sizes.keys, store.vacuum_part(store.floor, most=1)
+    keys, part = store.sizes.keys, store.vacuum_part(store.floor, limit=1)
     while part.next is not None:
-        part = store.vacuum_part(store.floor, part.next, most=1)
+        part = store.vacuum_part(store.floor, part.next, limit=1)
     if store.sizes.keys != keys - 1:
         raise AssertionError("the key has rows")
 

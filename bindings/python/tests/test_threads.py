@@ -283,7 +283,7 @@ class LongCalls(unittest.TestCase):
             "restore from pieces": partial(Store.restore, pieces),
             "split_checkpoint": partial(hlcstore.split_checkpoint, saved, b"key 5"),
             "vacuum": wide.vacuum,
-            "vacuum_part": partial(wide.vacuum_part, floor, most=100_000),
+            "vacuum_part": partial(wide.vacuum_part, floor, limit=100_000),
             "vacuum_to": partial(wide.vacuum_to, floor),
         }
         for name, call in calls.items():

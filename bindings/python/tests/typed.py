@@ -56,7 +56,7 @@ with Store(1) as store:
     vacuum = assert_type(store.vacuum(), Vacuum)
     certified = assert_type(store.certificate(vacuum.stamp), Certified)
     assert_type(store.versions(b"a", to=vacuum.stamp), list[Version])
-    assert_type(store.vacuum_part(0, bytearray(b"a"), most=2), VacuumPart)
+    assert_type(store.vacuum_part(0, bytearray(b"a"), limit=2), VacuumPart)
     assert_type(check(certified.certificate), Checked)
     assert_type(Store.restore(store.checkpoint(tag=3)), Store)
     assert_type(store.checkpoint_to(io.BytesIO(), tag=3), int)

@@ -568,8 +568,8 @@ static PyMethodDef store_methods[] = {
       "vacuum_to($self, stamp, /)\n--\n\n"
       "Drop all rows up to a stamp that neither it nor an open snapshot below it needs." },
     METHOD("vacuum_part", store_vacuum_part,
-           "vacuum_part($self, /, stamp, after=b'', most=1024)\n--\n\n"
-           "Do a part of vacuum_to: of the first keys above `after`, at most `most` keys.\n\n"
+           "vacuum_part($self, /, stamp, after=b'', limit=1024)\n--\n\n"
+           "Do a part of vacuum_to: of the first keys above `after`, at most `limit` keys.\n\n"
            "The next part goes on after the key that is returned as next, until that is None. All calls are allowed\n"
            "between parts. Each leaves the fewest rows of its keys at the snapshots that are open then."),
     { "check_vacuum", store_check_vacuum, METH_O,

@@ -39,7 +39,7 @@ PyObject *store_vacuum_to(PyObject *self, PyObject *from)
 typedef struct {
     uint64_t stamp;
     Bytes after;
-    uint64_t most;
+    uint64_t limit;
 } Part;
 
 static PyObject *vacuum_part(Store *store, const Part *part)
@@ -49,7 +49,7 @@ static PyObject *vacuum_part(Store *store, const Part *part)
     size_t len;
     bool more;
     PyThreadState *thread = lock_to_change(store, LONG);
-    uint32_t code = hlc_store_vacuum_part(&store->handle, part->stamp, part->after.at, part->after.len, part->most,
+    uint32_t code = hlc_store_vacuum_part(&store->handle, part->stamp, part->after.at, part->after.len, part->limit,
                                           &numbers[STAMP], &numbers[KEPT], &numbers[COST], &numbers[DROPPED], key,
                                           sizeof key, &len, &more);
     unlock(store, thread);
@@ -65,11 +65,11 @@ static PyObject *vacuum_part(Store *store, const Part *part)
 
 PyObject *store_vacuum_part(PyObject *self, PyObject *args, PyObject *words)
 {
-    static char *names[] = { "stamp", "after", "most", NULL };
-    Part part = { .most = 1024 };
+    static char *names[] = { "stamp", "after", "limit", NULL };
+    Part part = { .limit = 1024 };
     PyObject *result;
     if (!PyArg_ParseTupleAndKeywords(args, words, "O&|O&O&:vacuum_part", names, take_u64, &part.stamp, take_bytes,
-                                     &part.after, take_u64, &part.most))
+                                     &part.after, take_u64, &part.limit))
         return NULL;
     result = vacuum_part((Store *)self, &part);
     drop_bytes(&part.after);

@@ -414,7 +414,7 @@ impl Handle {
         Ok(made.vacuumed())
     }
 
-    pub(crate) fn vacuum_part(&mut self, to: Stamp, after: &[u8], most: usize) -> Result<VacuumPart> {
+    pub(crate) fn vacuum_part(&mut self, to: Stamp, after: &[u8], limit: usize) -> Result<VacuumPart> {
         let (mut made, mut next) = (Numbers::default(), Vec::new());
         let (mut len, mut more) = (0, false);
         // A part of no keys ends where it begins.
@@ -424,7 +424,7 @@ impl Handle {
         made.stamp = self.change(|store, word| unsafe {
             let to = to.to_bits();
             sys::hlc_store_vacuum_part(
-                store, to, at, at_len, most, word, kept, bytes, dropped, out, room, &mut len, &mut more,
+                store, to, at, at_len, limit, word, kept, bytes, dropped, out, room, &mut len, &mut more,
             )
         })?;
         assert!(len <= room, "a stored key has at most {KEY_ROOM} bytes");

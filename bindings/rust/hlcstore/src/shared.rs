@@ -268,9 +268,9 @@ impl SharedStore {
     }
 
     /// Does a part of a vacuum to a stamp, as [`Store::vacuum_part`] does.
-    pub fn vacuum_part(&self, stamp: Stamp, after: impl AsRef<[u8]>, most: usize) -> Result<VacuumPart> {
+    pub fn vacuum_part(&self, stamp: Stamp, after: impl AsRef<[u8]>, limit: usize) -> Result<VacuumPart> {
         let after = after.as_ref();
-        self.write().vacuum_part(stamp, after, most)
+        self.write().vacuum_part(stamp, after, limit)
     }
 
     /// Returns why a vacuum to a stamp would be refused, as [`Store::check_vacuum`] does.

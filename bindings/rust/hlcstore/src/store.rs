@@ -311,9 +311,9 @@ impl Store {
     /// assert_eq!(store.rows()?, 3);
     /// # Ok::<(), hlcstore::Error>(())
     /// ```
-    pub fn vacuum_part(&self, stamp: Stamp, after: impl AsRef<[u8]>, most: usize) -> Result<VacuumPart> {
+    pub fn vacuum_part(&self, stamp: Stamp, after: impl AsRef<[u8]>, limit: usize) -> Result<VacuumPart> {
         let after = after.as_ref();
-        self.write().vacuum_part(stamp, after, most)
+        self.write().vacuum_part(stamp, after, limit)
     }
 
     /// Returns why [`vacuum_to`](Store::vacuum_to) would be refused, except `NoMemory`.
