@@ -68,7 +68,8 @@ pub extern "C" fn hlc_checkpoint_merge(
     word: &mut u64,
 ) -> u32
     ensures answer { OnOutput output.old.value output.new.value result len.new (word.new ≡ 0)
-        (λ bytes. AreJoined left.now right.now bytes) (IsNotJoined left.now right.now result word.new) }
+        (λ bytes. (word.new ≡ 0) × AreJoined left.now right.now bytes)
+        (IsNotJoined left.now right.now result word.new) }
     ensures nothing { result ≢ 0 → (len.new ≡ 0) × (output.new.value ≡ output.old.value) }
 {
     *len = 0;

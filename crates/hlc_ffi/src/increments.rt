@@ -1,5 +1,5 @@
 //! The calls that make increments of checkpoints, and apply them.
-ghost use Rattle.std.specs.Prelude.{◌≡◌, ◌≢◌, ⊤};
+ghost use Rattle.std.specs.Prelude.{◌≡◌, ◌≢◌};
 ghost use Rattle.hlc_ffi.specs.Handle.{OnReader, IsGivenBack};
 ghost use Rattle.hlc_ffi.specs.Outputs.{OnOutput};
 ghost use Rattle.hlc_increment_calls.specs.Increments.{AreAdvanced, AreIncrementOf, IsNotAdvanced, IsRefusedIncrement};
@@ -23,8 +23,9 @@ pub extern "C" fn hlc_increment_make(
     len: &mut usize,
     horizon: &mut u64,
 ) -> u32
-    ensures saved { OnReader store.old.room.value (result ≡ 100) (λ core.
-        OnOutput output.old.value output.new.value result len.new ⊤ (λ bytes. AreIncrementOf bytes tag since core)
+    ensures saved { OnReader store.old.room.value ((result ≡ 100) × (horizon.new ≡ 0)) (λ core.
+        OnOutput output.old.value output.new.value result len.new (horizon.new ≡ 0)
+        (λ bytes. (horizon.new ≡ 0) × AreIncrementOf bytes tag since core)
         (IsRefusedIncrement core since result horizon.new)) }
     ensures nothing { result ≢ 0 → (len.new ≡ 0) × (output.new.value ≡ output.old.value) }
     ensures same { IsGivenBack store.old.room store.new.room }
@@ -51,7 +52,8 @@ pub extern "C" fn hlc_increment_apply(
     word: &mut u64,
 ) -> u32
     ensures answer { OnOutput output.old.value output.new.value result len.new (word.new ≡ 0)
-        (λ made. AreAdvanced older.now bytes.now made) (IsNotAdvanced older.now bytes.now result word.new) }
+        (λ made. (word.new ≡ 0) × AreAdvanced older.now bytes.now made)
+        (IsNotAdvanced older.now bytes.now result word.new) }
     ensures nothing { result ≢ 0 → (len.new ≡ 0) × (output.new.value ≡ output.old.value) }
 {
     *len = 0;

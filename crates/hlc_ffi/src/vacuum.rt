@@ -58,7 +58,8 @@ pub extern "C" fn hlc_store_vacuum_to(
 }
 
 /// Makes a part of `hlc_store_vacuum_to`, of the first keys above `after`, at most `limit` keys. Returns what that
-/// returns, of these keys; the length of the last one and, where it fits, the key; and whether keys may be left above it.
+/// returns, of these keys; the length of the last one and, where it fits, the key; and whether a key may be left above
+/// it.
 #[unsafe(no_mangle)]
 pub extern "C" fn hlc_store_vacuum_part(
     alloc: Global,

@@ -1,5 +1,5 @@
 -- The one encoding of each increment, and reading it.
-use Rattle.std.specs.Prelude.{ℕ, zero, suc, List, [], ◌∷◌, Result, Ok, Err}
+use Rattle.std.specs.Prelude.{◌≡◌, ℕ, zero, suc, List, [], ◌∷◌, Result, Ok, Err}
 use Rattle.hlc_wire.specs.declared.fault.WireFault.{WireFault}
 use Rattle.hlc_wire.specs.declared.fault.WireFault.TheVariants.{Short, Kind}
 use Rattle.hlc_wire.specs.Reading.{◌>>=◌}
@@ -7,6 +7,7 @@ use Rattle.hlc_frame.specs.Frame.{frame_bytes, FrameFits}
 use Rattle.hlc_frame.specs.Opening.{opened}
 use Rattle.hlc_body.specs.Spelling.{saved_bytes, SavedFits}
 use Rattle.hlc_body.specs.Reading.{saved}
+use Rattle.hlc_saved.specs.Saved.{AreFrame}
 use Rattle.hlc_increment.specs.Increment.{IncrementView}
 
 -- a byte 1, with which no checkpoint begins, and the state, in a frame whose tag is the stamp
@@ -21,6 +22,10 @@ increment_bytes tag increment = frame_bytes tag (content_bytes increment)
 pub record IncrementFits (tag : ℕ) (increment : IncrementView) : Type 0 where
   pub frame : FrameFits tag (content_bytes increment)
   pub state : SavedFits increment.since increment.state
+
+-- all of the bytes are one frame, whose body is a byte 1 and one frame
+abbrev pub AreFrames : List ℕ → Type 0
+AreFrames bytes = (tag : ℕ) × (state : List ℕ) × (opened bytes ≡ Ok (tag, 1 ∷ state)) × AreFrame state
 
 -- a state and its stamp
 unfoldable pub state_at : List ℕ → Result IncrementView WireFault

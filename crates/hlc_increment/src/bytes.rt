@@ -1,10 +1,12 @@
 //! An increment as bytes.
-ghost use Rattle.std.specs.Prelude.{◌≡◌, ◌∷◌, ℕ, IfOk, IfErr, OnOk, OnErr, Ok};
+ghost use Rattle.std.specs.Prelude.{◌≡◌, ◌∷◌, ℕ, List, IfOk, IfErr, OnOk, OnErr, IsErrOf, Ok};
 ghost use Rattle.hlc_frame.specs.Frame.{frame_bytes, FrameFits};
 ghost use Rattle.hlc_wire.specs.Reading.{Gives};
 ghost use Rattle.hlc_core.specs.Checkpoint.{IsCheckpoint, IsFirstReason};
 ghost use Rattle.hlc_increment.specs.Increment.{IncrementView};
-ghost use Rattle.hlc_increment.specs.Bytes.{IncrementFits, content_at, increment_at, increment_bytes, state_at};
+ghost use Rattle.hlc_saved.specs.Saved.{AreFrame};
+ghost use Rattle.hlc_increment.specs.Bytes.{IncrementFits, AreFrames, content_at, increment_at, increment_bytes};
+ghost use Rattle.hlc_increment.specs.Bytes.{state_at};
 
 use crate::increment::Increment;
 use hlc_core::{RestoreFault, Stamp};
@@ -32,6 +34,7 @@ pub fn encode_increment(
     increment: &Increment,
     tag: u64,
 ) -> Result<Result<Vec<u8>, RestoreFault>, NoMemory>
+    ensures sound { IfOk result (λ made. OnOk made (IsCheckpoint increment.now.state)) }
     ensures fits { IfOk result (λ made. OnOk made (IncrementFits tag increment.now)) }
     ensures spelled { IfOk result
         (λ made. IfOk made (λ bytes. bytes.items ≡ increment_bytes tag increment.now)) }
@@ -73,7 +76,7 @@ fn framed(alloc: Global, body: &[u8], tag: u64) -> Result<Vec<u8>, NoMemory>
 /// Reads the increment and the tag from their encoding, which is all of the bytes.
 ///
 /// The frame is checked first, then the first byte of its body, `Kind` where it is not 1; then the state, as by
-/// `decode_checkpoint`. `advance` checks what it says.
+/// `decode_checkpoint`: memory runs out only where both frames are whole. `advance` checks what it says.
 pub fn decode_increment(alloc: Global, bytes: &[u8]) -> Result<DecodedIncrement, DecodeError>
     ensures found { IfOk result (λ made. IncrementFits made.tag made.increment
         × (bytes.now ≡ increment_bytes made.tag made.increment)) }
@@ -82,13 +85,15 @@ pub fn decode_increment(alloc: Global, bytes: &[u8]) -> Result<DecodedIncrement,
         → Gives {Y = ℕ × IncrementView} (λ made. (made.tag, made.increment)) result
         (Ok (tag, increment)) }
     ensures exact { Gives (λ made. (made.tag, made.increment)) result (increment_at bytes.now) }
+    ensures memory { IsErrOf result DecodeError.NoMemory → AreFrames bytes.now }
 {
     all(alloc, bytes)
 }
 
 /// Reads an increment and a tag from all of the bytes.
 fn all(alloc: Global, bytes: &[u8]) -> Result<DecodedIncrement, DecodeError>
-    ensures { Gives (λ made. (made.tag, made.increment)) result (increment_at bytes.now) }
+    ensures read { Gives (λ made. (made.tag, made.increment)) result (increment_at bytes.now) }
+    ensures memory { IsErrOf result DecodeError.NoMemory → AreFrames bytes.now }
 {
     let frame = open_frame(bytes)?;
     let increment = content_at(alloc, frame.body)?;
@@ -99,7 +104,9 @@ fn all(alloc: Global, bytes: &[u8]) -> Result<DecodedIncrement, DecodeError>
 /// Reads an increment from all of the body of a frame.
 #[tactic(auto, unfolding(crate::specs::Bytes::content_at))]
 fn content_at(alloc: Global, body: &[u8]) -> Result<Increment, DecodeError>
-    ensures { Gives (λ made. made) result (content_at body.now) }
+    ensures read { Gives (λ made. made) result (content_at body.now) }
+    ensures memory { IsErrOf result DecodeError.NoMemory
+        → (state : List ℕ) × (body.now ≡ 1 ∷ state) × AreFrame state }
 {
     match body {
         [] => Err(DecodeError::Fault(WireFault::Short)),
@@ -111,7 +118,8 @@ fn content_at(alloc: Global, body: &[u8]) -> Result<Increment, DecodeError>
 /// Reads the state and the stamp of an increment.
 #[tactic(auto, unfolding(crate::specs::Bytes::state_at))]
 fn state_at(alloc: Global, bytes: &[u8]) -> Result<Increment, DecodeError>
-    ensures { Gives (λ made. made) result (state_at bytes.now) }
+    ensures read { Gives (λ made. made) result (state_at bytes.now) }
+    ensures memory { IsErrOf result DecodeError.NoMemory → AreFrame bytes.now }
 {
     let Decoded { checkpoint, tag } = decode_checkpoint(alloc, bytes)?;
     Ok(Increment::from_parts(Stamp::from_bits(tag), checkpoint))

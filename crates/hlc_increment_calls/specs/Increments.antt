@@ -1,5 +1,5 @@
 -- How the bytes of an increment are returned, and those of the checkpoint that an older one becomes by it.
-use Rattle.std.specs.Prelude.{◌≡◌, ℕ, ◌<◌, ◌⊎◌, List, Ok, Err}
+use Rattle.std.specs.Prelude.{◌≡◌, ℕ, ◌<◌, ◌≤◌, ◌⊎◌, List, Ok, Err}
 use Rattle.hlc_wire.specs.declared.fault.WireFault.{WireFault}
 use Rattle.hlc_wire.specs.Faults.{fault_code}
 use Rattle.hlc_core.specs.StoreView.{StoreView}
@@ -20,11 +20,11 @@ pub record AreIncrementOf (bytes : List ℕ) (tag since : ℕ) (kept : StoreView
   pub fits : IncrementFits tag increment
   pub spelled : bytes ≡ increment_bytes tag increment
 
--- the stamp is below the horizon, which is returned; or out of memory
+-- the stamp is below the horizon, which is returned; or it is not, and memory ran out
 abbrev pub IsRefusedIncrement : StoreView → ℕ → ℕ → ℕ → Type 0
 IsRefusedIncrement kept since code horizon =
     ((code ≡ 9) × (since < kept.horizon) × (horizon ≡ kept.horizon))
-    ⊎ ((code ≡ 15) × (horizon ≡ 0))
+    ⊎ ((code ≡ 15) × (kept.horizon ≤ since) × (horizon ≡ 0))
 
 -- the bytes are those of this checkpoint, with some tag
 abbrev pub IsRead : List ℕ → StoreView → Type 0

@@ -87,6 +87,7 @@ pub fn apply(
 ) -> Result<Box<Vec<u8>>, u32>
     ensures advanced { IfOk result
         (λ bytes. AreAdvanced older.now increment.now bytes.value.items) }
+    ensures nothing { IfOk result (λ _. word.new ≡ 0) }
     ensures represents { (before after : ℕ) (kept newer : StoreView) (read : IncrementView)
         (past more : List Step) → AreOf older.now before kept → Represents kept past
         → increment.now ≡ increment_bytes after read → IncrementFits after read

@@ -2,11 +2,15 @@
 use Rattle.std.proofs.Common.{◌≡◌, ℕ, Bool, true, false, cond, ◌<◌, ◌≤◌, List, [], ◌∷◌, filter, Less, Ordering}
 use Rattle.std.specs.List.{AllByRecursion}
 use Rattle.std.specs.List.Sorted.{IsStrictlySortedBy}
+use Rattle.std.proofs.lemmas.List.Elements.{All-filter}
 use Rattle.hlc_rows.specs.declared.row.Row.{Row}
 use Rattle.hlc_heads.specs.declared.heads.TheConstants.{MAX_INITIAL_NODES}
+use Rattle.hlc_rows.specs.Rows.{IsInLimits}
+use Rattle.hlc_table_column.proofs.FlagLemmas.{filter-IsRowSet}
 use Rattle.hlc_witness.specs.Certificate.{RowsAscend, row_cmp}
 use Rattle.hlc_core.specs.Past.{Step}
 use Rattle.hlc_core.specs.StoreView.{StoreView, Represents}
+use Rattle.hlc_checkpoint.specs.StoreView.{IsUnderHead}
 use Rattle.hlc_checkpoint.specs.Checkpoint.{IsCheckpoint}
 use Rattle.hlc_core.proofs.CheckpointLemmas.{checkpoint-sound}
 use Rattle.hlc_split.specs.Split.{part_of}
@@ -30,6 +34,31 @@ sorted-filter c p (x ∷ xs) h =
       | true ↦ (all-filter (λ y. c x y ≡ Less) p xs h.0, sorted-filter c p xs h.1)
       | false ↦ sorted-filter c p xs h.1
     ]
+
+-- some of the rows of a checkpoint, with all else of it
+pub part-is_checkpoint : (kept : StoreView) (is_of : List ℕ → Bool) → IsCheckpoint kept
+    → IsCheckpoint (part_of is_of kept)
+part-is_checkpoint kept is_of is =
+    let is_in : Row → Bool = λ row. is_of row.key in
+    record {
+      store = record {
+        consistent = record {
+          opened = is.store.consistent.opened;
+          row_set = filter-IsRowSet is_in kept.rows is.store.consistent.row_set;
+          stored = All-filter is_in (IsUnderHead kept.links) kept.rows is.store.consistent.stored;
+        };
+        sound = record {
+          nodes = is.store.sound.nodes;
+          stamps = is.store.sound.stamps;
+          last = is.store.sound.last;
+          top = is.store.sound.top;
+          horizon = is.store.sound.horizon;
+          limits = All-filter is_in IsInLimits kept.rows is.store.sound.limits;
+        };
+        register = is.store.register;
+      };
+      ascend = sorted-filter row_cmp is_in kept.rows is.ascend;
+    }
 
 pub part-restores : (kept : StoreView) (past : List Step) (is_of : List ℕ → Bool) → Represents kept past
     → 0 < kept.initial_nodes → kept.initial_nodes ≤ MAX_INITIAL_NODES → RowsAscend kept.rows

@@ -37,7 +37,9 @@ pub fn ranges_answer_alike()
 
 /// A part of a checkpoint is a checkpoint, so `Core::restore` makes a store of it unless memory runs out.
 pub fn parts_restore()
-    ensures { (kept : StoreView) (past : List Step) (is_of : List ℕ → Bool) → Represents kept past
+    ensures checkpoint { (kept : StoreView) (is_of : List ℕ → Bool) → IsCheckpoint kept
+        → IsCheckpoint (part_of is_of kept) }
+    ensures represents { (kept : StoreView) (past : List Step) (is_of : List ℕ → Bool) → Represents kept past
         → 0 < kept.initial_nodes → kept.initial_nodes ≤ MAX_INITIAL_NODES → RowsAscend kept.rows
         → IsCheckpoint (part_of is_of kept) }
 {}
