@@ -190,7 +190,8 @@ int main(void)
         printf("threads %u:", threads);
         for (int kind = 0; kind < KINDS; kind++) {
             qsort(rates[kind], RUNS, sizeof rates[kind][0], by_rate);
-            printf(" %s %.2f, %.2f%s", names[kind], rates[kind][0], rates[kind][RUNS / 2], kind + 1 < KINDS ? ";" : "\n");
+            printf(" %s %.2f, %.2f%s", names[kind], rates[kind][0], rates[kind][RUNS / 2],
+                   kind + 1 < KINDS ? ";" : "\n");
         }
     }
     hlc_store_close(&store);

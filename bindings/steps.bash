@@ -105,7 +105,8 @@ example() {
         '/^```/ { inside = ($0 == fence && ++many == wanted); next } inside' "$2"
 }
 
-# summary LANGUAGE: prints the counts, and returns 0 where nothing failed. Where nothing could be checked, it returns 77.
+# summary LANGUAGE: prints the counts, and returns 0 where nothing failed. Where nothing could be checked, it
+# returns 77.
 summary() {
     if [ $((passed + failed)) -eq 0 ]; then
         echo "bindings $1: SKIPPED, since the machine lacks what it needs"

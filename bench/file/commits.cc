@@ -1,11 +1,11 @@
 // Times durable stores on one disk: `commits BATCH COMMITS TURNS FOLDER`, `recover ROWS log|checkpoint FOLDER`.
 //
 // The stores make so many commits each, turn about, in an order that is drawn for each turn. A commit is synced, and
-// has BATCH rows: random keys of 8 bytes out of a million, values of 64 bytes. It prints for each store the best and the
-// middle number of commits a second of a turn; the middle share of what sqlite, and sqlite-log, make in the same turn;
-// and bytes on disk a row after it was closed. Or the seconds of an opening, and such bytes. sqlite keeps the newest
-// value of each key, as lmdb and rocksdb do, in a table with the key as its primary key; sqlite-log appends each row to
-// a table with a rowid, in which no key is looked up.
+// has BATCH rows: random keys of 8 bytes out of a million, values of 64 bytes. It prints for each store the best and
+// the middle number of commits a second of a turn; the middle share of what sqlite, and sqlite-log, make in the same
+// turn; and bytes on disk a row after it was closed. Or the seconds of an opening, and such bytes. sqlite keeps the
+// newest value of each key, as lmdb and rocksdb do, in a table with the key as its primary key; sqlite-log appends each
+// row to a table with a rowid, in which no key is looked up.
 #include <hlcstore_file.h>
 #include <lmdb.h>
 #include <rocksdb/db.h>

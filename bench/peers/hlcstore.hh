@@ -37,7 +37,8 @@ class Store {
     return true;
   }
 
-  // In pieces of 64 KiB, as a program would that goes through many keys: a pair of a piece is still near when it is read.
+  // In pieces of 64 KiB, as a program would that goes through many keys: a pair of a piece is still near when it
+  // is read.
   uint64_t list(uint64_t id, uint64_t) {
     uint64_t count = 0;
     string from;

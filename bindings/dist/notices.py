@@ -59,8 +59,8 @@ def indented(text):
 
 
 def notice_of(folder):
-    """The notice of a part of the toolchain: what it is a port of, and the licence that is passed on with it. None where
-    it names neither."""
+    """The notice of a part of the toolchain: what it is a port of, and the licence that is passed on with it. None
+    where it names neither."""
     port = port_of(folder)
     files = sorted(path.name for path in folder.glob("LICENSE*"))
     title = f"{folder.name}, a port of {port}" if port else folder.name

@@ -35,7 +35,8 @@ notices() {
     "$here/notices.py" "${KIT:?}" "$@"
 }
 
-# strip_below FOLDER: removes what only debuggers and compilers read, as folders of this machine, from all that is built.
+# strip_below FOLDER: removes what only debuggers and compilers read, as folders of this machine, from all that
+# is built.
 strip_below() {
     local unneeded=(--remove-section=.comment --remove-section=.note)
     find "$1" -name '*.a' -exec strip -D --strip-debug "${unneeded[@]}" {} +

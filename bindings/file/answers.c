@@ -9,7 +9,8 @@ struct answer {
 
 static const struct answer ANSWERS[] = {
     { "HLC_FILE_IN_USE", "another process, or this one, has the file open" },
-    { "HLC_FILE_CANNOT_OPEN", "the file or its lock file cannot be opened or made, or the file has several hard links" },
+    { "HLC_FILE_CANNOT_OPEN",
+      "the file or its lock file cannot be opened or made, or the file has several hard links" },
     { "HLC_FILE_NOT_OURS", "the file is another application's, or none of SQLite" },
     { "HLC_FILE_NEWER", "the file's schema is newer than this library" },
     { "HLC_FILE_BAD_OPTION", "an option, a promise or a size is out of range" },

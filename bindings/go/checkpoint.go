@@ -68,8 +68,8 @@ func ApplyIncrement(w io.Writer, older, increment []byte) (int64, error) {
 }
 
 // SplitCheckpoint divides the bytes of a checkpoint at a key, and writes those of both parts: below gets the rows of
-// lower keys, from the others. Each has the links, the open snapshots, the horizon and the tag of the whole, and goes on
-// from the same log: it takes each write of another key as a report.
+// lower keys, from the others. Each has the links, the open snapshots, the horizon and the tag of the whole, and goes
+// on from the same log: it takes each write of another key as a report.
 //
 // Refusals, in this order: ErrBadBytes; ErrNoCheckpoint, of either part. ErrNoMemory may come in place of each; and
 // errors of the writers, of which the second gets nothing where the first one fails.

@@ -19,8 +19,8 @@
 //
 // A store and its snapshots are safe for concurrent use. Calls that only ask run beside each other; a call that changes
 // the store, as one that accepts an item, opens or closes a snapshot or vacuums, runs alone. A call that waits to
-// change the store comes before reads that begin later. A node, a machine, a batch and an iterator are for one goroutine
-// at a time.
+// change the store comes before reads that begin later. A node, a machine, a batch and an iterator are for one
+// goroutine at a time.
 //
 // # Bytes
 //

@@ -229,7 +229,9 @@ func TestRangesAreInKeyOrder(t *testing.T) {
 	} {
 		r, _ := written(t, division)
 		snapshot := must(r.Snapshot())
-		for _, bounds := range [][2]string{{"", ""}, {"f", "h"}, {"g", "n"}, {"g", ""}, {"", "n"}, {"n", "g"}, {"z", "zz"}} {
+		for _, bounds := range [][2]string{
+			{"", ""}, {"f", "h"}, {"g", "n"}, {"g", ""}, {"", "n"}, {"n", "g"}, {"z", "zz"},
+		} {
 			var want []string
 			for letter := 'a'; letter <= 'z'; letter++ {
 				if key := string(letter); key >= bounds[0] && (bounds[1] == "" || key < bounds[1]) {
@@ -283,7 +285,8 @@ func TestClosedRangesAreRefused(t *testing.T) {
 	ok(t, snapshot.Close())
 	equal(t, pairs.Next(), false)
 	for _, err := range []error{
-		pairs.Err(), second(snapshot.Get([]byte("a"))), second(snapshot.Has([]byte("a"))), second(snapshot.Count(nil, nil)),
+		pairs.Err(), second(snapshot.Get([]byte("a"))), second(snapshot.Has([]byte("a"))),
+		second(snapshot.Count(nil, nil)),
 	} {
 		refused(t, err, hlcstore.ErrNoSnapshot, 0)
 	}

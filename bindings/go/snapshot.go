@@ -162,7 +162,9 @@ func (v *Snapshot) Get(key []byte) ([]byte, error) {
 	if int(value.len) > len(value.bytes) {
 		return v.GetTo(make([]byte, 0, value.len), key)
 	}
-	return append(make([]byte, 0, value.len), (*[len(value.bytes)]byte)(unsafe.Pointer(&value.bytes))[:value.len]...), nil
+	return append(
+		make([]byte, 0, value.len), (*[len(value.bytes)]byte)(unsafe.Pointer(&value.bytes))[:value.len]...,
+	), nil
 }
 
 // GetTo appends the value of a key to dst, and returns the longer slice. It allocates only where dst lacks room. After

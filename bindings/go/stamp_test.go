@@ -19,7 +19,9 @@ func TestStampHasItsParts(t *testing.T) {
 }
 
 func TestStampsAreOrderedByBothParts(t *testing.T) {
-	rising := []hlcstore.Stamp{0, hlcstore.MustStamp(0, 1), at(1), hlcstore.MustStamp(1, 65535), at(2), hlcstore.MaxStamp}
+	rising := []hlcstore.Stamp{
+		0, hlcstore.MustStamp(0, 1), at(1), hlcstore.MustStamp(1, 65535), at(2), hlcstore.MaxStamp,
+	}
 	for i := 1; i < len(rising); i++ {
 		if rising[i-1] >= rising[i] {
 			t.Error(rising[i-1], rising[i])

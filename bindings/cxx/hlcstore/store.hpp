@@ -113,9 +113,9 @@ inline std::string apply_increment(std::string_view older, std::string_view incr
   return made.text(len);
 }
 
-// The bytes of the two parts of a checkpoint at a key: the first has the rows of lower keys, the second the others. Each
-// has the links, the open snapshots, the horizon and the tag of the whole, and goes on from the same log: it takes each
-// write of another key as a report.
+// The bytes of the two parts of a checkpoint at a key: the first has the rows of lower keys, the second the others.
+// Each has the links, the open snapshots, the horizon and the tag of the whole, and goes on from the same log: it takes
+// each write of another key as a report.
 inline std::pair<std::string, std::string> split_checkpoint(std::string_view checkpoint, std::string_view key) {
   detail::output left, right;
   std::uint64_t word;

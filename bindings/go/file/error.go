@@ -22,10 +22,10 @@ const (
 	ErrBadOption    = Code(C.HLC_FILE_BAD_OPTION)    // an option or a promise is out of range
 	ErrFull         = Code(C.HLC_FILE_FULL)          // the disk is full
 	ErrIO           = Code(C.HLC_FILE_IO)            // the disk failed
-	ErrCorrupt      = Code(C.HLC_FILE_CORRUPT)       // SQLite's structure is damaged, or the file is missing beside its log
+	ErrCorrupt      = Code(C.HLC_FILE_CORRUPT)       // SQLite's structure is damaged or the file missing beside its log
 	ErrDamagedLog   = Code(C.HLC_FILE_DAMAGED_LOG)   // a log row is missing or altered; word: its place
-	ErrNoCheckpoint = Code(C.HLC_FILE_NO_CHECKPOINT) // no checkpoint is whole, nor is the log; word: how many are damaged
-	ErrUnknown      = Code(C.HLC_FILE_UNKNOWN)       // whether the batch is on disk cannot be known now; it is not visible
+	ErrNoCheckpoint = Code(C.HLC_FILE_NO_CHECKPOINT) // no checkpoint is whole, nor the log; word: how many are damaged
+	ErrUnknown      = Code(C.HLC_FILE_UNKNOWN)       // whether the batch is on disk is not known now; it is not visible
 	ErrSealed       = Code(C.HLC_FILE_SEALED)        // no writes are taken until the file is opened again; reads go on
 	ErrLater        = Code(C.HLC_FILE_LATER)         // the batch is on disk and visible later: do not append it again
 	ErrTooLong      = Code(C.HLC_FILE_TOO_LONG)      // a batch would have more than 64 MiB

@@ -351,8 +351,8 @@ func TestClosedFileRefusesEachCall(t *testing.T) {
 			"Append": second(f.Append(0, 1, &batch, file.Default)), "Report": second(f.Report(0, 1)),
 			"Retire": second(f.Retire(0, 1)), "Send": second(f.Send(0, 1)), "Receive": second(f.Receive(0, 1, 1)),
 			"AppendRecords": second(f.AppendRecords(nil, file.Default)), "Checkpoint": second(f.Checkpoint()),
-			"CheckpointTo": second(f.CheckpointTo(io.Discard, 0)),
-			"VacuumTo":     second(f.VacuumTo(0)), "VacuumOlder": second(f.VacuumOlder(0)), "Status": second(f.Status()),
+			"CheckpointTo": second(f.CheckpointTo(io.Discard, 0)), "VacuumTo": second(f.VacuumTo(0)),
+			"VacuumOlder": second(f.VacuumOlder(0)), "Status": second(f.Status()),
 			"Snapshot": second(f.Snapshot()), "SnapshotAt": second(f.SnapshotAt(0)), "Floor": second(f.Floor()),
 			"Horizon": second(f.Horizon()), "Write": second(f.Write(0, 1, []byte("a"), nil)),
 			"Delete": second(f.Delete(0, 1, []byte("a"))),
@@ -439,8 +439,9 @@ func TestErrorsAreThoseOfTheHeader(t *testing.T) {
 		t.Skip("left out: no header of the file")
 	}
 	codes := map[string]file.Code{
-		"HLC_FILE_IN_USE": file.ErrInUse, "HLC_FILE_CANNOT_OPEN": file.ErrCannotOpen, "HLC_FILE_NOT_OURS": file.ErrNotOurs,
-		"HLC_FILE_NEWER": file.ErrNewer, "HLC_FILE_BAD_OPTION": file.ErrBadOption, "HLC_FILE_FULL": file.ErrFull,
+		"HLC_FILE_IN_USE": file.ErrInUse, "HLC_FILE_CANNOT_OPEN": file.ErrCannotOpen,
+		"HLC_FILE_NOT_OURS": file.ErrNotOurs, "HLC_FILE_NEWER": file.ErrNewer,
+		"HLC_FILE_BAD_OPTION": file.ErrBadOption, "HLC_FILE_FULL": file.ErrFull,
 		"HLC_FILE_IO": file.ErrIO, "HLC_FILE_CORRUPT": file.ErrCorrupt, "HLC_FILE_DAMAGED_LOG": file.ErrDamagedLog,
 		"HLC_FILE_NO_CHECKPOINT": file.ErrNoCheckpoint, "HLC_FILE_UNKNOWN": file.ErrUnknown,
 		"HLC_FILE_SEALED": file.ErrSealed, "HLC_FILE_LATER": file.ErrLater, "HLC_FILE_TOO_LONG": file.ErrTooLong,

@@ -31,9 +31,9 @@ func (f *File) Append(node uint16, reading uint64, batch *Batch, promise Promise
 	return stamped(C.file_append(f.raw, C.uint16_t(node), C.uint64_t(reading), batch.owned.at, C.uint32_t(promise)))
 }
 
-// WriteBatch appends a batch of 1 to 256 different keys as one item of a node, so that all of its writes have one stamp,
-// and returns that; and clears the batch, also where the error is ErrLater. A snapshot, at whatever stamp, shows all of
-// them or none.
+// WriteBatch appends a batch of 1 to 256 different keys as one item of a node, so that all of its writes have one
+// stamp, and returns that; and clears the batch, also where the error is ErrLater. A snapshot, at whatever stamp, shows
+// all of them or none.
 //
 // Refusals: ErrBadOption; ErrNoWrites, ErrTooManyWrites, ErrKeyTwice, ErrNoNode, ErrRetired, ErrNumbersSpent,
 // ErrReadingTooLarge, ErrCounterFull of package hlcstore.

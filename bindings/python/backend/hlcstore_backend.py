@@ -188,8 +188,8 @@ def record(files):
 
 
 def entry(name):
-    """Returns the head of a file in the wheel. Its time is SOURCE_DATE_EPOCH, or the first one that an archive can have,
-    so that the same files make the same wheel."""
+    """Returns the head of a file in the wheel. Its time is SOURCE_DATE_EPOCH, or the first one that an archive can
+    have, so that the same files make the same wheel."""
     seconds = max(int(os.environ.get("SOURCE_DATE_EPOCH", FIRST_TIME)), FIRST_TIME)
     head = zipfile.ZipInfo(name, time.gmtime(seconds)[:6])
     head.compress_type = zipfile.ZIP_DEFLATED

@@ -24,7 +24,7 @@ import (
 
 const (
 	nodes               = 2
-	tick                = 10 // the clock begins anew in each run; a program takes the milliseconds of the system's clock
+	tick                = 10 // the clock begins anew in each run; a program takes the system's milliseconds
 	header              = 8
 	writesPerCheckpoint = 4
 	keysPerPart         = 3

@@ -128,7 +128,13 @@ def coordinator():
 class InABrowser(unittest.TestCase):
     @classmethod
     def setUpClass(cls):
-        states = {"replica": STATE, "ranged": STATE | {"ranges": RANGES}, "coordinator": coordinator(), "empty": empty(), "failing": "no state"}
+        states = {
+            "replica": STATE,
+            "ranged": STATE | {"ranges": RANGES},
+            "coordinator": coordinator(),
+            "empty": empty(),
+            "failing": "no state",
+        }
         cls.root = f"http://{serve.start(Drawn(states)).address}/"
         drawn = ask_browser(cls.root + "frames", "--dump-dom")
         cls.pages = {name: html.unescape(text) for name, text in re.findall(r'<pre id="of-(\w+)">([^<]*)</pre>', drawn)}

@@ -66,8 +66,8 @@ static PyObject *store_new(PyTypeObject *type, PyObject *args, PyObject *words)
     return refuse(code, 0);
 }
 
-/* Feeds a piece. Returns the answer, or -1 with an exception. fed: how many bytes were fed since this call let go of the
- * interpreter, since pieces of a list let no other thread run between them. */
+/* Feeds a piece. Returns the answer, or -1 with an exception. fed: how many bytes were fed since this call let go of
+ * the interpreter, since pieces of a list let no other thread run between them. */
 static int feed_piece(hlc_restoring *restoring, PyObject *piece, size_t *fed)
 {
     Bytes bytes;

@@ -212,8 +212,8 @@ impl Writer<'_> {
         self.handle.append(self.from, &mut batch.handle, promise)
     }
 
-    /// Writes a batch as one item, whose writes, 1 to 256 of different keys, have one stamp, and clears it: a snapshot, at
-    /// whatever stamp, shows all of them or none. Returns the stamp.
+    /// Writes a batch as one item, whose writes, 1 to 256 of different keys, have one stamp, and clears it: a snapshot,
+    /// at whatever stamp, shows all of them or none. Returns the stamp.
     ///
     /// Refusals: `BadOption`; `NoWrites`, `TooManyWrites`, `KeyTwice` of the store; and those of the type. The batch
     /// keeps what it had, except after `Later`.

@@ -21,9 +21,9 @@
 //!
 //! # Threads
 //!
-//! A [`File`] is `Send` and `Sync`: share it by a reference or by an `Arc`. Writes wait for each other and for the disk.
-//! Reads wait only while a batch is accepted, a snapshot opened or closed, or a part of a vacuum made. After a fork, the
-//! child must make no call.
+//! A [`File`] is `Send` and `Sync`: share it by a reference or by an `Arc`. Writes wait for each other and for the
+//! disk. Reads wait only while a batch is accepted, a snapshot opened or closed, or a part of a vacuum made. After a
+//! fork, the child must make no call.
 //!
 //! # The library
 //!

@@ -7,8 +7,8 @@ use std::ptr;
 /// The refusal of hlcstore.h of a snapshot that is not open in this store.
 const NO_SNAPSHOT: u32 = 10;
 
-/// An open snapshot, which reads the file as it was at a stamp. It closes itself, so that a vacuum can drop the rows that
-/// only this snapshot needs.
+/// An open snapshot, which reads the file as it was at a stamp. It closes itself, so that a vacuum can drop the rows
+/// that only this snapshot needs.
 ///
 /// `Snapshot<&File>` borrows its file; `Snapshot<Arc<File>>` owns a share of it.
 ///
@@ -146,7 +146,8 @@ impl<F: Deref<Target = File>> Snapshot<F> {
 
 impl<F: Deref<Target = File>> Drop for Snapshot<F> {
     fn drop(&mut self) {
-        // The file is open, and only this closes the snapshot. Where there is no memory for it, it closes with the file.
+        // The file is open, and only this closes the snapshot. Where there is no memory for it, it closes with
+        // the file.
         let _ = self.file.handle().close_snapshot(self.id);
     }
 }

@@ -76,8 +76,8 @@ pub fn apply_increment(older: &[u8], increment: &[u8]) -> Result<Vec<u8>> {
 
 /// Returns the bytes of the two parts of a checkpoint at a key: the first has the rows of lower keys, the second the
 /// others. Each has the links, the open snapshots, the horizon and the tag of the whole. A store that is restored from
-/// a part goes on from the same log: it takes each write of a key of the other part as a report with the same number and
-/// stamp.
+/// a part goes on from the same log: it takes each write of a key of the other part as a report with the same number
+/// and stamp.
 ///
 /// Refusals, in this order: `BadBytes`; `NoCheckpoint`, of either part; `NoMemory`, which may come in place of each.
 ///

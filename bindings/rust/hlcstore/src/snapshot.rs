@@ -152,7 +152,9 @@ impl<S: Access> Snapshot<S> {
     ///
     /// let store = Store::open(1)?;
     /// store.accept(Node::new(0, Stamp::ZERO).write(5, b"size", &7u32.to_le_bytes())?)?;
-    /// let size = store.snapshot()?.get_with("size", |value| value.first_chunk().map(|four| u32::from_le_bytes(*four)))?;
+    /// let size = store
+    ///     .snapshot()?
+    ///     .get_with("size", |value| value.first_chunk().map(|four| u32::from_le_bytes(*four)))?;
     /// assert_eq!(size, Some(Some(7)));
     /// # Ok::<(), hlcstore::Error>(())
     /// ```

@@ -15,8 +15,8 @@ pub struct Version {
 
 impl Version {
     /// Returns this many rows from their bytes, as the C library writes them, for programs that make its calls
-    /// themselves: of each its stamp in eight bytes and its node in two, the low one first; then a byte 0 in a deletion,
-    /// or 1, the length of the value and the value.
+    /// themselves: of each its stamp in eight bytes and its node in two, the low one first; then a byte 0 in a
+    /// deletion, or 1, the length of the value and the value.
     ///
     /// Refusal: `NoMemory`.
     pub fn from_bytes(bytes: &[u8], many: usize) -> Result<Vec<Version>> {
