@@ -1,5 +1,5 @@
 //! The part of a checkpoint before the rows.
-ghost use Rattle.std.specs.Prelude.{◌≡◌, ◌++◌, ◌<◌, OnOk, IfSome, length};
+ghost use Rattle.std.specs.Prelude.{◌≡◌, ◌++◌, ◌<◌, OnOk, MatchOption, length};
 ghost use Rattle.hlc_wire.specs.Reading.{Gives};
 ghost use Rattle.hlc_body.specs.Spelling.{preamble_bytes, preamble_of, kept_of};
 ghost use Rattle.hlc_body.specs.Reading.{preamble_at};
@@ -133,7 +133,8 @@ impl<'a> PreambleRef<'a> {
 
 /// Returns the number of rows of a store. Refused only where it is 2^64 or more.
 pub fn count_of(store: &StoreRef<'_>) -> Option<u64>
-    ensures { IfSome result (λ count. count ≡ length store.now.rows) }
+    ensures { MatchOption result (18446744073709551615 < length store.now.rows)
+        (λ count. count ≡ length store.now.rows) }
 {
     let count = store.count();
     if count > u64::MAX as u128 {

@@ -4,6 +4,7 @@
 
 mod advancing;
 mod bytes;
+mod exact;
 mod increment;
 
 pub use advancing::{AdvanceFault, advance};

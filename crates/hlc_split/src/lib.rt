@@ -1,6 +1,7 @@
 //! A checkpoint divided at a key, and two such checkpoints as one.
 #![tactic(auto)]
 
+mod exact;
 mod halves;
 mod joining;
 

@@ -7,8 +7,9 @@ ghost use Rattle.std.proofs.lemmas.Grind.{common_steps};
 ghost use Rattle.std.specs.Cmp.Lexicographic.{pointwise_decides};
 ghost use Rattle.std.specs.Prelude.{ℕ, ◌≡◌, ◌↔◌, IsTrue, List};
 
+use crate::changes::Unlisted;
 use crate::points::Points;
-use crate::report::Report;
+use crate::report::{Numbers, Report};
 use crate::witnesses::Witnesses;
 use hlc_values::Exact;
 
@@ -18,6 +19,18 @@ impl Exact for Report {
         let witnesses : (x y : List AWitness) → IsTrue (⟦<Witnesses as PartialEq>⟧.eq x y) ↔ (x ≡ y)
         = pointwise_decides witness_equal in
         Prim.search (rules, common_steps, points, witnesses) };
+
+    ghost copied = { Prim.search rules };
+}
+
+impl Exact for Numbers {
+    ghost equal = { Prim.search (rules, common_steps) };
+
+    ghost copied = { Prim.search rules };
+}
+
+impl Exact for Unlisted {
+    ghost equal = { Prim.search (rules, common_steps) };
 
     ghost copied = { Prim.search rules };
 }

@@ -99,9 +99,12 @@ impl World {
 
     /// Returns the value that a key has in an open snapshot, or none: what a Read answers, but as a reference to the
     /// stored value and not as a copy, so that it takes no memory.
+    ///
+    /// Refused only where no snapshot with this id is open.
     #[inline]
     pub fn look(&self, id: u64, key: &[u8]) -> Result<Option<&[u8]>, Refusal>
-        ensures { (nodes : ℕ) (schedule : List (AnEvent × AReply)) → Represents nodes self.now schedule
+        ensures err { IfErr result (λ refusal. refusal ≡ Refusal.Store CoreFault.NoSnapshot) }
+        ensures represents { (nodes : ℕ) (schedule : List (AnEvent × AReply)) → Represents nodes self.now schedule
             → MatchResult result
             (λ value. Represents nodes self.now
             ((Event.Read id key.now, Reply.Answer (option_copied value)) ∷ schedule))

@@ -1,0 +1,12 @@
+//! `==` of these types is true exactly on equal values, and each copy is equal.
+ghost use Rattle.std.proofs.Common.{rules};
+ghost use Rattle.std.proofs.lemmas.Grind.{common_steps};
+
+use crate::joining::MergeFault;
+use hlc_values::Exact;
+
+impl Exact for MergeFault {
+    ghost equal = { Prim.search (rules, common_steps) };
+
+    ghost copied = { Prim.search rules };
+}
