@@ -3,6 +3,7 @@ use Rattle.std.proofs.Common.{◌≡◌, ◌<◌, ◌+◌, ◌∙◌, ℕ, lit<,
 use Rattle.std.proofs.Common.{List, [], ◌∷◌, ◌++◌, map, take, length, get_or}
 use Rattle.std.specs.Prelude.{Option, Some, None}
 use Rattle.std.proofs.lemmas.List.{take_more, map-append}
+use Rattle.std.proofs.lemmas.List.Elements.{All-more}
 use Rattle.hlc_rows.specs.declared.limits.BodyFault.TheVariants.{BadKey, ValueTooLong, NoWrites, TooManyWrites}
 use Rattle.hlc_rows.specs.declared.limits.BodyFault.TheVariants.{KeyTwice}
 use Rattle.hlc_node.specs.declared.item.Item.{Item}
@@ -23,7 +24,7 @@ use Rattle.hlc_core.specs.Past.{Step, Took}
 use Rattle.hlc_core.specs.StoreView.{StoreView, Represents}
 use Rattle.hlc_calls.specs.declared.entries.Entry.{Entry}
 use Rattle.hlc_calls.specs.Outcome.{IsAnswered, answer_code}
-use Rattle.hlc_calls.specs.Entries.{item_of, is_within, took, entered, IsEntered}
+use Rattle.hlc_calls.specs.Entries.{item_of, is_within, AreWithin, took, entered, IsEntered}
 
 link_above : (fault : LinkFault) → 0 < link_code fault
 link_above Retired = lit< tt
@@ -100,3 +101,23 @@ entered_next new entries bytes i entry past code returned within is well answer 
     subst (λ (steps : List Step). Represents new steps) (sym (entered_more entries bytes i entry past within is))
     (accepted_at new entry bytes (entered entries bytes i past) returned (is_within bytes entry) refl
     (subst (λ (n : ℕ). IsEntered new entry bytes (entered entries bytes i past) n returned) well answer))
+
+-- at 0 the bytes contain the entry
+within_at : (new : StoreView) (entry : Entry) (bytes : List ℕ) (past : List Step) (returned : ℕ) (within : Bool)
+    → is_within bytes entry ≡ within → IsEntered new entry bytes past 0 returned → is_within bytes entry ≡ true
+within_at new entry bytes past returned true is (inside, outside) = is
+within_at new entry bytes past returned false is (inside, outside) =
+    absurd (not_above 103 (lit< tt) (outside is).0)
+
+-- the bytes contain one more entry
+pub within_next : (new : StoreView) (entries : List Entry) (bytes : List ℕ) (i : ℕ) (entry : Entry)
+    (past : List Step) (code returned : ℕ) → i < length entries → entry ≡ get_or entries i entry → code ≡ 0
+    → IsEntered new entry bytes (entered entries bytes i past) code returned
+    → AreWithin bytes (take i entries) → AreWithin bytes (take (i + 1) entries)
+within_next new entries bytes i entry past code returned within is well answer before =
+    let steps : List Step = entered entries bytes i past in
+    let there : is_within bytes entry ≡ true =
+    within_at new entry bytes steps returned (is_within bytes entry) refl
+    (subst (λ (n : ℕ). IsEntered new entry bytes steps n returned) well answer) in
+    All-more (λ e. is_within bytes e ≡ true) entries i entry within before
+    (subst (λ (e : Entry). is_within bytes e ≡ true) is there)

@@ -1,6 +1,7 @@
 -- Several items that C passes in one call, and what that returns.
 use Rattle.std.specs.Prelude.{◌≡◌, ◌≢◌, ℕ, ◌+◌, ◌<◌, ◌≤◌, Bool, ◌||◌, ◌&&◌, true, false, nat_le, List, [], ◌∷◌, length}
 use Rattle.std.specs.Prelude.{map, take, drop, get_or, Option, Some, None, if◌then◌else◌}
+use Rattle.std.specs.List.{All}
 use Rattle.hlc_node.specs.declared.item.Item.{Item}
 use Rattle.hlc_node.specs.declared.item.Body.TheVariants.{Write}
 use Rattle.hlc_core.specs.Past.{Step, Took}
@@ -32,6 +33,10 @@ abbrev pub is_within : List ℕ → Entry → Bool
 is_within bytes entry =
     lies entry.key_at entry.key_len bytes && (entry.deletes || lies entry.value_at entry.value_len bytes)
 
+-- the bytes contain the keys and the values of some entries
+abbrev pub AreWithin : List ℕ → List Entry → Type 0
+AreWithin bytes entries = All (λ entry. is_within bytes entry ≡ true) entries
+
 -- the item of the entry was accepted, or refused; or the answer is that its bytes are not there
 abbrev pub IsEntered : StoreView → Entry → List ℕ → List Step → ℕ → ℕ → Type 0
 IsEntered new entry bytes past code returned =
@@ -47,11 +52,12 @@ took (item ∷ items) past = took items (Took item ∷ past)
 abbrev pub entered : List Entry → List ℕ → ℕ → List Step → List Step
 entered entries bytes many past = took (map (item_of bytes) (take many entries)) past
 
--- This many entries were accepted in their order. These are all; or the next one was not accepted, and the reason is
--- returned.
+-- This many entries were accepted in their order, and the bytes contain the keys and the values of these. These are
+-- all; or the next one was not accepted, and the reason is returned.
 pub record AreEntered (new : StoreView) (entries : List Entry) (bytes : List ℕ) (past : List Step)
     (code many returned : ℕ) : Type 0 where
   pub most : many ≤ length entries
+  pub within : AreWithin bytes (take many entries)
   pub represents : Represents new (entered entries bytes many past)
   pub all : code ≡ 0 → (many ≡ length entries) × (returned ≡ 0)
   pub next : code ≢ 0 → (last : Entry) × (many < length entries) × (last ≡ get_or entries many last)
