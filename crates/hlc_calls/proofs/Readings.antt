@@ -1,23 +1,26 @@
 -- The answers that were put into a buffer so far.
 use Rattle.std.proofs.Common.{◌≡◌, ℕ, ◌+◌, ◌<◌, ◌≤◌, ◌∙◌, sym, ap, ap₂, subst, List, [], ◌∷◌}
 use Rattle.std.proofs.Common.{◌++◌, take, get_or, length}
-use Rattle.std.proofs.Common.{refl, arith, length-append, inl, inr, Option, Some}
+use Rattle.std.proofs.Common.{refl, arith, length-append, inl, inr, Option, Some, true}
 use Rattle.std.proofs.lemmas.List.{append-nil, take_more}
+use Rattle.std.proofs.lemmas.List.Elements.{All-more}
 use Rattle.std.proofs.lemmas.Grind.{flat_map-append}
 use Rattle.hlc_rows.specs.declared.row.Row.{Row}
 use Rattle.hlc_rows.specs.Rows.{answer}
 use Rattle.hlc_calls.specs.declared.reads.Place.{Place}
-use Rattle.hlc_calls.specs.Entries.{piece}
+use Rattle.hlc_calls.specs.Entries.{piece, lies}
 use Rattle.hlc_wire.specs.Placing.{with_bytes}
-use Rattle.hlc_calls.specs.ReadAll.{answer_bytes, answer_at, answers_at, IsLeftOut, ReturnsAnswers, ReturnsAll}
+use Rattle.hlc_calls.specs.ReadAll.{answer_bytes, answer_at, answers_at, AreThere, IsLeftOut, ReturnsAnswers}
+use Rattle.hlc_calls.specs.ReadAll.{ReturnsAll}
 use Rattle.hlc_wire.proofs.PlacingLemmas.{put_both}
 use Rattle.hlc_range_calls.proofs.ScanLemmas.{length-put}
 
--- the answers of the first places are at the start of the buffer
+-- the bytes contain the keys at the first places, and the answers of these are at the start of the buffer
 abbrev pub AnsweredSoFar : List Row → ℕ → List Place → List ℕ → ℕ → ℕ → List ℕ → List ℕ → Type 0
 AnsweredSoFar rows stamp places bytes index at old out =
     (index ≤ length places) × (at ≡ length (answers_at rows stamp bytes (take index places)))
     × (at ≤ length old) × (out ≡ with_bytes 0 (answers_at rows stamp bytes (take index places)) old)
+    × AreThere bytes (take index places)
 
 pub same-room : (rows : List Row) (stamp : ℕ) (places : List Place) (bytes : List ℕ) (index at : ℕ) (old out : List ℕ)
     → AnsweredSoFar rows stamp places bytes index at old out → length out ≡ length old
@@ -35,14 +38,23 @@ more rows stamp places bytes index place lt is =
     ∙ ap (λ (xs : List ℕ). answers_at rows stamp bytes (take index places) ++ xs)
     (append-nil (answer_at rows stamp bytes place))
 
+-- the bytes contain one more key
+there-more : (bytes : List ℕ) (places : List Place) (index : ℕ) (place : Place) → index < length places
+    → place ≡ get_or places index place → lies place.at place.len bytes ≡ true
+    → AreThere bytes (take index places) → AreThere bytes (take (index + 1) places)
+there-more bytes places index place lt is there before =
+    All-more (λ p. lies p.at p.len bytes ≡ true) places index place lt before
+    (subst (λ (p : Place). lies p.at p.len bytes ≡ true) is there)
+
 -- one more answer
 pub answered-more : (rows : List Row) (stamp : ℕ) (places : List Place) (bytes : List ℕ) (index at end : ℕ)
     (place : Place) (old out new : List ℕ)
     → AnsweredSoFar rows stamp places bytes index at old out → index < length places
-    → place ≡ get_or places index place → end ≡ at + length (answer_at rows stamp bytes place) → end ≤ length out
+    → place ≡ get_or places index place → lies place.at place.len bytes ≡ true
+    → end ≡ at + length (answer_at rows stamp bytes place) → end ≤ length out
     → new ≡ with_bytes at (answer_at rows stamp bytes place) out
     → AnsweredSoFar rows stamp places bytes (index + 1) end old new
-answered-more rows stamp places bytes index at end place old out new so lt is ends fits put =
+answered-more rows stamp places bytes index at end place old out new so lt is there ends fits put =
     let room = same-room rows stamp places bytes index at old out so in
     let one = answer_at rows stamp bytes place in
     let first = answers_at rows stamp bytes (take index places) in
@@ -54,6 +66,7 @@ answered-more rows stamp places bytes index at end place old out new so lt is en
       put_both 0 at first one old out new so.3 (omega (arith, so.1)) put
           (omega (arith, both, ends, fits, room, so.1))
           ∙ ap (λ (xs : List ℕ). with_bytes 0 xs old) (sym all),
+      there-more bytes places index place lt is there so.4,
     )
 
 not-zero : (rows : List Row) (stamp : ℕ) (bytes : List ℕ) (place : Place) (len room : ℕ)
@@ -69,6 +82,7 @@ pub left-out : (rows : List Row) (stamp : ℕ) (places : List Place) (bytes : Li
     → ReturnsAnswers rows stamp places bytes code at index old new
 left-out rows stamp places bytes index at code place old out new so lt is out-is same = record {
   most = so.0;
+  within = so.4;
   len_is = so.1;
   fits = so.2;
   answers = same ∙ so.3;
@@ -114,6 +128,7 @@ read-at rows others snapshot stamp places bytes code len many old new is alike r
     let same = alike-bytes rows others stamp bytes (take many places) alike in
     subst (λ o. ReturnsAll o others places bytes code len many old new) (sym is) (record {
       most = returned.most;
+      within = returned.within;
       len_is = returned.len_is ∙ ap length same;
       fits = returned.fits;
       answers = returned.answers ∙ ap (λ (xs : List ℕ). with_bytes 0 xs old) same;

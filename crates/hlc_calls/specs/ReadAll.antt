@@ -2,7 +2,7 @@
 use Rattle.std.specs.Prelude.{◌≡◌, ◌≢◌, ◌⊎◌, ℕ, ◌+◌, ◌<◌, ◌≤◌, List}
 use Rattle.std.specs.Prelude.{true, false, length, take, get_or}
 use Rattle.std.specs.Prelude.{Option, Some, None}
-use Rattle.std.specs.List.{flat_map}
+use Rattle.std.specs.List.{All, flat_map}
 use Rattle.hlc_rows.specs.declared.row.Row.{Row}
 use Rattle.hlc_rows.specs.Rows.{answer}
 use Rattle.hlc_calls.specs.declared.reads.Place.{Place}
@@ -18,6 +18,10 @@ answer_at rows stamp bytes place = answer_bytes (answer rows (piece place.at pla
 abbrev pub answers_at : List Row → ℕ → List ℕ → List Place → List ℕ
 answers_at rows stamp bytes places = flat_map (answer_at rows stamp bytes) places
 
+-- the bytes contain the keys at some places
+abbrev pub AreThere : List ℕ → List Place → Type 0
+AreThere bytes places = All (λ place. lies place.at place.len bytes ≡ true) places
+
 -- why a key was not answered: the bytes do not contain it, or its answer does not fit
 abbrev pub IsLeftOut : List Row → ℕ → List ℕ → Place → ℕ → ℕ → ℕ → Type 0
 IsLeftOut rows stamp bytes place len room code =
@@ -25,10 +29,12 @@ IsLeftOut rows stamp bytes place len room code =
     ⊎ ((code ≡ 104) × (lies place.at place.len bytes ≡ true)
     × (room < len + length (answer_at rows stamp bytes place)))
 
--- The first keys were answered in their order, this many of them. These are all; or the next one was left out.
+-- The first keys were answered in their order, this many of them, and the bytes contain these. These are all; or the
+-- next one was left out.
 pub record ReturnsAnswers (rows : List Row) (stamp : ℕ) (places : List Place) (bytes : List ℕ)
     (code len many : ℕ) (old new : List ℕ) : Type 0 where
   pub most : many ≤ length places
+  pub within : AreThere bytes (take many places)
   pub len_is : len ≡ length (answers_at rows stamp bytes (take many places))
   pub fits : len ≤ length old
   pub answers : new ≡ with_bytes 0 (answers_at rows stamp bytes (take many places)) old

@@ -1,9 +1,10 @@
 //! Reads of a key, and of many keys in one call, for callers for which a call is expensive.
-ghost use Rattle.std.specs.Prelude.{◌≡◌, ◌≤◌, ◌<◌, ◌+◌, List, length, option_copied, MatchOption, MatchResult};
+ghost use Rattle.std.specs.Prelude.{◌≡◌, ◌≤◌, ◌<◌, ◌+◌, List, true, length, option_copied, MatchOption, MatchResult};
 ghost use Rattle.hlc_core.specs.Past.{Step, stamp_of, writes};
 ghost use Rattle.hlc_core.specs.StoreView.{Represents};
 ghost use Rattle.hlc_wire.specs.Placing.{with_bytes};
 ghost use Rattle.hlc_calls.specs.Answers.{ReturnsRead};
+ghost use Rattle.hlc_calls.specs.Entries.{lies};
 ghost use Rattle.hlc_calls.specs.ReadAll.{answer_at, answer_bytes, IsLeftOut, ReturnsAll, ReturnsAnswers};
 
 use crate::entries::piece_of;
@@ -73,7 +74,8 @@ fn put_key(
 ) -> Result<usize, u32>
     requires { at ≤ length out.now }
     ensures { MatchResult result
-        (λ end. (end ≡ at + length (answer_at view.now.rows view.now.stamp bytes.now place.now))
+        (λ end. (lies place.now.at place.now.len bytes.now ≡ true)
+        × (end ≡ at + length (answer_at view.now.rows view.now.stamp bytes.now place.now))
         × (end ≤ length out.old)
         × (out.new
         ≡ with_bytes at (answer_at view.now.rows view.now.stamp bytes.now place.now) out.old))

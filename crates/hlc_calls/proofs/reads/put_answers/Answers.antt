@@ -8,7 +8,7 @@ loop-index-preserved c =
     answered-more c.args.view.now.rows c.args.view.now.stamp c.args.places.now c.args.bytes.now c.loop-index.index
     c.loop-index.at c.in-Ok.end _ c.args.out.now c.loop-index.out c.put_key.new.out
     c.loop-index.invariant c.loop-index-test.true (search rules) c.in-Ok.ensures.0 c.in-Ok.ensures.1
-    c.in-Ok.ensures.2
+    c.in-Ok.ensures.2 c.in-Ok.ensures.3
 
 pub returns-in-Err : goal.returns-in-Err
 returns-in-Err c =

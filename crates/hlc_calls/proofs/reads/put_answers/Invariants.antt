@@ -1,4 +1,4 @@
--- The answers of the places so far are at the start of the buffer.
+-- The bytes contain the keys so far, and their answers are at the start of the buffer.
 use Rattle.std.proofs.Common.{◌-◌, length}
 use Rattle.hlc_calls.proofs.Readings.{AnsweredSoFar}
 use Rattle.hlc_calls.proofs.reads.put_answers.Given as goal
