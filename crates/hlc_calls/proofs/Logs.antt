@@ -3,9 +3,11 @@ use Rattle.std.proofs.Common.{◌≡◌, ℕ, ◌+◌, ◌-◌, ◌<◌, ◌∙�
 use Rattle.std.proofs.Common.{length, true, false, cond}
 use Rattle.std.proofs.Common.{refl, arith, length-append, Ok, inr}
 use Rattle.std.proofs.lemmas.List.{append-nil, append_assoc}
+use Rattle.std.proofs.lemmas.List.Elements.{All-push}
 use Rattle.std.proofs.lemmas.Grind.{flat_map-append}
+use Rattle.std.specs.List.{All}
 use Rattle.hlc_node.specs.declared.item.Item.{Item}
-use Rattle.hlc_wire.specs.Spelling.{item_bytes}
+use Rattle.hlc_wire.specs.Spelling.{item_bytes, ItemFits}
 use Rattle.hlc_wire.specs.Reading.{item_at}
 use Rattle.hlc_wire.proofs.FieldLemmas.{IsBytes}
 use Rattle.hlc_wire.proofs.ItemLemmas.{item_reader}
@@ -21,6 +23,11 @@ use Rattle.hlc_calls.proofs.Refusals.{refused_returns}
 pub front_is : (bytes : List ℕ) (item : Item) (rest : List ℕ) → IsBytes bytes → item_at bytes ≡ Ok (item, rest)
     → bytes ≡ item_bytes item ++ rest
 front_is bytes item rest fits is = (item_reader.takes bytes (item, rest) fits is).0.parts
+
+-- what is read has an encoding
+pub front_fits : (bytes : List ℕ) (item : Item) (rest : List ℕ) → IsBytes bytes → item_at bytes ≡ Ok (item, rest)
+    → ItemFits item
+front_fits bytes item rest fits is = (item_reader.takes bytes (item, rest) fits is).1
 
 pub front_shortens : (bytes : List ℕ) (item : Item) (rest : List ℕ) → IsBytes bytes → item_at bytes ≡ Ok (item, rest)
     → length rest < length bytes
@@ -51,7 +58,7 @@ refused_here bytes rest past item fault read new is =
 -- the items before the rest of the bytes were taken
 abbrev pub TakenSoFar : StoreView → List ℕ → List ℕ → List Step → ℕ → Type 0
 TakenSoFar core bytes rest past count =
-    (items : List Item) × (bytes ≡ log_bytes items ++ rest) × (count ≡ length items)
+    (items : List Item) × All ItemFits items × (bytes ≡ log_bytes items ++ rest) × (count ≡ length items)
     × Represents core (with_items items past)
 
 with_last : (items : List Item) (item : Item) (past : List Step)
@@ -67,16 +74,17 @@ log_last items item =
 pub one_more : (core : StoreView) (bytes rest after : List ℕ) (past : List Step) (count : ℕ)
     (before : StoreView)
     → (so : TakenSoFar before bytes rest past count)
-    → (item : Item) × (rest ≡ item_bytes item ++ after)
+    → (item : Item) × ItemFits item × (rest ≡ item_bytes item ++ after)
     × Represents core (with_item item (with_items so.0 past))
     → TakenSoFar core bytes after past (count + 1)
 one_more core bytes rest after past count before so next = (
   so.0 ++ next.0 ∷ [],
-  so.1 ∙ ap (λ (xs : List ℕ). log_bytes so.0 ++ xs) next.1
+  All-push ItemFits so.0 next.0 so.1 next.1,
+  so.2 ∙ ap (λ (xs : List ℕ). log_bytes so.0 ++ xs) next.2
       ∙ sym (append_assoc (log_bytes so.0) (item_bytes next.0) after)
       ∙ ap (λ (xs : List ℕ). xs ++ after) (sym (log_last so.0 next.0)),
-  (let n = length-append so.0 (next.0 ∷ []) in omega (arith, n, so.2)),
-  subst (λ (p : List Step). Represents core p) (sym (with_last so.0 next.0 past)) next.2,
+  (let n = length-append so.0 (next.0 ∷ []) in omega (arith, n, so.3)),
+  subst (λ (p : List Step). Represents core p) (sym (with_last so.0 next.0 past)) next.3,
 )
 
 -- bytes are left, and the item at their front was not taken
@@ -92,12 +100,13 @@ pub stopped_here : (core before : StoreView) (bytes rest : List ℕ) (past : Lis
 stopped_here core before bytes rest past code count word so same some is = record {
   items = so.0;
   rest = rest;
-  bytes_are = so.1;
+  fit = so.1;
+  bytes_are = so.2;
   used_is =
       let long : length bytes ≡ length (log_bytes so.0) + length rest =
-      ap length so.1 ∙ length-append (log_bytes so.0) rest in
+      ap length so.2 ∙ length-append (log_bytes so.0) rest in
       omega (arith, long);
-  many_is = so.2;
-  represents = subst (λ (c : StoreView). Represents c (with_items so.0 past)) (sym same) so.3;
+  many_is = so.3;
+  represents = subst (λ (c : StoreView). Represents c (with_items so.0 past)) (sym same) so.4;
   end = stopped_end rest (with_items so.0 past) code word some is;
 }

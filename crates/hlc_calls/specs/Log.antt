@@ -2,14 +2,14 @@
 use Rattle.std.specs.Prelude.{◌≡◌, ◌⊎◌, ◌&&◌, ℕ, List, [], ◌∷◌, ◌++◌, Bool, false, nat_lt, length}
 use Rattle.std.specs.Prelude.{Some, None, Ok, Err}
 use Rattle.std.specs.Prelude.{if◌then◌else◌}
-use Rattle.std.specs.List.{flat_map}
+use Rattle.std.specs.List.{All, flat_map}
 use Rattle.hlc_node.specs.declared.item.Item.{Item}
 use Rattle.hlc_rows.specs.declared.limits.BodyFault.{BodyFault}
 use Rattle.hlc_rows.specs.Faults.{body_code}
 use Rattle.hlc_node.specs.Items.{body_refusal}
 use Rattle.hlc_wire.specs.declared.fault.WireFault.{WireFault}
 use Rattle.hlc_wire.specs.Faults.{fault_code}
-use Rattle.hlc_wire.specs.Spelling.{item_bytes}
+use Rattle.hlc_wire.specs.Spelling.{item_bytes, ItemFits}
 use Rattle.hlc_wire.specs.Reading.{item_at}
 use Rattle.hlc_core.specs.Calls.{IsWrite}
 use Rattle.hlc_core.specs.Past.{Step, Took, numbered, count, item_refusal}
@@ -47,11 +47,13 @@ abbrev pub IsLogEnd : List ℕ → List Step → ℕ → ℕ → Type 0
 IsLogEnd [] past code word = (code ≡ 0) × (word ≡ 0)
 IsLogEnd (byte ∷ bytes) past code word = IsStopped (byte ∷ bytes) past code word
 
--- The first items of the bytes were taken, as far as possible: this many items, of this many bytes.
+-- The first items of the bytes were taken, as far as possible: this many items, of this many bytes. Each of them has an
+-- encoding, so these bytes are read as no other items.
 pub record AreTaken (new : StoreView) (bytes : List ℕ) (past : List Step) (code used many word : ℕ)
     : Type 0 where
   pub items : List Item
   pub rest : List ℕ
+  pub fit : All ItemFits items
   pub bytes_are : bytes ≡ log_bytes items ++ rest
   pub used_is : used ≡ length (log_bytes items)
   pub many_is : many ≡ length items

@@ -1,7 +1,7 @@
 //! The items of a log, as bytes.
 ghost use Rattle.std.specs.Prelude.{◌≡◌, ◌<◌, ◌++◌, List, length, IfOk, OnErr, MatchResult};
 ghost use Rattle.hlc_node.specs.declared.item.Item.{Item as AnItem};
-ghost use Rattle.hlc_wire.specs.Spelling.{item_bytes};
+ghost use Rattle.hlc_wire.specs.Spelling.{item_bytes, ItemFits};
 ghost use Rattle.hlc_core.specs.Past.{Step};
 ghost use Rattle.hlc_core.specs.StoreView.{Represents};
 ghost use Rattle.hlc_calls.specs.Log.{came_before, with_item, IsStopped, AreTaken, ReturnsItem};
@@ -42,7 +42,7 @@ fn came(core: &Core, item: &ItemRef<'_>) -> bool
 /// accepted, with the word of that.
 fn take_front<'a>(core: &mut Core, bytes: &'a [u8], word: &mut u64) -> Result<&'a [u8], u32>
     ensures answer { (past : List Step) → Represents core.old past → MatchResult result
-        (λ rest. (item : AnItem) × (bytes.now ≡ item_bytes item ++ rest.now)
+        (λ rest. (item : AnItem) × ItemFits item × (bytes.now ≡ item_bytes item ++ rest.now)
         × Represents core.new (with_item item past))
         (λ code. IsStopped bytes.now past code word.new) }
     ensures shorter { IfOk result (λ rest. length rest.now < length bytes.now) }

@@ -2,12 +2,14 @@
 use Rattle.std.proofs.Common.{◌∙◌, ℕ, sym, subst, arith}
 use Rattle.hlc_calls.specs.Log.{IsStopped}
 use Rattle.hlc_calls.specs.Outcome.{answer_code}
-use Rattle.hlc_calls.proofs.Logs.{front_is, front_shortens, passed_over, taken, refused_here}
+use Rattle.hlc_calls.proofs.Logs.{front_is, front_fits, front_shortens, passed_over, taken, refused_here}
 use Rattle.hlc_calls.proofs.log.take_front.Goals as goal
 
 pub returns-then-came-clause-answer : goal.returns-then-came-clause-answer
 returns-then-came-clause-answer c = λ past h. (
   c.in-Ok.found.0,
+  front_fits c.args.bytes.now c.in-Ok.found.0 c.in-Ok.found.1.now
+      (λ i. omega (arith, c.type_inv.bytes i)) c.in-Ok.ensures,
   front_is c.args.bytes.now c.in-Ok.found.0 c.in-Ok.found.1.now
       (λ i. omega (arith, c.type_inv.bytes i)) c.in-Ok.ensures,
   passed_over c.args.core.now past c.in-Ok.found.0 (sym (c.came.ensures past h) ∙ c.if-came.true) h,
@@ -21,6 +23,8 @@ returns-then-came-clause-shorter c =
 pub returns-in-Ok-accept_ref-clause-answer : goal.returns-in-Ok-accept_ref-clause-answer
 returns-in-Ok-accept_ref-clause-answer c = λ past h. (
   c.in-Ok.found.0,
+  front_fits c.args.bytes.now c.in-Ok.found.0 c.in-Ok.found.1.now
+      (λ i. omega (arith, c.type_inv.bytes i)) c.in-Ok.ensures,
   front_is c.args.bytes.now c.in-Ok.found.0 c.in-Ok.found.1.now
       (λ i. omega (arith, c.type_inv.bytes i)) c.in-Ok.ensures,
   taken c.accept_ref.new.self past c.in-Ok.found.0 (sym (c.came.ensures past h) ∙ c.if-came.false)
