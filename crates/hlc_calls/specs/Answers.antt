@@ -103,8 +103,8 @@ ReturnsVacuumedTo new at past code returned kept bytes dropped =
 abbrev pub ReturnsVacuumChecked : ℕ → List Step → ℕ → ℕ → Type 0
 ReturnsVacuumChecked at past code returned = IsAnswered (vacuum_refusal past at) ⊥ (returned ≡ 0) code returned
 
--- where a part ended: the length of its last key and, where it fits, the key, and that a key is left above it; or no
--- bytes, and that none is left
+-- where a part ended: the length of its last key and, where it fits, the key, and that keys may be left above it; or
+-- no bytes, and that none is left
 abbrev pub ReturnsEnd : Option (List ℕ) → ℕ → Bool → List ℕ → List ℕ → Type 0
 ReturnsEnd None len more old new = (len ≡ 0) × (more ≡ false) × (new ≡ old)
 ReturnsEnd (Some key) len more old new = (len ≡ length key) × (more ≡ true) × IsCopied key old new

@@ -99,8 +99,8 @@ pub fn vacuum_to(
 }
 
 /// Makes a part of a vacuum to a stamp, of the first keys above `after`, at most `limit` keys. Returns 0, the stamp,
-/// the numbers of the part, the length of its last key and, where it fits, the key, and whether a key is left above it;
-/// or 8, 9 or 15 and its word, and then changes nothing.
+/// the numbers of the part, the length of its last key and, where it fits, the key, and whether a key may be left above
+/// it; or 8, 9 or 15 and its word, and then changes nothing.
 pub fn vacuum_part(
     core: &mut Core,
     at: Stamp,
