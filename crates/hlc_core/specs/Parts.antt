@@ -39,8 +39,8 @@ pub record VacuumsKeys (old new : StoreView) (at : ℕ) (past : List Step) (is_o
   pub dropped : report.dropped + length new.rows ≡ length old.rows
   pub fewest : LeavesFewest (rows_of_keys is_of new.rows) (rows_of_keys is_of (writes past)) report
 
--- a part of the stored rows, of the first keys above one, at most this many, ends at this key; or nowhere, if there is
--- no key above it
+-- a part of the stored rows, of the first keys above one, at most this many, ends at this key, above which keys may be
+-- left; or nowhere, and none is left
 pub record EndsAt (kept : StoreView) (after : List ℕ) (limit : ℕ) (end : Option (List ℕ)) : Type 0 where
   pub columns : List KeyCells
   pub next : AreNext kept.rows after limit columns

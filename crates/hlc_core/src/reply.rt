@@ -41,7 +41,7 @@ pub enum CoreReply {
     /// The vacuum took place; this is its report, in a block of its own, so that all replies are small.
     Vacuumed(BoxedReport),
     /// The part of a vacuum took place; this is its report, and the last of its keys, above which the next part begins,
-    /// or none if no key is left.
+    /// or none, only where no key is left.
     VacuumedPart {
         report: BoxedReport,
         end: Option<Bytes>,

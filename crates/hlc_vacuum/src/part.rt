@@ -18,7 +18,7 @@ use hlc_vacuum_draft::{Numbers, Report, Unlisted};
 use hlc_values::NoMemory;
 use std::alloc::Global;
 
-/// The plan of the columns of some keys, these keys, and the last of them, or none if there is no key above it.
+/// The plan of the columns of some keys, these keys, and the last of them, or none, only where no key is above it.
 #[derive(Debug, Drop)]
 pub struct PartPlan {
     pub plan: Plan,
@@ -26,7 +26,7 @@ pub struct PartPlan {
     pub end: Option<Bytes>,
 }
 
-/// The tally of the columns of some keys, these keys, and the last of them, or none if there is no key above it.
+/// The tally of the columns of some keys, these keys, and the last of them, or none, only where no key is above it.
 #[derive(Debug, Drop)]
 pub struct PartTally {
     pub tally: Tally,

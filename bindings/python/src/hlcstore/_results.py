@@ -31,7 +31,7 @@ class VacuumPart(NamedTuple):
     dropped: int
     """How many rows were dropped."""
     next: bytes | None
-    """The key after which the next part goes on, or None where no key is left."""
+    """The key after which the next part goes on, or None, only where no key is left."""
 
 
 class Certified(NamedTuple):

@@ -33,7 +33,7 @@ pub struct Certified {
 pub struct VacuumPart {
     /// What it did. The numbers are those of rows of the keys of this part.
     pub vacuumed: Vacuumed,
-    /// The last key of this part, after which the next one goes on, or none where no key is left.
+    /// The last key of this part, after which the next one goes on, or none, only where no key is left.
     pub next: Option<Vec<u8>>,
 }
 
