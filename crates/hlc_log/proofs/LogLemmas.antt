@@ -3,9 +3,11 @@ use Rattle.std.proofs.Common.{◌≡◌, ◌⊎◌, ℕ, ◌+◌, ◌-◌, ◌<�
 use Rattle.std.proofs.Common.{length, max, true, false, cond, refl, arith, length-append, Option, None, Ok}
 use Rattle.std.proofs.Common.{inl, inr}
 use Rattle.std.specs.Bool.{⊤}
+use Rattle.std.specs.List.{All}
 use Rattle.std.proofs.lemmas.Bool.{cases_Bool, cond-true, cond-false, and_parts, and_from, cases_eq, eq-eqb, ne_eqb}
 use Rattle.std.proofs.lemmas.Bool.{ltb-true, lt-ltb}
 use Rattle.std.proofs.lemmas.List.{append-nil, append_assoc}
+use Rattle.std.proofs.lemmas.List.Elements.{All-push}
 use Rattle.std.proofs.lemmas.Grind.{flat_map-append}
 use Rattle.hlc_node.specs.declared.item.Item.{Item as AnItem}
 use Rattle.hlc_wire.proofs.FieldLemmas.{IsBytes}
@@ -19,14 +21,15 @@ use Rattle.hlc_log.specs.declared.record.Record.{Record}
 use Rattle.hlc_log.specs.declared.record.Record.TheVariants.{Item, Join, Threshold}
 use Rattle.hlc_log.specs.declared.apply.RecordFault.{RecordFault}
 use Rattle.hlc_log.specs.declared.apply.Applied.{Applied}
-use Rattle.hlc_log.specs.Record.{record_bytes, record_at}
+use Rattle.hlc_log.specs.Record.{record_bytes, record_at, RecordFits}
 use Rattle.hlc_log.specs.Log.{came_before, step_of, with_record, with_records, log_bytes, greatest_threshold}
 use Rattle.hlc_log.specs.Log.{IsLogEnd, AreApplied}
 use Rattle.hlc_log.proofs.RecordLemmas.{record_reader}
 
+-- the record at the front has an encoding, and its bytes are the first
 pub front_is : (bytes : List ℕ) (entry : Record) (rest : List ℕ) → IsBytes bytes → record_at bytes ≡ Ok (entry, rest)
-    → bytes ≡ record_bytes entry ++ rest
-front_is bytes entry rest fits is = (record_reader.takes bytes (entry, rest) fits is).0.parts
+    → RecordFits entry × (bytes ≡ record_bytes entry ++ rest)
+front_is bytes entry rest fits is = let t = record_reader.takes bytes (entry, rest) fits is in (t.1, t.0.parts)
 
 some_bytes : (entry : Record) → 0 < length (record_bytes entry)
 some_bytes (Item item) = omega arith
@@ -37,7 +40,7 @@ pub front_shortens : (bytes : List ℕ) (entry : Record) (rest : List ℕ) → I
     → record_at bytes ≡ Ok (entry, rest) → length rest < length bytes
 front_shortens bytes entry rest fits is =
     let long : length bytes ≡ length (record_bytes entry) + length rest =
-    ap length (front_is bytes entry rest fits is) ∙ length-append (record_bytes entry) rest in
+    ap length (front_is bytes entry rest fits is).1 ∙ length-append (record_bytes entry) rest in
     let some : 0 < length (record_bytes entry) = some_bytes entry in
     omega (arith, long, some)
 
@@ -60,6 +63,7 @@ abbrev pub AppliedSoFar : StoreView → List ℕ → List ℕ → List Step → 
 AppliedSoFar core bytes rest past least many greatest =
     (records : List Record) × (bytes ≡ log_bytes records ++ rest) × (many ≡ length records)
     × (greatest ≡ greatest_threshold least records) × Represents core (with_records records past)
+    × All RecordFits records
 
 pub records-append : (records more : List Record) (past : List Step)
     → with_records (records ++ more) past ≡ with_records more (with_records records past)
@@ -83,10 +87,11 @@ log-last records entry =
 pub one_more : (core : StoreView) (bytes rest after : List ℕ) (past : List Step)
     (least many greatest raised : ℕ) (before : StoreView)
     → (so : AppliedSoFar before bytes rest past least many greatest)
-    → (entry : Record) × (rest ≡ record_bytes entry ++ after) × (raised ≡ greatest_threshold greatest (entry ∷ []))
+    → (entry : Record) × RecordFits entry × (rest ≡ record_bytes entry ++ after)
+    × (raised ≡ greatest_threshold greatest (entry ∷ []))
     × Represents core (with_record entry (with_records so.0 past))
     → AppliedSoFar core bytes after past least (many + 1) raised
-one_more core bytes rest after past least many greatest raised before so (entry, front, up, h) = (
+one_more core bytes rest after past least many greatest raised before so (entry, fits, front, up, h) = (
   so.0 ++ entry ∷ [],
   so.1 ∙ ap (λ (xs : List ℕ). log_bytes so.0 ++ xs) front
       ∙ sym (append_assoc (log_bytes so.0) (record_bytes entry) after)
@@ -94,6 +99,7 @@ one_more core bytes rest after past least many greatest raised before so (entry,
   (let n = length-append so.0 (entry ∷ []) in omega (arith, n, so.2)),
   up ∙ ap (λ (g : ℕ). greatest_threshold g (entry ∷ [])) so.3 ∙ sym (threshold-append least so.0 (entry ∷ [])),
   subst (λ (p : List Step). Represents core p) (sym (records-append so.0 (entry ∷ []) past)) h,
+  All-push RecordFits so.0 entry so.5 fits,
 )
 
 -- the state of the loop, with why it ended
@@ -108,6 +114,7 @@ applied_all core bytes rest past least many greatest end result so is made =
       records = so.0;
       rest = rest;
       bytes_are = so.1;
+      fit = so.5;
       used =
           let long : length bytes ≡ length (log_bytes so.0) + length rest =
           ap length so.1 ∙ length-append (log_bytes so.0) rest in

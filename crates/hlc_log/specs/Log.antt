@@ -1,6 +1,6 @@
 -- The records of a log as bytes, one after another, and what a store makes of them.
 use Rattle.std.specs.Prelude.{◌≡◌, ◌&&◌, ◌==◌, ℕ, List, [], ◌∷◌, ◌++◌, Bool, false, nat_lt, length, max}
-use Rattle.std.specs.Prelude.{Option, Some, None, Result, Ok, Err, if◌then◌else◌, ⊤}
+use Rattle.std.specs.Prelude.{Option, Some, None, Result, Ok, Err, if◌then◌else◌, All, ⊤}
 use Rattle.std.specs.List.{flat_map}
 use Rattle.hlc_intake.specs.declared.intake.LinkFault.TheVariants.{NotNext}
 use Rattle.hlc_events.specs.declared.fault.CoreFault.{CoreFault}
@@ -13,7 +13,7 @@ use Rattle.hlc_log.specs.declared.record.Record.TheVariants.{Item, Join, Thresho
 use Rattle.hlc_log.specs.declared.apply.RecordFault.{RecordFault}
 use Rattle.hlc_log.specs.declared.apply.RecordFault.TheVariants.{Bytes, Refused}
 use Rattle.hlc_log.specs.declared.apply.Applied.{Applied}
-use Rattle.hlc_log.specs.Record.{record_bytes, record_at}
+use Rattle.hlc_log.specs.Record.{record_bytes, record_at, RecordFits}
 
 -- the bytes of some records, one after another
 abbrev pub log_bytes : List Record → List ℕ
@@ -84,12 +84,14 @@ IsLogEnd [] past end = end ≡ None
 IsLogEnd (byte ∷ bytes) past None = ⊥
 IsLogEnd (byte ∷ bytes) past (Some fault) = IsStopped (byte ∷ bytes) past fault
 
--- The first records of the bytes were applied, as far as possible: what they are, and what the result says of them.
+-- The first records of the bytes were applied, as far as possible: what they are, that they have encodings, and what
+-- the result says of them.
 pub record AreApplied (new : StoreView) (bytes : List ℕ) (past : List Step) (least : ℕ) (applied : Applied)
     : Type 0 where
   pub records : List Record
   pub rest : List ℕ
   pub bytes_are : bytes ≡ log_bytes records ++ rest
+  pub fit : All RecordFits records
   pub used : applied.bytes ≡ length (log_bytes records)
   pub many : applied.records ≡ length records
   pub threshold : applied.threshold ≡ greatest_threshold least records

@@ -5,7 +5,7 @@ ghost use Rattle.hlc_core.specs.Past.{Step};
 ghost use Rattle.hlc_core.specs.StoreView.{Represents};
 ghost use Rattle.hlc_core.specs.Calls.{IsRefusal};
 ghost use Rattle.hlc_log.specs.declared.record.Record.{Record as ARecord};
-ghost use Rattle.hlc_log.specs.Record.{record_bytes, record_seen};
+ghost use Rattle.hlc_log.specs.Record.{record_bytes, record_seen, RecordFits};
 ghost use Rattle.hlc_log.specs.Log.{came_before, with_record, greatest_threshold, record_refusal};
 ghost use Rattle.hlc_log.specs.Log.{MayGrow, Applies, IsStopped, AreApplied};
 
@@ -80,7 +80,7 @@ fn apply_front<'a>(
     greatest: &mut Stamp,
 ) -> Result<&'a [u8], RecordFault>
     ensures represents { (past : List Step) → Represents core.old past → MatchResult result
-        (λ rest. (entry : ARecord) × (bytes.now ≡ record_bytes entry ++ rest.now)
+        (λ rest. (entry : ARecord) × RecordFits entry × (bytes.now ≡ record_bytes entry ++ rest.now)
         × (greatest.new ≡ greatest_threshold greatest.old (entry ∷ []))
         × Represents core.new (with_record entry past))
         (IsStopped bytes.now past) }
