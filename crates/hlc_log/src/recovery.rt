@@ -1,9 +1,10 @@
 //! A store from a checkpoint and a log.
-ghost use Rattle.std.specs.Prelude.{◌≡◌, ℕ, List, IfErr, MatchResult};
+ghost use Rattle.std.specs.Prelude.{◌≡◌, ℕ, List, IfOk, IfErr, MatchResult};
 ghost use Rattle.hlc_core.specs.Past.{Step};
 ghost use Rattle.hlc_saved.specs.Saved.{BytesRepresent, SpellNone};
 ghost use Rattle.hlc_saved.specs.declared.fault.ResumeError.TheVariants.{NoMemory as no_memory};
 ghost use Rattle.hlc_log.specs.Log.{AreApplied};
+ghost use Rattle.hlc_log.specs.Recovery.{IsRecovered};
 
 use crate::apply::{Applied, apply_records};
 use hlc_core::{Core, Stamp};
@@ -30,6 +31,7 @@ pub fn recover(alloc: Global, checkpoint: &[u8], log: &[u8]) -> Result<Recovered
         → MatchResult result (λ made. (made.tag ≡ tag)
         × AreApplied made.core log.now past 0 made.applied)
         (λ error. error ≡ no_memory) }
+    ensures sound { IfOk result (IsRecovered checkpoint.now log.now) }
     ensures err { IfErr result (SpellNone checkpoint.now) }
 {
     let Resumed { core, tag } = match resume(alloc, checkpoint) {

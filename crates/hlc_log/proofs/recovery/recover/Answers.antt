@@ -9,3 +9,14 @@ returns-clause-represents c = λ tag past of. (
   c.in-Ok.ensures.tag tag of.0 of.1,
   c.apply_records-applied.ensures past (c.in-Ok.ensures.represents tag past of),
 )
+
+pub returns-clause-sound : goal.returns-clause-sound
+returns-clause-sound c =
+    let is = c.in-Ok.ensures.exact in
+    record {
+      kept = is.0;
+      saved = is.1;
+      restored = c.in-Ok.made.core;
+      copy = is.2;
+      applied = c.apply_records-applied.ensures;
+    }
