@@ -42,8 +42,9 @@ pub struct Applied {
 /// caller may vacuum to it. `threshold` is the greatest one so far, or 0.0. The store has what was applied, whatever
 /// stopped it. It takes no memory but what the store grows by.
 pub fn apply_records(core: &mut Core, bytes: &[u8], threshold: Stamp) -> Applied
-    ensures { (past : List Step) → Represents core.old past
+    ensures represents { (past : List Step) → Represents core.old past
         → AreApplied core.new bytes.now past threshold result }
+    ensures none { result.records ≡ 0 → core.new ≡ core.old }
 {
     let mut rest = bytes;
     let mut records = 0usize;

@@ -6,6 +6,7 @@ use Rattle.hlc_log.proofs.apply.apply_records.Goals as goal
 
 pub loop-rest-preserved : goal.loop-rest-preserved
 loop-rest-preserved c = record {
+  none = λ e. absurd (omega (arith, e));
   within = omega (arith, c.in-Ok.ensures.shorter, c.loop-rest.invariant.within);
   applied = λ past h.
       let so = c.loop-rest.invariant.applied past h in

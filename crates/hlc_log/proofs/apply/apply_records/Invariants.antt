@@ -1,5 +1,5 @@
 -- The records so far were applied.
-use Rattle.std.proofs.Common.{◌+◌, ◌≤◌, List, length}
+use Rattle.std.proofs.Common.{◌≡◌, ◌+◌, ◌≤◌, List, length}
 use Rattle.hlc_core.specs.Past.{Step}
 use Rattle.hlc_core.specs.StoreView.{Represents}
 use Rattle.hlc_log.proofs.LogLemmas.{AppliedSoFar}
@@ -7,6 +7,7 @@ use Rattle.hlc_log.proofs.apply.apply_records.Given as goal
 
 abbrev pub invariant-loop-rest : goal.invariant-loop-rest
 invariant-loop-rest l = record {
+  none : l.records ≡ 0 → l.core ≡ l.fn.core;
   within : l.records + length l.rest ≤ length l.fn.bytes;
   applied : (past : List Step) → Represents l.fn.core past
       → AppliedSoFar l.core l.fn.bytes l.rest past l.fn.threshold l.records l.greatest;

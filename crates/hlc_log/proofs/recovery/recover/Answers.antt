@@ -7,7 +7,7 @@ returns-in-Err-clause-represents c = λ tag past of. c.in-Err.ensures.only tag o
 pub returns-clause-represents : goal.returns-clause-represents
 returns-clause-represents c = λ tag past of. (
   c.in-Ok.ensures.tag tag of.0 of.1,
-  c.apply_records-applied.ensures past (c.in-Ok.ensures.represents tag past of),
+  c.apply_records-applied.ensures.represents past (c.in-Ok.ensures.represents tag past of),
 )
 
 pub returns-clause-sound : goal.returns-clause-sound
@@ -18,5 +18,6 @@ returns-clause-sound c =
       saved = is.1;
       restored = c.in-Ok.made.core;
       copy = is.2;
-      applied = c.apply_records-applied.ensures;
+      none = c.apply_records-applied.ensures.none;
+      applied = c.apply_records-applied.ensures.represents;
     }
