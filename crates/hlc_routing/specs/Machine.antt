@@ -73,10 +73,11 @@ pub data Reports (old : MachineView) (reading : ℕ) : MachineView → List Item
   one : {machine new : MachineView} {items : List Item} (item : Item) → Reports old reading machine items
       → Issues machine new (length items) Report reading item → Reports old reading new (items ++ item ∷ [])
 
--- a store's report is refused, after those before it
+-- the report for one of the stores is refused, after those for the stores before it
 pub record IsRefusedReport (old : MachineView) (reading : ℕ) (fault : MachineFault) : Type 0 where
   pub machine : MachineView
   pub items : List Item
+  pub inside : length items < length old.nodes
   pub before : Reports old reading machine items
   pub refused : IsRefusedIssue machine (length items) Report reading fault
 
