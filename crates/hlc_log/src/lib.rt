@@ -3,6 +3,7 @@
 #![tactic(auto)]
 
 mod apply;
+mod exact;
 mod laws;
 mod record;
 mod recovery;

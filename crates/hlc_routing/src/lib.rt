@@ -3,6 +3,7 @@
 
 mod all;
 mod division;
+mod exact;
 mod fault;
 mod laws;
 mod listing;

@@ -1,0 +1,18 @@
+//! `==` of these types is true exactly on equal values, and each copy is equal.
+ghost use Rattle.std.proofs.Common.{rules};
+ghost use Rattle.std.proofs.lemmas.Grind.{common_steps};
+
+use crate::apply::{Applied, RecordFault};
+use hlc_values::Exact;
+
+impl Exact for RecordFault {
+    ghost equal = { Prim.search (rules, common_steps) };
+
+    ghost copied = { Prim.search rules };
+}
+
+impl Exact for Applied {
+    ghost equal = { Prim.search (rules, common_steps) };
+
+    ghost copied = { Prim.search rules };
+}

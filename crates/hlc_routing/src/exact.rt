@@ -1,0 +1,19 @@
+//! `==` of these types is true exactly on equal values, and each copy is equal.
+ghost use Rattle.std.proofs.Common.{rules};
+ghost use Rattle.std.proofs.lemmas.Grind.{common_steps};
+
+use crate::fault::RangesFault;
+use crate::machine::MachineFault;
+use hlc_values::Exact;
+
+impl Exact for RangesFault {
+    ghost equal = { Prim.search (rules, common_steps) };
+
+    ghost copied = { Prim.search rules };
+}
+
+impl Exact for MachineFault {
+    ghost equal = { Prim.search (rules, common_steps) };
+
+    ghost copied = { Prim.search rules };
+}
