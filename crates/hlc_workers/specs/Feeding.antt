@@ -1,7 +1,7 @@
 -- What a worker of a link has done.
-use Rattle.std.specs.Prelude.{◌≡◌, ◌==◌, ◌&&◌, ℕ, List, [], ◌∷◌, ◌++◌, length}
+use Rattle.std.specs.Prelude.{◌≡◌, ◌≢◌, ◌==◌, ◌&&◌, ℕ, List, [], ◌∷◌, ◌++◌, length}
 use Rattle.std.specs.Prelude.{map, nat_lt, Bool, true, false}
-use Rattle.std.specs.Prelude.{if◌then◌else◌, Option, None}
+use Rattle.std.specs.Prelude.{if◌then◌else◌, Option, None, IsSome}
 use Rattle.std.specs.Option.{option_to_list, option_map}
 use Rattle.hlc_node.specs.declared.item.Item.{Item}
 use Rattle.hlc_link.specs.Ends.{ReceiverView}
@@ -67,4 +67,5 @@ pub record FedNone {L : Type 0} (may : ℕ → Bool → Type 0) (old new : Work 
   pub raised : other ≡ one
   pub done : end ≡ Done → (link.ended ≡ true) × (left ≡ None)
   pub closed : end ≡ Closed → left ≡ None
+  pub kept : end ≢ Done → end ≢ Closed → IsSome left
   pub stopped : end ≡ Held → may (length new.receipts.items) false

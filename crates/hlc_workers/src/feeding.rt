@@ -1,5 +1,6 @@
 //! The worker of a link.
-ghost use Rattle.std.specs.Prelude.{◌≡◌, ◌<◌, ℕ, true, false, None, length, vec_len, IfSome, MatchResult};
+ghost use Rattle.std.specs.Prelude.{◌≡◌, ◌≢◌, ◌<◌, ℕ, true, false, None, length, vec_len};
+ghost use Rattle.std.specs.Prelude.{IfSome, IsSome, MatchResult};
 ghost use Rattle.std.specs.Option.{option_map};
 ghost use Rattle.hlc_workers.specs.Paid.{IsPaid};
 ghost use Rattle.hlc_workers.specs.Feeding.{TookAll, FedOne, FedNone, fed_by, fed_all};
@@ -54,6 +55,7 @@ pub fn feed<L: Ledger, G: Gate, R: Wait>(
         ≡ option_map (λ feeder. fed_all feeder result.receipts.items) feeder }
     ensures done { result.end ≡ WorkEnd.Done → (result.link.ended ≡ true) × (result.left ≡ None) }
     ensures closed { result.end ≡ WorkEnd.Closed → result.left ≡ None }
+    ensures kept { result.end ≢ WorkEnd.Done → result.end ≢ WorkEnd.Closed → IsSome result.left }
     ensures stopped { result.end ≡ WorkEnd.Held
         → G.may_answer gate.now (vec_len result.receipts) false }
     ensures passed { (turn : ℕ) → turn < length result.receipts.items
