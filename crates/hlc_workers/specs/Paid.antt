@@ -1,8 +1,9 @@
 -- What a worker's receipts say about its calls.
 use Rattle.std.specs.Prelude.{◌≡◌, ◌≢◌, ◌+◌, ◌<◌, ◌≤◌, ℕ, List, [], ◌∷◌, ◌++◌}
-use Rattle.std.specs.Prelude.{length, Bool, true, false, All}
+use Rattle.std.specs.Prelude.{length, map, replicate, Bool, true, false, All}
 use Rattle.std.specs.Prelude.{Result, MatchResult}
 use Rattle.hlc_events.specs.declared.event.CoreEvent.{CoreEvent}
+use Rattle.hlc_events.specs.declared.event.CoreEvent.TheVariants.{Vacuum}
 use Rattle.hlc_server.specs.declared.entry.Receipt.{Receipt}
 use Rattle.hlc_server.specs.Seats.{CallerView}
 use Rattle.hlc_workers.specs.declared.session.Work.{Work}
@@ -23,6 +24,11 @@ pub record IsPaid (before after : CallerView) (receipts : List Receipt) : Type 0
 -- answer true at each of these turns
 abbrev pub Passed : (ℕ → Bool → Type 0) → ℕ → List Receipt → Type 0
 Passed may from receipts = (turn : ℕ) → from ≤ turn → turn < from + length receipts → may turn true
+
+-- each of these receipts is of a vacuum, and there are at most this many
+abbrev pub AreVacuums : ℕ → List Receipt → Type 0
+AreVacuums times receipts =
+    (count : ℕ) × (count ≤ times) × (map event_of receipts ≡ replicate count Vacuum)
 
 -- Below, a worker's caller and receipts were `old` and are `new`, and `may` is what its gate may answer at a turn.
 

@@ -1,7 +1,9 @@
 //! The worker of the vacuum.
-ghost use Rattle.std.specs.Prelude.{◌≡◌, ◌≢◌, ◌<◌, ℕ, map, replicate, false, true, length, vec_len};
+ghost use Rattle.std.specs.Prelude.{◌≡◌, ◌≢◌, ◌<◌, ℕ, List, map, replicate, false, true, length, vec_len};
+ghost use Rattle.std.specs.Prelude.{MatchResult};
 ghost use Rattle.hlc_events.specs.declared.event.CoreEvent.{CoreEvent as AnEvent};
-ghost use Rattle.hlc_workers.specs.Paid.{IsPaid, MadeOne, MadeSome, event_of};
+ghost use Rattle.hlc_server.specs.declared.entry.Receipt.{Receipt as AReceipt};
+ghost use Rattle.hlc_workers.specs.Paid.{IsPaid, MadeOne, HasCalled, IsStopped, AreVacuums, event_of};
 
 use crate::end::end_of;
 use crate::gate::Gate;
@@ -35,8 +37,11 @@ impl<L: Ledger, G: Gate, R: Wait + Threads + Sync> Session<'_, L, G, R> {
 
     /// Makes this many vacuums.
     fn vacuum_often(&mut self, times: u64) -> Result<(), WorkEnd>
-        ensures { MadeSome (G.may_answer self.old.gate.now) self.old.work self.new.work result
-            (λ more. map event_of more ≡ replicate times AnEvent.Vacuum) }
+        ensures { (more : List AReceipt)
+            × HasCalled (G.may_answer self.old.gate.now) self.old.work self.new.work more
+            × AreVacuums times more
+            × MatchResult result (λ _. map event_of more ≡ replicate times AnEvent.Vacuum)
+            (λ end. IsStopped (G.may_answer self.old.gate.now) self.new.work end) }
     {
         for _time in 0..times {
             self.vacuum()?;
@@ -58,6 +63,7 @@ pub fn serve_vacuum<L: Ledger, G: Gate, R: Wait + Threads + Sync>(
     gate: &G,
 ) -> Served<L>
     ensures share { IsPaid caller result.caller result.receipts.items }
+    ensures vacuums { AreVacuums times result.receipts.items }
     ensures done { result.end ≡ WorkEnd.Done
         → map event_of result.receipts.items ≡ replicate times AnEvent.Vacuum }
     ensures stopped { result.end ≡ WorkEnd.Held
