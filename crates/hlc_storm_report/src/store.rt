@@ -3,7 +3,6 @@ ghost use Rattle.std.specs.Prelude.{◌≡◌, ◌+◌, [], Some, IfOk, IfErr, m
 ghost use Rattle.std.specs.List.{range_with_len};
 ghost use Rattle.hlc_core.specs.History.{RepresentsHistory};
 ghost use Rattle.hlc_server.specs.Seats.{fresh_seat};
-ghost use Rattle.hlc_storm_report.specs.Found.{MayRefuse};
 
 use crate::report::StormFault;
 use hlc_server::{Caller, Guarded};
@@ -12,7 +11,7 @@ use std::alloc::Global;
 use std::sync::ledger::{Blank, Ledger};
 
 /// Returns a new store of the nodes of a plan, which keeps a trail, and its callers: one for each feeder and each
-/// reader, and one for the vacuum. There is no lock around it yet.
+/// reader, and one for the vacuum. There is no lock around it yet. Refused where it runs out of memory.
 pub fn new_store<L: Ledger>(
     alloc: Global,
     blank: Blank,
@@ -25,7 +24,7 @@ pub fn new_store<L: Ledger>(
         × (made.0.trail ≡ Some []) × (made.0.calls ≡ 0)) }
     ensures callers { IfOk result (λ made. made.1.items
         ≡ map fresh_seat (range_with_len 0 (plan.now.nodes + plan.now.readers + 1))) }
-    ensures faults { IfErr result MayRefuse }
+    ensures memory { IfErr result (λ fault. fault ≡ StormFault.NoMemory) }
 {
     let callers = plan.nodes + plan.readers + 1;
     match Guarded::<L>::new(alloc, blank, plan.nodes, callers, true) {
