@@ -1,5 +1,5 @@
 //! The end of a storm's threads: all are joined, and how the workers ended is recorded.
-ghost use Rattle.std.specs.Prelude.{◌≡◌, ◌≢◌, ◌+◌, All, false, length, None, IfOk, IfErr};
+ghost use Rattle.std.specs.Prelude.{◌≡◌, ◌≢◌, ◌+◌, All, false, true, length, None, IfOk, IfErr};
 ghost use Rattle.hlc_storm_report.specs.Found.{MayRefuse};
 
 use crate::writing::WriteFault;
@@ -76,7 +76,8 @@ fn join_workers<L: Ledger, R: Threads + Wait>(
     ends
 }
 
-/// Joins all threads, and returns the receipts by caller.
+/// Joins all threads, and returns the receipts by caller. Refused first where it runs out of memory, or a thread was
+/// not started.
 pub fn join_all<L: Ledger, R: Threads + Wait>(
     rt: &R,
     alloc: Global,
@@ -86,6 +87,9 @@ pub fn join_all<L: Ledger, R: Threads + Wait>(
         (λ lists. length lists.items
         ≡ length started.feeders.items + length started.readers.items + 1) }
     ensures memory { IfOk result (λ _. started.out_of_memory ≡ false) }
+    ensures writers { IfOk result (λ _. All (λ writer. writer ≢ None) started.writers.items) }
+    ensures first { IfErr result
+        (λ fault. started.out_of_memory ≡ true → fault ≡ StormFault.NoMemory) }
     ensures faults { IfErr result MayRefuse }
 {
     let Started {
