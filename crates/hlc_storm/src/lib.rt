@@ -2,6 +2,7 @@
 //! their receipts are settled, and the report says what the store contains.
 #![tactic(auto)]
 
+mod exact;
 mod gates;
 mod joining;
 mod starting;

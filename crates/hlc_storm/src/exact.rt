@@ -1,0 +1,12 @@
+//! `==` of this type is true exactly on equal values, and each copy is equal.
+ghost use Rattle.std.proofs.Common.{rules};
+ghost use Rattle.std.proofs.lemmas.Grind.{common_steps};
+
+use crate::writing::WriteFault;
+use hlc_values::Exact;
+
+impl Exact for WriteFault {
+    ghost equal = { Prim.search (rules, common_steps) };
+
+    ghost copied = { Prim.search rules };
+}
