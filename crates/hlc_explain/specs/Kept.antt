@@ -1,5 +1,5 @@
 -- What a reader keeps of the bytes that it gave.
-use Rattle.std.specs.Prelude.{◌≡◌, ◌++◌, ℕ, List, Bool, take, MatchResult, Result}
+use Rattle.std.specs.Prelude.{◌≡◌, ◌++◌, ◌==◌, ℕ, List, Bool, take, MatchResult, Result, if◌then◌else◌}
 use Rattle.hlc_explain.specs.declared.kept.Kept.{Kept}
 use Rattle.hlc_explain.specs.declared.kept.Last.{Last}
 
@@ -18,6 +18,10 @@ kept_bytes kept = kept.bytes.items
 -- what came of the last read
 abbrev pub last_read : {R : Type 0} → Kept R → Last
 last_read kept = kept.last
+
+-- what came of a read that gave this many bytes
+abbrev pub last_of : ℕ → Last
+last_of count = if count == 0 then Last.End else Last.More
 
 -- a read adds the bytes that it gave, and a read that fails adds none
 abbrev pub Adds : {E : Type 0} → List ℕ → List ℕ → Result ℕ E → List ℕ → Type 0

@@ -1,8 +1,8 @@
 //! A reader that keeps what it gave, so that a line of it can be shown after it was refused.
-ghost use Rattle.std.specs.Prelude.{◌≡◌, ◌++◌, [], IsTrue, MatchOption, OnErr};
+ghost use Rattle.std.specs.Prelude.{◌≡◌, ◌++◌, [], length, IsTrue, MatchOption, IfOk, OnErr};
 ghost use Rattle.std.specs.Io.{ReadsAtMost};
 ghost use Rattle.std.specs.Io.KnownBytes.{ReadConsumes};
-ghost use Rattle.hlc_explain.specs.Kept.{source_of, is_whole, kept_bytes, last_read, Adds};
+ghost use Rattle.hlc_explain.specs.Kept.{source_of, is_whole, kept_bytes, last_read, last_of, Adds};
 
 use std::alloc::Global;
 use std::io;
@@ -13,7 +13,7 @@ use std::io::Read;
 pub enum Last {
     /// There was none, or it gave some bytes.
     More,
-    /// It gave no bytes: the input is at its end.
+    /// It gave no bytes: the input is at its end, or nothing was asked for, with an empty buffer.
     End,
     /// It failed.
     Failed,
@@ -34,6 +34,7 @@ impl<R> Kept<R> {
         ensures source { source_of result ≡ inner }
         ensures whole { is_whole result ≡ keeps }
         ensures bytes { kept_bytes result ≡ [] }
+        ensures last { last_read result ≡ Last.More }
     {
         Kept {
             inner,
@@ -67,6 +68,8 @@ impl<R> Kept<R> {
         ensures source { source_of self.new ≡ source_of self.old }
         ensures bytes { IsTrue (is_whole self.new)
             → kept_bytes self.new ≡ kept_bytes self.old ++ given.now }
+        ensures whole { IsTrue (is_whole self.new) → IsTrue (is_whole self.old) }
+        ensures last { last_read self.new ≡ last_of (length given.now) }
     {
         self.last = if given.is_empty() {
             Last::End
@@ -91,6 +94,8 @@ impl<R: Read> Read for Kept<R> {
             (R.remaining (source_of self.new)) result buf.new }
         ensures kept { IsTrue (is_whole self.new)
             → Adds (kept_bytes self.old) (kept_bytes self.new) result buf.new }
+        ensures whole { IsTrue (is_whole self.new) → IsTrue (is_whole self.old) }
+        ensures last { IfOk result (λ n. last_read self.new ≡ last_of n) }
         ensures failed { OnErr result (last_read self.new ≡ Last.Failed) }
     {
         match self.inner.read(buf) {
