@@ -1,1 +1,2 @@
 mod Sentences
+mod LinePlaces

@@ -1,8 +1,7 @@
 //! The line of a number in a text.
-ghost use Rattle.std.specs.Prelude.{◌≡◌, ◌≢◌, None, Some, IfSome, MatchOption, slice_get};
+ghost use Rattle.std.specs.Prelude.{◌≡◌, None, Some, MatchOption, slice_get};
 ghost use Rattle.hlc_text.specs.Lines.{lines_of};
-ghost use Rattle.hlc_world.specs.Schedule.{Event as AnEvent};
-ghost use Rattle.hlc_script.specs.Line.{event_line, HasLine};
+ghost use Rattle.hlc_explain.specs.Lines.{AreEventLines, IsFirstBadLine};
 
 use hlc_script::read_line;
 use hlc_text::input::first_line;
@@ -27,7 +26,8 @@ pub fn line_behind(text: &[u8], before: u64) -> Option<&[u8]>
 
 /// Returns the first line that is not that of an event, and how many lines come before it.
 pub fn bad_line(text: &[u8]) -> Option<(u64, &[u8])>
-    ensures { IfSome result (λ x. (event : AnEvent) → HasLine event → x.1.now ≢ event_line event) }
+    ensures { MatchOption result (AreEventLines (lines_of text.now))
+        (λ x. IsFirstBadLine (lines_of text.now) x.0 x.1.now) }
 {
     let mut rest = text;
     let mut before = 0u64;
@@ -37,7 +37,7 @@ pub fn bad_line(text: &[u8]) -> Option<(u64, &[u8])>
             return Some((before, line));
         }
         rest = after;
-        before = before.saturating_add(1);
+        before += 1;
     }
     None
 }
