@@ -24,12 +24,14 @@ one_more : (lines : List (List ℕ)) (before : ℕ) (line : List ℕ) (rest : Li
     → Passed lines before (line ∷ rest) → IsEventLine line → Passed lines (suc before) rest
 one_more [] zero line rest so_far fits = cc
 one_more [] (suc n) line rest so_far fits = cc
-one_more (x ∷ xs) zero line rest so_far fits =
-    ((subst (λ (l : List ℕ). IsEventLine l) (sym (first_same x line xs rest so_far.1)) fits, tt),
-      rest_same x line xs rest so_far.1)
+one_more (x ∷ xs) zero line rest so_far fits = (
+  (subst (λ (l : List ℕ). IsEventLine l) (sym (first_same x line xs rest so_far.1)) fits, tt),
+  rest_same x line xs rest so_far.1,
+)
   where
     first_same : (x line : List ℕ) (xs rest : List (List ℕ)) → x ∷ xs ≡ line ∷ rest → x ≡ line
     first_same x line xs rest e = cc
+
     rest_same : (x line : List ℕ) (xs rest : List (List ℕ)) → x ∷ xs ≡ line ∷ rest → xs ≡ rest
     rest_same x line xs rest e = cc
 one_more (x ∷ xs) (suc n) line rest so_far fits =
@@ -67,7 +69,7 @@ pub all_passed : (lines : List (List ℕ)) (before : ℕ) (text : List ℕ)
     → Passed lines before (lines_of text) → length text ≡ 0 → AreEventLines lines
 all_passed lines before text so_far empty =
     let whole : take before lines ≡ lines =
-      sym (append-nil (take before lines))
-      ∙ ap (λ (l : List (List ℕ)). take before lines ++ l) (sym (so_far.1 ∙ none_left text empty))
-      ∙ take-append-drop before lines in
+    sym (append-nil (take before lines))
+    ∙ ap (λ (l : List (List ℕ)). take before lines ++ l) (sym (so_far.1 ∙ none_left text empty))
+    ∙ take-append-drop before lines in
     subst (λ (l : List (List ℕ)). AreEventLines l) whole so_far.0

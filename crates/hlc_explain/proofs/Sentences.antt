@@ -23,10 +23,10 @@ then_more text first second =
     let shown : List ℕ = filter is_shown first in
     let room : ℕ = 1000 - length text in
     let left : 1000 - length (text ++ take room shown) ≡ room - length (take room shown) =
-        omega (arith, length-append text (take room shown)) in
+    omega (arith, length-append text (take room shown)) in
     rw left (append_assoc text (take room shown) (take (room - length (take room shown)) (filter is_shown second))
-      ∙ ap (λ (l : List ℕ). text ++ l) (take_both room shown (filter is_shown second)
-        ∙ ap (λ (l : List ℕ). take room l) (sym (filter-append is_shown first second))))
+    ∙ ap (λ (l : List ℕ). text ++ l) (take_both room shown (filter is_shown second)
+    ∙ ap (λ (l : List ℕ). take room l) (sym (filter-append is_shown first second))))
 
 take_none : (n : ℕ) → take {A = ℕ} n [] ≡ []
 take_none zero = refl
@@ -43,12 +43,12 @@ pub one_more : (text : List ℕ) (byte : ℕ) → with_byte text byte ≡ with_b
 one_more text byte =
     elim (cases_Bool (is_shown byte)) [
       | inl shown ↦ rw shown (elim (cases_Bool (nat_lt (length text) 1000)) [
-          | inl room ↦ rw room (ap (λ (l : List ℕ). text ++ l)
-              (sym (take_first (1000 - length text) byte (omega (arith, ltb-true (length text) 1000 room)))))
-          | inr full ↦
-              let none : 1000 - length text ≡ 0 = omega (arith, ltb-false (length text) 1000 full) in
-              rw (full, none) (sym (append-nil text))
-        ])
+        | inl room ↦ rw room (ap (λ (l : List ℕ). text ++ l)
+            (sym (take_first (1000 - length text) byte (omega (arith, ltb-true (length text) 1000 room)))))
+        | inr full ↦
+            let none : 1000 - length text ≡ 0 = omega (arith, ltb-false (length text) 1000 full) in
+            rw (full, none) (sym (append-nil text))
+      ])
       | inr hidden ↦ rw hidden (no_more text)
     ]
 
@@ -71,9 +71,9 @@ next_written write text old bytes new at below so_far is =
     is ∙ ap (λ (l : List ℕ). with_bytes l (write byte)) so_far
     ∙ then_more old (flat_map write (take at bytes)) (write byte)
     ∙ ap (λ (l : List ℕ). with_bytes old l)
-      (ap (λ (l : List ℕ). flat_map write (take at bytes) ++ l) (sym (append-nil (write byte)))
-        ∙ sym (flat_map-append write (take at bytes) (byte ∷ []))
-        ∙ ap (λ (l : List ℕ). flat_map write l) (sym (take_more bytes at 0 below)))
+    (ap (λ (l : List ℕ). flat_map write (take at bytes) ++ l) (sym (append-nil (write byte)))
+    ∙ sym (flat_map-append write (take at bytes) (byte ∷ []))
+    ∙ ap (λ (l : List ℕ). flat_map write l) (sym (take_more bytes at 0 below)))
 
 -- two texts that are put one after the other
 pub both_put : (old first second : List ℕ) {mid new : List ℕ} → mid ≡ with_bytes old first
@@ -86,8 +86,8 @@ pub both_digits : (old mid new : List ℕ) {a b : ℕ} (first second : ℕ) → 
     → mid ≡ with_byte old a → new ≡ with_byte mid b → new ≡ with_bytes old (first ∷ second ∷ [])
 both_digits old mid new {a} {b} first second is also one two =
     both_put old (first ∷ []) (second ∷ [])
-      (one ∙ one_more old a ∙ ap (λ (d : ℕ). with_bytes old (d ∷ [])) is)
-      (two ∙ one_more mid b ∙ ap (λ (d : ℕ). with_bytes mid (d ∷ [])) also)
+    (one ∙ one_more old a ∙ ap (λ (d : ℕ). with_bytes old (d ∷ [])) is)
+    (two ∙ one_more mid b ∙ ap (λ (d : ℕ). with_bytes mid (d ∷ [])) also)
 
 -- a quotation mark, the bytes and a quotation mark
 in_marks : (old text a b c : List ℕ) (count : ℕ) → count ≡ min 80 (length text)
@@ -97,7 +97,7 @@ in_marks old text a b c count is one two three =
     let bytes : List ℕ = flat_map quoted_byte (take 80 text) in
     let cut : take count text ≡ take 80 text = ap (λ (n : ℕ). take n text) is ∙ take_min 80 text in
     both_put old (39 ∷ bytes) (39 ∷ [])
-      (both_put old (39 ∷ []) bytes one (two ∙ ap (λ (l : List ℕ). with_bytes a (flat_map quoted_byte l)) cut)) three
+    (both_put old (39 ∷ []) bytes one (two ∙ ap (λ (l : List ℕ). with_bytes a (flat_map quoted_byte l)) cut)) three
 
 pub short_quoted : (old text a b c : List ℕ) (count : ℕ) → count ≡ min 80 (length text)
     → a ≡ with_bytes old (39 ∷ []) → b ≡ with_bytes a (flat_map quoted_byte (take count text))
@@ -105,8 +105,8 @@ pub short_quoted : (old text a b c : List ℕ) (count : ℕ) → count ≡ min 8
 short_quoted old text a b c count is one two three short =
     let bytes : List ℕ = flat_map quoted_byte (take 80 text) in
     rw (le-ltb 80 (length text) short)
-      (in_marks old text a b c count is one two three
-        ∙ ap (λ (l : List ℕ). with_bytes old (39 ∷ l)) (sym (append-nil (bytes ++ 39 ∷ []))))
+    (in_marks old text a b c count is one two three
+    ∙ ap (λ (l : List ℕ). with_bytes old (39 ∷ l)) (sym (append-nil (bytes ++ 39 ∷ []))))
 
 pub long_quoted : (old text a b c d : List ℕ) (count : ℕ) → count ≡ min 80 (length text)
     → a ≡ with_bytes old (39 ∷ []) → b ≡ with_bytes a (flat_map quoted_byte (take count text))
@@ -115,4 +115,4 @@ pub long_quoted : (old text a b c d : List ℕ) (count : ℕ) → count ≡ min 
 long_quoted old text a b c d count is one two three long four =
     let bytes : List ℕ = flat_map quoted_byte (take 80 text) in
     rw (lt-ltb 80 (length text) long)
-      (both_put old (39 ∷ (bytes ++ 39 ∷ [])) (46 ∷ 46 ∷ []) (in_marks old text a b c count is one two three) four)
+    (both_put old (39 ∷ (bytes ++ 39 ∷ [])) (46 ∷ 46 ∷ []) (in_marks old text a b c count is one two three) four)

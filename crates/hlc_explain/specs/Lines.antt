@@ -12,7 +12,7 @@ IsEventLine line = (event : Event) × (HasLine event × (line ≡ event_line eve
 abbrev pub AreEventLines : List (List ℕ) → Type 0
 AreEventLines lines = AllByRecursion IsEventLine lines
 
--- the line behind this many others is not that of an event, and each of those before it is
+-- the line after this many others is not that of an event, and each of those before it is
 abbrev pub IsFirstBadLine : List (List ℕ) → ℕ → List ℕ → Type 0
 IsFirstBadLine lines before line =
     (slice_get lines before ≡ Some line) × AreEventLines (take before lines) × (IsEventLine line → ⊥)

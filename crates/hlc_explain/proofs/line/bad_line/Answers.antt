@@ -8,14 +8,14 @@ use Rattle.hlc_explain.proofs.line.bad_line.Goals as goal
 pub returns-then-is_none : goal.returns-then-is_none
 returns-then-is_none c =
     first_bad (lines_of c.args.text.now) c.loop-rest.before c.first_line.result.0.now c.loop-rest.rest.now
-      c.first_line.result.1.now c.loop-rest.invariant.0 c.first_line.ensures.line
-      (bad_read c.first_line.result.0.now _ c.read_line.ensures (c.is_none.ensures ∙ ap not c.if-is_none.true))
+    c.first_line.result.1.now c.loop-rest.invariant.0 c.first_line.ensures.line
+    (bad_read c.first_line.result.0.now _ c.read_line.ensures (c.is_none.ensures ∙ ap not c.if-is_none.true))
 
 pub loop-rest-preserved : goal.loop-rest-preserved
 loop-rest-preserved c = (
   next_passed (lines_of c.args.text.now) c.loop-rest.before c.first_line.result.0.now c.loop-rest.rest.now
-    c.first_line.result.1.now c.loop-rest.invariant.0 c.first_line.ensures.line
-    (good_read c.first_line.result.0.now _ c.read_line.ensures (c.is_none.ensures ∙ ap not c.if-is_none.false)),
+      c.first_line.result.1.now c.loop-rest.invariant.0 c.first_line.ensures.line
+      (good_read c.first_line.result.0.now _ c.read_line.ensures (c.is_none.ensures ∙ ap not c.if-is_none.false)),
   omega (arith, c.loop-rest.invariant.1, c.first_line.ensures.shorter),
 )
 

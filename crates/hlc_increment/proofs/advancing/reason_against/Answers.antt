@@ -7,5 +7,7 @@ use Rattle.hlc_increment.proofs.advancing.reason_against.Goals as goal
 pub returns-in-Some-fault-clause-some : goal.returns-in-Some-fault-clause-some
 returns-in-Some-fault-clause-some c =
     let sound : IsCheckpoint c.args.older.now = search (rules, common_steps) in
-    inr (sound,
-    subst (λ state. IsFirstReason state c.in-Some-fault.fault) c.state-state.ensures c.in-Some-fault.ensures)
+    inr (
+      sound,
+      subst (λ state. IsFirstReason state c.in-Some-fault.fault) c.state-state.ensures c.in-Some-fault.ensures,
+    )

@@ -16,40 +16,52 @@ pub returns-in_err-made-clause-err : goal.returns-in_err-made-clause-err
 returns-in_err-made-clause-err c =
     let p = err_from_is_err_and c.from_residual-in_err-made.result c.from_residual-in_err-made.ensures.1 in
     rw (p.1, p.2)
-    (inr (c.in_ok-kept.kept, c.in_ok-kept.ensures, inr (
-      c.in_ok-read.field-0.tag,
-      c.in_ok-read.field-0.increment,
-      c.in_ok-read.ensures,
-      inl c.in_err-made.ensures.err,
-    )))
+    (inr (
+      c.in_ok-kept.kept,
+      c.in_ok-kept.ensures,
+      inr (
+        c.in_ok-read.field-0.tag,
+        c.in_ok-read.field-0.increment,
+        c.in_ok-read.ensures,
+        inl c.in_err-made.ensures.err,
+      ),
+    ))
 
 pub returns-in-Err : goal.returns-in-Err
 returns-in-Err c = record {
   advanced = tt;
   represents = λ before after kept newer read past more of h spelled fits is g. tt;
-  err = inr (c.in_ok-kept.kept, c.in_ok-kept.ensures, inr (
-    c.in_ok-read.field-0.tag,
-    c.in_ok-read.field-0.increment,
-    c.in_ok-read.ensures,
+  err = inr (
+    c.in_ok-kept.kept,
+    c.in_ok-kept.ensures,
     inr (
-      c.in_ok-made.made,
-      c.in_ok-made.ensures.fitting,
-      c.in_ok-made.ensures.ok,
-      inl (refl, c.in-Err.ensures.memory),
-      refl,
+      c.in_ok-read.field-0.tag,
+      c.in_ok-read.field-0.increment,
+      c.in_ok-read.ensures,
+      inr (
+        c.in_ok-made.made,
+        c.in_ok-made.ensures.fitting,
+        c.in_ok-made.ensures.ok,
+        inl (refl, c.in-Err.ensures.memory),
+        refl,
+      ),
     ),
-  ));
+  );
 }
 
 pub returns-in-Ok-Err-clause-err : goal.returns-in-Ok-Err-clause-err
 returns-in-Ok-Err-clause-err c =
     let reason = rw c.in-Ok-Err.field-0-is at c.in-Ok-Err.ensures.err in
-    inr (c.in_ok-kept.kept, c.in_ok-kept.ensures, inr (
-      c.in_ok-read.field-0.tag,
-      c.in_ok-read.field-0.increment,
-      c.in_ok-read.ensures,
-      inr (c.in_ok-made.made, c.in_ok-made.ensures.fitting, c.in_ok-made.ensures.ok, inr (_, reason, refl), refl),
-    ))
+    inr (
+      c.in_ok-kept.kept,
+      c.in_ok-kept.ensures,
+      inr (
+        c.in_ok-read.field-0.tag,
+        c.in_ok-read.field-0.increment,
+        c.in_ok-read.ensures,
+        inr (c.in_ok-made.made, c.in_ok-made.ensures.fitting, c.in_ok-made.ensures.ok, inr (_, reason, refl), refl),
+      ),
+    )
 
 pub returns-in-Ok-clause-represents : goal.returns-in-Ok-clause-represents
 returns-in-Ok-clause-represents c = λ before after kept newer read past more of h spelled fits is g.

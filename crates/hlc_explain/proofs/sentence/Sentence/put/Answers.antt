@@ -9,4 +9,4 @@ loop-byte-init c = no_more c.args.self.now
 pub loop-byte-preserved : goal.loop-byte-preserved
 loop-byte-preserved c =
     next_byte c.loop-byte.self c.args.self.now c.args.text.now c.put_byte.new.self c.loop-byte.byte-index
-      (search (rules, arith)) c.loop-byte.invariant c.put_byte.ensures
+    (search (rules, arith)) c.loop-byte.invariant c.put_byte.ensures

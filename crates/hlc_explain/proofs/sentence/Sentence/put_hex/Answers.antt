@@ -7,6 +7,6 @@ use Rattle.hlc_explain.proofs.sentence.Sentence.put_hex.Goals as goal
 pub returns : goal.returns
 returns c =
     both_digits c.args.self.now c.put_byte.new.self c.put_byte-2.new.self
-      (digit_glyph true (c.args.byte / 16)) (digit_glyph true (c.args.byte % 16))
-      (c.hex_digit.ensures (search (rules, arith))) (c.hex_digit-2.ensures (search (rules, arith)))
-      c.put_byte.ensures c.put_byte-2.ensures
+    (digit_glyph true (c.args.byte / 16)) (digit_glyph true (c.args.byte % 16))
+    (c.hex_digit.ensures (search (rules, arith))) (c.hex_digit-2.ensures (search (rules, arith)))
+    c.put_byte.ensures c.put_byte-2.ensures
