@@ -1,5 +1,5 @@
 -- A saving in pieces, before and after a call.
-use Rattle.std.specs.Prelude.{◌≡◌, ◌≢◌, ◌⊎◌, ◌<◌, ◌≤◌, ℕ, List, [], ◌++◌, Option, Some, None, MatchOption, length, take}
+use Rattle.std.specs.Prelude.{◌≡◌, ◌⊎◌, ◌<◌, ◌≤◌, ℕ, List, [], ◌++◌, Option, Some, None, MatchOption, length, take}
 use Rattle.std.specs.Prelude.{drop}
 use Rattle.hlc_core.specs.StoreView.{StoreView}
 use Rattle.hlc_body.specs.Spelling.{saved_bytes}

@@ -1,5 +1,5 @@
 //! The bytes of a store, made as they are read, without a borrow of the store between two calls.
-ghost use Rattle.std.specs.Prelude.{◌≡◌, ◌≢◌, ◌↔◌, ◌<◌, ◌≤◌, ◌+◌, ◌++◌, ◌⊎◌, ℕ, List, [], false, true, IsTrue};
+ghost use Rattle.std.specs.Prelude.{◌≡◌, ◌↔◌, ◌<◌, ◌≤◌, ◌+◌, ◌++◌, ◌⊎◌, ℕ, List, [], false, true, IsTrue};
 ghost use Rattle.std.specs.Prelude.{All, IfOk, IfErr, OnOk, OnErr, length, take, drop, min, ◌-◌};
 ghost use Rattle.hlc_columns.specs.Answers.{AreNext};
 ghost use Rattle.hlc_body.specs.Spelling.{saved_bytes};
