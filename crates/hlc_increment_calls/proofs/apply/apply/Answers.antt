@@ -30,6 +30,7 @@ returns-in_err-made-clause-err c =
 pub returns-in-Err : goal.returns-in-Err
 returns-in-Err c = record {
   advanced = tt;
+  nothing = tt;
   represents = λ before after kept newer read past more of h spelled fits is g. tt;
   err = inr (
     c.in_ok-kept.kept,
