@@ -197,12 +197,15 @@ class OneStore(unittest.TestCase):
         store.accept(Item.write(0, 0, stamp(1), b"key", b"value"))
 
         def drop(number):
-            for _ in range(4000):
+            for turn in range(4000):
                 check(store.snapshot()[b"key"] == b"value", "the value")
                 ring = [store.snapshot()]
                 ring.append(ring)
                 if number == 0:
                     store.vacuum()
+                # A ring that was in use during a collection or two waits for a whole one, which may be long in coming.
+                if turn % 100 == 0:
+                    gc.collect()
 
         thresholds = gc.get_threshold()
         gc.set_threshold(10)
