@@ -199,7 +199,8 @@ typedef enum hlc_answer {
     HLC_NOT_FEWEST = 109,       /* of hlc_certificate_make: a vacuum to the stamp would drop a row */
     HLC_NO_INCREMENT = 110,     /* of hlc_increment_apply; word: the number of the first fault of the increment's
                                    bytes, 1 to 7; or 0, where its stamp does not fit its rows and its horizon */
-    HLC_NOT_LATER = 111,        /* of hlc_increment_apply: the increment is not of a later state of this store */
+    HLC_NOT_LATER = 111,        /* of hlc_increment_apply: the increment is of an earlier state than the older
+                                   checkpoint, or of another store */
     HLC_CHANGED = 112,          /* of hlc_saving_read: the store changed since the saving began */
     HLC_NOT_PARTS = 113,        /* of hlc_checkpoint_merge; word: the first that differs: 1 the nodes at the start, or
                                    the links; 2 the open snapshots, or the last ids that were given; 3 the horizons; or
@@ -441,7 +442,8 @@ hlc_answer hlc_snapshot_count(hlc_store *store, uint64_t id, const uint8_t *from
 hlc_answer hlc_snapshot_digest(hlc_store *store, uint64_t id, const uint8_t *from, size_t from_len, const uint8_t *to,
                                size_t to_len, uint8_t *out, size_t out_len, size_t *len) HLC_CHECKED(1, 9);
 
-/* Returns the floor: every item that is accepted later has a greater stamp. No memory. */
+/* Returns the floor: every item that is accepted later has a greater stamp. It is the least head of the nodes that have
+ * not retired, or the greatest head where all have. No memory. */
 hlc_answer hlc_store_floor(hlc_store *store, uint64_t *stamp) HLC_CHECKED(1, 2);
 
 /* Returns how many rows are stored, or 2^64 - 1 where there are more. No memory. In constant time. */
@@ -457,9 +459,9 @@ hlc_answer hlc_store_size(hlc_store *store, uint64_t *rows, uint64_t *keys, uint
  * and at one stamp by node. For each the stamp in eight bytes and the node in two, the low one first, and the answer
  * that it gives, in the form of hlc_snapshot_read_all, where a byte 0 is a deletion. len: how many bytes that takes, as
  * in hlc_snapshot_read; count: how many rows. The bytes are written where they all fit, otherwise out keeps its bytes.
- * A row has at most 65,554 bytes. From the horizon on these are all accepted writes of the key; below it, those that
- * vacuums kept. No memory. Looks at all rows of the key for each that it returns, so that it costs the square of their
- * number. */
+ * A row has at most 65,554 bytes. Above the horizon these are all accepted writes of the key; at and below it, those
+ * that vacuums kept. No item has the stamp 0, so that with it as `above` none is left out. No memory. Looks at all rows
+ * of the key for each that it returns, so that it costs the square of their number. */
 hlc_answer hlc_store_versions(hlc_store *store, const uint8_t *key, size_t key_len, uint64_t above, uint64_t to,
                               uint8_t *out, size_t out_len, size_t *len, size_t *count) HLC_CHECKED(1, 8, 9);
 
@@ -482,14 +484,14 @@ hlc_answer hlc_store_vacuum_to(hlc_store *store, uint64_t stamp, uint64_t *word,
 /* Makes a part of hlc_store_vacuum_to, so that one call does a bounded amount of work under the caller's lock: it
  * vacuums the first keys above `after`, which without bytes is below every key, at most `limit` of them. word: the
  * stamp, or the refusal's word; kept, bytes, dropped: as in hlc_store_vacuum_to, for the rows of these keys. more:
- * whether a key may be left above them: then the next part is called with the last of them as `after`; else none is
- * left. len: how many bytes that key has, or 0 where more is false; out: the key, as in hlc_snapshot_read. A key of the
- * store has at most 255 bytes. Where `limit` is 0, that key is `after`, however long it is. The first part makes the
- * stamp the horizon. Every other call is allowed between parts, and nothing is kept for the next one. Each part leaves
- * the fewest rows of its keys, and the cheapest, as hlc_store_vacuum_to does of all, at the snapshots that are open
- * then. Parts from no bytes on to the last, with no other call between them, make an hlc_store_vacuum_to together,
- * whose numbers are their sums. Refusals, in this order: 8, 9, 15. Looks `after` up, and reads these keys once at each
- * point. */
+ * whether the part had `limit` keys, so that a key may be left above them: then the next part is called with the last
+ * of them as `after`; else none is left. len: how many bytes that key has, or 0 where more is false; out: the key, as
+ * in hlc_snapshot_read. A key of the store has at most 255 bytes. Where `limit` is 0, that key is `after`, however long
+ * it is. The first part makes the stamp the horizon. Every other call is allowed between parts, and nothing is kept for
+ * the next one. Each part leaves the fewest rows of its keys, and the cheapest, as hlc_store_vacuum_to does of all, at
+ * the snapshots that are open then. Parts from no bytes on to the last, with no other call between them, make an
+ * hlc_store_vacuum_to together, whose numbers are their sums. Refusals, in this order: 8, 9, 15. Looks `after` up, and
+ * reads these keys once at each point. */
 hlc_answer hlc_store_vacuum_part(hlc_store *store, uint64_t stamp, const uint8_t *after, size_t after_len, size_t limit,
                                  uint64_t *word, uint64_t *kept, uint64_t *bytes, uint64_t *dropped, uint8_t *out,
                                  size_t out_len, size_t *len, bool *more) HLC_CHECKED(1, 6, 7, 8, 9, 12, 13);
@@ -532,11 +534,11 @@ hlc_answer hlc_item_encode_retire(uint16_t node, uint64_t number, uint64_t stamp
                                   size_t *len) HLC_CHECKED(6);
 
 /* Accepts the items of a log, one after another as such bytes, until one is refused. Items whose numbers were
- * accepted before are passed over, so that a log can be read again from any place. count: how many items were
- * accepted or passed over, also at a refusal; used: how many bytes these have: the next call goes on from there.
- * Bytes that end within an item are refused with 106 and word 1. word: 0, or the refusal's word. Refusals, of each
- * item in this order: 106, 1, 27, 6, 14, 7, 30, 15. Takes memory as hlc_store_accept_write does: for the rows of
- * writes, deletions and batches, and nothing beside. */
+ * accepted before are passed over, whatever else they are, so that a log can be read again from any place. count: how
+ * many items were accepted or passed over, also at a refusal; used: how many bytes these have: the next call goes on
+ * from there. Bytes that end within an item are refused with 106 and word 1. word: 0, or the refusal's word. Refusals,
+ * of each item in this order: 106, 1, 27, 6, 14, 7, 30, 15. Takes memory as hlc_store_accept_write does: for the rows
+ * of writes, deletions and batches, and nothing beside. */
 hlc_answer hlc_store_accept_items(hlc_store *store, const uint8_t *bytes, size_t bytes_len, size_t *used, size_t *count,
                                   uint64_t *word) HLC_CHECKED(1, 4, 5, 6);
 
@@ -549,8 +551,9 @@ hlc_answer hlc_record_encode_threshold(uint64_t stamp, uint8_t *out, size_t out_
 
 /* Applies the records of a log that replicas share, one after another, until one is not applied: items are accepted,
  * and nodes join at their starts. Records that came before are passed over, so that a log can be read again from any
- * place. A threshold changes nothing: threshold is the greatest stamp of one among these records, or 0, and the caller
- * may vacuum to it. count, used and word are as in hlc_store_accept_items. Refusals, of each item those of
+ * place: an item as in hlc_store_accept_items, and a join of a node number that is assigned, whatever its start. A
+ * threshold changes nothing: threshold is the greatest stamp of one among these records, or 0, and the caller may
+ * vacuum to it. count, used and word are as in hlc_store_accept_items. Refusals, of each item those of
  * hlc_store_accept_items; of each join in this order: 6 where its node is not the next one, word: the number that is
  * next; 26, 116, 15. */
 hlc_answer hlc_store_apply_records(hlc_store *store, const uint8_t *bytes, size_t bytes_len, size_t *used,
@@ -582,44 +585,51 @@ hlc_answer hlc_saving_start(hlc_saving *saving, hlc_store *store, uint64_t tag, 
  * this order: 118 where no saving is under way; 112 where the store changed since hlc_saving_start: where an item was
  * accepted, a node joined, a snapshot opened or closed, or a vacuum moved the horizon or dropped a row; 15, before any
  * byte. After 112 and 15 the saving is as it was: after 15 the call may be repeated, and after 112 hlc_saving_drop ends
- * the saving. Each call gets the store of hlc_saving_start: another one is refused with 112 only if these numbers of it
- * differ. Between two calls a saving has the rows of at most 32 keys as bytes, and a call takes memory for as many. It
- * looks at each node, and looks a key up for each 32 keys. */
+ * the saving. Each call gets the store of hlc_saving_start: another one is refused with 112 only if its number
+ * of nodes, accepted items, opened or open snapshots, or rows differs, or its horizon; else the bytes may be a
+ * checkpoint with rows of both. Between two calls a saving has the rows of at most 32 keys as bytes, and a call takes
+ * memory for as many. It looks at each node, and looks a key up for each 32 keys. */
 hlc_answer hlc_saving_read(hlc_saving *saving, hlc_store *store, uint8_t *out, size_t out_len, size_t *len)
     HLC_CHECKED(1, 2, 5);
 
-/* Ends a saving before all its bytes were read, and frees what it has. A saving that is not ended leaks its memory. */
+/* Ends a saving before all its bytes were read, and frees what it has. A saving that is not ended leaks its memory.
+ * Where none is under way it does nothing. */
 void hlc_saving_drop(hlc_saving *saving) HLC_NONNULL(1);
 
 /* Saves an increment: the whole state of a store, but of its rows only those above a stamp, with a tag of the
  * caller's. As the stamp choose the floor that the store had at an older checkpoint: what was accepted since is above
- * it, and hlc_increment_apply makes a newer checkpoint of both. The bytes go into an output that has none; len: how
- * many they are. horizon: 0, or with 9 the horizon. Refusals, in this order: 108; 9 where the stamp is below the
- * horizon: then make a whole checkpoint; 15. Goes through all rows, copies those above the stamp, and takes memory for
- * twice that. */
+ * it, and hlc_increment_apply makes a newer checkpoint of both. The bytes are no checkpoint: hlc_store_restore refuses
+ * them. They go into an output that has none; len: how many they are. horizon: 0, or with 9 the horizon. Refusals, in
+ * this order: 108; 9 where the stamp is below the horizon: then make a whole checkpoint; 15. Goes through all rows,
+ * copies those above the stamp, and takes memory for twice that. */
 hlc_answer hlc_increment_make(hlc_store *store, uint64_t since, uint64_t tag, hlc_output *output, size_t *len,
                               uint64_t *horizon) HLC_CHECKED(1, 4, 5, 6);
 
 /* Makes, of the bytes of an older checkpoint and of an increment of the same store, those of the newer checkpoint, with
  * the increment's tag. hlc_store_restore opens a store from them. It answers as the newer one did, but also has the
  * rows that vacuums dropped since the older checkpoint; its next vacuum drops them. The newer checkpoint may be the
- * older one of the next increment. The bytes go into an output that has none; len: how many they are. word: 0, or the
- * refusal's word. Refusals, in this order: 108; 106 where the older bytes are no encoding, word: the number of their
- * first fault; 110 where the increment is none, word: the number of the first fault of its bytes; 107 where one of both
- * is no checkpoint, word: the number of the first reason; 111 where the increment is not of a later state of this
- * store; 8 where its stamp is above the floor of the older checkpoint, word: that floor; 110 with the word 0 where its
- * stamp does not fit its rows and its horizon; 15. But 15 may come in place of all others but 108, when memory runs out
- * before the fault is found. Copies each row of both, and takes memory for a few times that. */
+ * older one of the next increment. An increment of the same state is taken, also one that comes twice: it changes
+ * nothing. The bytes go into an output that has none; len: how many they are. word: 0, or the refusal's word. Refusals,
+ * in this order: 108; 106 where the older bytes are no encoding, word: the number of their first fault; 110 where the
+ * increment is none, word: the number of the first fault of its bytes; 107 where one of both is no checkpoint, word:
+ * the number of the first reason; 111 where the increment is of an earlier state than the older checkpoint, or of
+ * another store: it has other nodes at the start, fewer nodes, a lower next number or head of a node, a node that
+ * retired and is back, a lower horizon, a lower last id of a snapshot, or an open snapshot that the older checkpoint
+ * has closed; 8 where its stamp is above the floor of the older checkpoint, word: that floor; 110 with the word 0 where
+ * its stamp does not fit its rows and its horizon; 15. But 15 may come in place of all others but 108, when memory runs
+ * out before the fault is found. Copies each row of both, and takes memory for a few times that. */
 hlc_answer hlc_increment_apply(const uint8_t *older, size_t older_len, const uint8_t *increment, size_t increment_len,
                                hlc_output *output, size_t *len, uint64_t *word) HLC_CHECKED(5, 6, 7);
 
 /* Divides the bytes of a checkpoint at a key, of any bytes or none: left gets those of a checkpoint with the rows of
  * lower keys, right those with the others, and both have the links, the open snapshots, the horizon and the tag of the
  * whole. A store that is restored from a part answers at its keys as the whole store does, and goes on from the same
- * log: it takes each write of another key as a report of the same number and stamp (hlc_store_accept_report). Two
- * different outputs, without bytes, get the bytes; left_len, right_len: how many they are. word: 0, or the refusal's
- * word. Refusals, in this order: 108 where one of both outputs has bytes; 106, word: the number of the first fault; 107
- * where a part is no checkpoint, word: the number of the first reason; 15. But 15 may come in place of 106 and 107.
+ * log: it takes each write of another key as a report of the same number and stamp (hlc_store_accept_report), and of a
+ * batch the writes of its own keys as a batch of the same number and stamp, or such a report where it has none of them.
+ * Two different outputs, without bytes, get the bytes; left_len, right_len: how many they are. word: 0, or the
+ * refusal's word. Refusals, in this order: 108 where one of both outputs has bytes; 106, word: the number of the first
+ * fault; 107 where a part is no checkpoint, word: the number of the first reason: each part is looked at by itself, so
+ * that bytes are taken whose rows are out of order across the key alone; 15. But 15 may come in place of 106 and 107.
  * Takes memory for a few times the bytes. */
 hlc_answer hlc_checkpoint_split(const uint8_t *bytes, size_t bytes_len, const uint8_t *key, size_t key_len,
                                 hlc_output *left, hlc_output *right, size_t *left_len, size_t *right_len,
@@ -627,11 +637,12 @@ hlc_answer hlc_checkpoint_split(const uint8_t *bytes, size_t bytes_len, const ui
 
 /* Joins the bytes of two checkpoints, of which the left one has the lower keys, into those of one with the rows of
  * both, and with the tag of the left one. If both are parts of one store that took the same log, opened and closed the
- * same snapshots and were vacuumed to the same stamp, the result is that store's. The bytes go into an output that has
- * none; len: how many they are. word: 0, or the refusal's word. Refusals, in this order: 108; 106 for the left bytes,
- * and then for the right ones, word: the number of the first fault; 113, word: what does not fit; 107 where what both
- * make is no checkpoint, word: the number of the first reason; 15. But 15 may come in place of all others but 108.
- * Takes memory for a few times the bytes. */
+ * same snapshots and were vacuumed to the same stamp, the result answers as that store does; it is that store's byte by
+ * byte if they were vacuumed when the store was. The bytes go into an output that has none; len: how many they are.
+ * word: 0, or the refusal's word. Refusals, in this order: 108; 106 for the left bytes, and then for the right ones,
+ * word: the number of the first fault; 113, word: what does not fit, which may be 4 where the rows of one of both are
+ * out of order; 107 where what both make is no checkpoint, word: the number of the first reason; 15. But 15 may come in
+ * place of all others but 108. Takes memory for a few times the bytes. */
 hlc_answer hlc_checkpoint_merge(const uint8_t *left, size_t left_len, const uint8_t *right, size_t right_len,
                                 hlc_output *output, size_t *len, uint64_t *word) HLC_CHECKED(5, 6, 7);
 
@@ -664,7 +675,8 @@ hlc_answer hlc_restoring_feed(hlc_restoring *restoring, const uint8_t *bytes, si
  * restore goes on; 106, 107 and 15, as of hlc_store_restore, after which the restore has ended. */
 hlc_answer hlc_restoring_finish(hlc_restoring *restoring, hlc_store *store, uint64_t *word) HLC_CHECKED(1, 2, 3);
 
-/* Ends a restore without a store, and frees what it has. A restore that is not ended leaks its memory. */
+/* Ends a restore without a store, and frees what it has. A restore that is not ended leaks its memory. Where none is
+ * under way it does nothing. */
 void hlc_restoring_drop(hlc_restoring *restoring) HLC_NONNULL(1);
 
 /* ---- Outputs ---- No memory in any call. */
@@ -675,7 +687,7 @@ void hlc_restoring_drop(hlc_restoring *restoring) HLC_NONNULL(1);
 hlc_answer hlc_output_read(hlc_output *output, size_t from, uint8_t *out, size_t out_len, size_t *len)
     HLC_CHECKED(1, 5);
 
-/* Frees the bytes of an output, which has none then and can be used again. */
+/* Frees the bytes of an output, which has none then and can be used again. Where it has none this does nothing. */
 void hlc_output_drop(hlc_output *output) HLC_NONNULL(1);
 
 /* ---- What a store has ---- No memory in any call. */

@@ -1,6 +1,6 @@
 /* Makes calls of the C library on small stores and on large ones, and marks where each begins and ends, so that a
    counter of instructions (callgrind) tells what each cost: tests/costs compares. Without callgrind it counts nothing.
-   It also prints how many bytes of memory stores take. */
+   It also prints how many bytes of memory stores take, and how often calls let their memory grow. */
 #include "hlcstore.h"
 #include <inttypes.h>
 #include <malloc.h>
@@ -14,7 +14,8 @@
 #define MANY_KEYS 65536
 #define FEW_KEYS 1024
 
-static uint64_t live; /* the bytes that the program has from malloc */
+static uint64_t live;  /* the bytes that the program has from malloc */
+static uint64_t grown; /* how often a block of 16 KiB or more became larger */
 
 void *__real_malloc(size_t size);
 void *__real_realloc(void *at, size_t size);
@@ -30,6 +31,7 @@ void *__wrap_malloc(size_t size)
 void *__wrap_realloc(void *at, size_t size)
 {
     live -= malloc_usable_size(at);
+    grown += malloc_usable_size(at) >= 16384;
     at = __real_realloc(at, size);
     live += malloc_usable_size(at);
     return at;
@@ -53,6 +55,7 @@ static void begin(void)
 {
     CALLGRIND_START_INSTRUMENTATION;
     CALLGRIND_ZERO_STATS;
+    grown = 0;
 }
 
 /* Ends what is measured: a name without spaces, the size of the store, and how many calls it was. */
@@ -143,6 +146,20 @@ static void measure_questions(hlc_store *store, uint64_t keys)
     end("link", keys, TIMES);
 }
 
+/* A listing of all pairs goes through the keys once where there is room for all that the store has, as a page does. */
+static void measure_listing(hlc_store *store, uint64_t keys, uint64_t id)
+{
+    static uint8_t out[MANY_KEYS * 33];
+    size_t len, page_len, pairs;
+    begin();
+    must(hlc_snapshot_list(store, id, out, sizeof out, &len));
+    end("list", keys, keys);
+    begin();
+    must(hlc_snapshot_scan(store, id, NULL, 0, NULL, 0, out, sizeof out, &page_len, &pairs));
+    end("whole-page", keys, keys);
+    if (len != keys * 33 || page_len != len || pairs != keys) exit(1);
+}
+
 /* A page of a hundred pairs, from the front or from the end, and their count and digest, cost what they return. */
 static void measure_pages(hlc_store *store, uint64_t keys, uint64_t id)
 {
@@ -204,6 +221,7 @@ static void measure_keys(uint64_t keys)
     for (int i = 0; i < TIMES; i++) read_key(&store, id, scattered((uint64_t)i * 7 + 1, keys));
     end("read", keys, TIMES);
     measure_pages(&store, keys, id);
+    measure_listing(&store, keys, id);
     measure_part(&store, keys);
     begin();
     for (uint64_t i = 0; i < TIMES; i++) put(&store, keys + i, keys + scattered(i, 1024));
@@ -265,6 +283,65 @@ static void measure_nodes(uint64_t versions)
     hlc_store_close(&store);
 }
 
+/* Writes 2,048 keys from this one on, in their own order or in a scattered one, in batches of so many writes. */
+static void put_batches(hlc_store *store, const char *name, uint64_t *number, uint64_t first, bool scatter,
+                        size_t writes)
+{
+    begin();
+    for (uint64_t i = 0; i < 2048; i += writes) {
+        uint8_t bytes[256 * 21], *at = bytes;
+        uint64_t word;
+        for (uint64_t j = i; j < i + writes; j++) {
+            *at++ = 12;
+            at += key_of(scatter ? scattered(first + j, MANY_KEYS) : first + j, at);
+            memcpy(at, "\1\0\5value", 8);
+            at += 8;
+        }
+        must(hlc_store_accept_batch(store, 0, *number, STAMP(*number + 1), writes, bytes, (size_t)(at - bytes),
+                                    &word));
+        ++*number;
+    }
+    end(name, writes, 2048);
+}
+
+/* Batches of 16 and of 256 writes: of keys that follow each other, of scattered ones, and of new ones. */
+static void measure_batches(void)
+{
+    hlc_store store = HLC_CLOSED_STORE;
+    uint64_t number = MANY_KEYS;
+    fill(&store, MANY_KEYS, false);
+    for (size_t writes = 16; writes <= 256; writes *= 16) {
+        put_batches(&store, "batch-in-order", &number, 100 * writes, false, writes);
+        put_batches(&store, "batch-scattered", &number, 16 * writes, true, writes);
+        put_batches(&store, "batch-new", &number, MANY_KEYS + 100 * writes, false, writes);
+    }
+    hlc_store_close(&store);
+}
+
+/* Many nodes take turns, so that each item is of the node that holds the floor back. */
+static void measure_many_nodes(uint64_t nodes)
+{
+    hlc_store store = HLC_CLOSED_STORE;
+    uint64_t word;
+    uint16_t node;
+    must(hlc_store_open(&store, 1));
+    for (uint64_t i = 1; i < nodes; i++) must(hlc_store_join(&store, &node, &word));
+    begin();
+    for (uint64_t i = 0; i < 2048; i++) {
+        must(hlc_store_accept_report(&store, (uint16_t)(i % nodes), i / nodes, STAMP(i + 1), &word));
+    }
+    end("turns", nodes, 2048);
+    begin();
+    for (uint64_t i = 0; i < TIMES; i++) {
+        must(hlc_store_accept_report(&store, 0, 2048 / nodes + i, STAMP(i + 2049), &word));
+    }
+    end("reports", nodes, TIMES);
+    begin();
+    for (int i = 0; i < TIMES; i++) must(hlc_store_floor(&store, &word));
+    end("node-floor", nodes, TIMES);
+    hlc_store_close(&store);
+}
+
 /* The newest of so many open snapshots is found at once. */
 static void measure_snapshots(uint64_t snapshots)
 {
@@ -320,6 +397,81 @@ static void measure_pieces(uint64_t keys)
     hlc_store_close(&store);
 }
 
+/* The bytes of an output, which is dropped. */
+static uint8_t *taken(hlc_output *output, size_t len)
+{
+    uint8_t *bytes = malloc(len);
+    size_t read;
+    if (!bytes) exit(1);
+    must(hlc_output_read(output, 0, bytes, len, &read));
+    hlc_output_drop(output);
+    return bytes;
+}
+
+/* Ends what is measured, and prints how often its memory grew. */
+static void end_growth(const char *name, uint64_t size)
+{
+    end(name, size, size);
+    printf("%s %" PRIu64 "\n", name, grown);
+}
+
+/* An increment in which each of the keys has a further row, and the checkpoint that it and the older one make; then the
+ * two parts of that, and what these make. */
+static void measure_checkpoints(uint64_t keys)
+{
+    hlc_store store = HLC_CLOSED_STORE;
+    hlc_output output = HLC_NO_OUTPUT, other = HLC_NO_OUTPUT;
+    size_t older_len, increment_len, len, left_len, right_len;
+    uint8_t key[16];
+    uint64_t word;
+    fill(&store, keys, true);
+    must(hlc_checkpoint_make(&store, 0, &output, &older_len));
+    uint8_t *older = taken(&output, older_len);
+    for (uint64_t i = 0; i < keys; i++) put(&store, keys + i, scattered(i, keys));
+    begin();
+    must(hlc_increment_make(&store, STAMP(keys), 0, &output, &increment_len, &word));
+    end("increment", keys, keys);
+    hlc_store_close(&store);
+    uint8_t *increment = taken(&output, increment_len);
+    begin();
+    must(hlc_increment_apply(older, older_len, increment, increment_len, &output, &len, &word));
+    end_growth("apply", keys);
+    free(older);
+    free(increment);
+    uint8_t *whole = taken(&output, len);
+    begin();
+    must(hlc_checkpoint_split(whole, len, key, key_of(keys / 2, key), &output, &other, &left_len, &right_len, &word));
+    end_growth("split", keys);
+    free(whole);
+    uint8_t *left = taken(&output, left_len), *right = taken(&other, right_len);
+    begin();
+    must(hlc_checkpoint_merge(left, left_len, right, right_len, &output, &len, &word));
+    end_growth("merge", keys);
+    hlc_output_drop(&output);
+    free(left);
+    free(right);
+}
+
+/* Makes a certificate, which has two lines for each key, and checks it. */
+static void measure_certificate(uint64_t keys)
+{
+    hlc_store store = HLC_CLOSED_STORE;
+    hlc_output output = HLC_NO_OUTPUT;
+    uint64_t word, kept, cost;
+    size_t len;
+    fill(&store, keys, true);
+    begin();
+    must(hlc_certificate_make(&store, STAMP(keys), &word, &kept, &cost, &output, &len));
+    end("certificate", keys, keys);
+    hlc_store_close(&store);
+    uint8_t *text = taken(&output, len);
+    begin();
+    must(hlc_certificate_check(text, len, &kept, &cost, &word));
+    end("check", keys, keys);
+    if (kept != keys) exit(1);
+    free(text);
+}
+
 /* Prints what a store of so many keys takes. */
 static void print_memory(const char *name, uint64_t keys, bool scatter)
 {
@@ -344,12 +496,19 @@ int main(void)
     measure_versions(65536);
     measure_nodes(6400);
     measure_nodes(64000);
+    measure_batches();
+    measure_many_nodes(1);
+    measure_many_nodes(1024);
     measure_snapshots(1);
     measure_snapshots(1024);
     measure_views(64);
     measure_views(65535);
     measure_pieces(1024);
     measure_pieces(16384);
+    measure_checkpoints(1024);
+    measure_checkpoints(16384);
+    measure_certificate(1024);
+    measure_certificate(16384);
     print_memory("rising", MANY_KEYS, false);
     print_memory("scattered", MANY_KEYS, true);
     return 0;

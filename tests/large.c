@@ -416,14 +416,31 @@ static void accept_entries(hlc_store *store)
     free(texts.at);
 }
 
-static void accept_log(hlc_store *store)
+/* The items of these rows, as a log has them. */
+static Bytes log_of(uint32_t from, uint32_t to)
 {
     Bytes log = { 0 };
+    for (uint32_t row = from; row < to; row++) put_item(&log, row);
+    return log;
+}
+
+static void accept_log(hlc_store *store)
+{
+    Bytes log = log_of(0, rows);
     size_t used, many;
     uint64_t word;
-    for (uint32_t row = 0; row < rows; row++) put_item(&log, row);
     uint32_t code = hlc_store_accept_items(store, log.at, log.len, &used, &many, &word);
     expect(code == HLC_OK && used == log.len && many == rows && word == 0, "items that are accepted");
+    free(log.at);
+}
+
+static void apply_log(hlc_store *store, uint32_t from, uint32_t to)
+{
+    Bytes log = log_of(from, to);
+    size_t used, many;
+    uint64_t threshold, word;
+    uint32_t code = hlc_store_apply_records(store, log.at, log.len, &used, &many, &threshold, &word);
+    expect(code == HLC_OK && used == log.len && many == to - from && threshold + word == 0, "records that are applied");
     free(log.at);
 }
 
@@ -573,7 +590,7 @@ static void vacuum_in_one_part(hlc_store *store)
     uint64_t got[4];
     uint8_t key[255];
     size_t len;
-    bool more;
+    bool more = false;
     uint32_t code = hlc_store_vacuum_part(store, rows, NULL, 0, SIZE_MAX, &got[0], &got[1], &got[2], &got[3], key,
                                           sizeof key, &len, &more);
     expect(code == HLC_OK && has_numbers(got) && !more && len == 0, "a vacuum in one part");
@@ -629,6 +646,118 @@ static void check_log(void)
     hlc_store_close(&store);
 }
 
+/* Saves the store in pieces, each as long as the buffer while bytes are left. */
+static void save_pieces(hlc_store *store)
+{
+    enum { PIECE = 100000 };
+    static uint8_t piece[PIECE];
+    const Bytes *expected = &expected_checkpoint[false];
+    hlc_saving saving = HLC_NO_SAVING;
+    size_t at = 0, len;
+    uint64_t all;
+    uint32_t code = hlc_saving_start(&saving, store, TAG, &all);
+    expect(code == HLC_OK && all == expected->len, "the length of a saving");
+    for (code = HLC_MORE; code == HLC_MORE; at += len) {
+        code = hlc_saving_read(&saving, store, piece, PIECE, &len);
+        if (len != (expected->len - at < PIECE ? expected->len - at : PIECE)) break;
+        if (memcmp(piece, expected->at + at, len) != 0) break;
+    }
+    expect(code == HLC_OK && at == expected->len, "a saving in pieces");
+    hlc_saving_drop(&saving);
+}
+
+/* Makes the newer checkpoint of the older one, and of an increment since its last row. */
+static void check_increment(hlc_store *store, const Bytes *older, uint64_t since)
+{
+    hlc_output output = HLC_NO_OUTPUT;
+    uint64_t word;
+    size_t len;
+    uint32_t code = hlc_increment_make(store, since, TAG, &output, &len, &word);
+    expect(code == HLC_OK && word == 0, "an increment");
+    Bytes increment = taken(&output, len);
+    code = hlc_increment_apply(older->at, older->len, increment.at, increment.len, &output, &len, &word);
+    expect(code == HLC_OK && word == 0, "an increment that is applied");
+    Bytes made = taken(&output, len);
+    expect(are_same(&made, &expected_checkpoint[false]), "the checkpoint of an increment");
+    free(increment.at);
+    free(made.at);
+}
+
+/* Divides the checkpoint at the key in the middle, and joins both parts again. */
+static void check_halves(void)
+{
+    const Bytes *whole = &expected_checkpoint[false];
+    hlc_output left = HLC_NO_OUTPUT, right = HLC_NO_OUTPUT;
+    uint8_t key[KEY_LEN];
+    uint64_t word;
+    size_t left_len, right_len, rows_len = 0, whole_len = 0;
+    for (uint32_t row = 0; row < rows; row++) {
+        size_t len = KEY_LEN + 12 + (deletes(row) ? 0 : 2 + value_len(row));
+        whole_len += len;
+        if (key_of_row(row) < keys / 2) rows_len += len;
+    }
+    put_key(keys / 2, key);
+    uint32_t code = hlc_checkpoint_split(whole->at, whole->len, key, KEY_LEN, &left, &right, &left_len, &right_len,
+                                         &word);
+    expect(code == HLC_OK && word == 0, "a checkpoint that is divided");
+    /* Each part has all but the rows of the other one. */
+    expect(left_len == whole->len - (whole_len - rows_len) && right_len == whole->len - rows_len, "the parts");
+    Bytes lower = taken(&left, left_len), upper = taken(&right, right_len);
+    code = hlc_checkpoint_merge(lower.at, lower.len, upper.at, upper.len, &left, &left_len, &word);
+    expect(code == HLC_OK && word == 0, "parts that are joined");
+    Bytes made = taken(&left, left_len);
+    expect(are_same(&made, whole), "the checkpoint of both parts");
+    free(lower.at);
+    free(upper.at);
+    free(made.at);
+}
+
+/* A store that applies a log of records, with a checkpoint in the middle; and all that is made of its checkpoints. */
+static void check_records(void)
+{
+    hlc_store store = HLC_CLOSED_STORE;
+    expect(hlc_store_open(&store, 1) == HLC_OK, "a store");
+    apply_log(&store, 0, keys / 2);
+    Bytes older = saved(&store);
+    apply_log(&store, keys / 2, rows);
+    open_snapshots(&store);
+    save_pieces(&store);
+    check_increment(&store, &older, keys / 2);
+    check_halves();
+    hlc_store_close(&store);
+    free(older.at);
+}
+
+/* One key with a million rows, of a byte each, and two snapshots, whose bytes differ. */
+static void check_long_key(void)
+{
+    enum { VERSIONS = 1000000 };
+    const uint8_t key = 'k';
+    hlc_store store = HLC_CLOSED_STORE, copy = HLC_CLOSED_STORE;
+    uint64_t got[4], id, word;
+    uint8_t value;
+    size_t len;
+    expect(hlc_store_open(&store, 1) == HLC_OK, "a store");
+    for (uint64_t row = 0; row < VERSIONS; row++) {
+        value = (uint8_t)row;
+        if (hlc_store_accept_write(&store, 0, row, row + 1, &key, 1, &value, 1, &word) != HLC_OK) break;
+    }
+    expect(hlc_store_rows(&store, &word) == HLC_OK && word == VERSIONS, "the rows of a key");
+    expect(hlc_snapshot_open(&store, VERSIONS / 2, &id) == HLC_OK, "a snapshot at half of them");
+    Bytes made = saved(&store);
+    expect(hlc_store_restore(&copy, made.at, made.len, &word) == HLC_OK, "a restore of a long key");
+    uint32_t code = hlc_store_vacuum(&copy, &got[0], &got[1], &got[2], &got[3]);
+    expect(code == HLC_OK && got[0] == VERSIONS && got[1] == 2 && got[2] == 2 * 12 && got[3] == VERSIONS - 2,
+           "a vacuum of a long key");
+    for (int i = 0; i < 2; i++) {
+        code = hlc_snapshot_read(i == 0 ? &store : &copy, id, &key, 1, &value, 1, &len);
+        expect(code == HLC_OK && len == 1 && value == (uint8_t)(VERSIONS / 2 - 1), "a row of a long key");
+    }
+    hlc_store_close(&store);
+    hlc_store_close(&copy);
+    free(made.at);
+}
+
 static void play(uint32_t many_keys, uint32_t many_rows)
 {
     hlc_store store = HLC_CLOSED_STORE;
@@ -645,6 +774,8 @@ static void play(uint32_t many_keys, uint32_t many_rows)
     Bytes from = saved(&store);
     check_copies(&from);
     free(from.at);
+    /* For time, only of the smaller store. */
+    if (many_rows < 1000000) check_records();
     certify(&store);
     hlc_store_close(&store);
     free(first);
@@ -656,6 +787,7 @@ int main(void)
     prepare_sha();
     play(600000, 1100000);
     play(150000, 200000);
+    check_long_key();
     if (!wrong) puts("all right");
     return wrong != 0;
 }

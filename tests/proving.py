@@ -30,7 +30,7 @@ SECONDS_ON_A_TERMINAL = 5
 SECONDS = 120
 DONE = re.compile(r"^rt: (\w+) (?:proved|is kept)", re.M)
 EDITS = re.compile(r"^rt: (\w+): trying its must-fail edits", re.M)
-# Of `rt lib`, which names a crate where it begins with it.
+# Of `rt check`, which names a crate where it begins with it.
 BEGUN = re.compile(r"^rt: chose --jobs \d+ for (\w+)", re.M)
 FAILED = re.compile(r"^rt: (\w+)(?:: its tests are)? NOT PROVED|^(logic=not-proved)", re.M)
 # The function that is not proved, but for those that only call it; or where the sources are no program.
@@ -143,16 +143,18 @@ def is_running(group):
 
 def watch(log, crate, guess, group, runs):
     """Shows how far the command is until it ends, and returns the status."""
-    crates, shown, began = crates_below(crate), Shown(crate), time.monotonic()
-    while is_running(group):
+    crates, shown, began, runs_on = crates_below(crate), Shown(crate), time.monotonic(), True
+    while runs_on:
+        runs_on = is_running(group)
         text = log.read_text(errors="replace") if log.exists() else ""
         failure = failure_of(text)
         if failure:
-            os.killpg(group, signal.SIGTERM)
+            if runs_on:
+                os.killpg(group, signal.SIGTERM)
             shown.end(f"{failure}: see {log}")
             return 1
         shown.show(line_of(text, crates, (time.monotonic() - began) / 60, guess, runs))
-        time.sleep(1)
+        time.sleep(1 if runs_on else 0)
     shown.end()
     return 0
 

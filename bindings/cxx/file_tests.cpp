@@ -117,6 +117,18 @@ void batches_are_written_at_one_stamp(const std::string& path) {
   EXPECT((listed(store.open_snapshot(at(5))) == pairs{{"a", "1"}, {"b", "1"}}));
 }
 
+// Each call passes on what it is promised, since one that does not exist is refused.
+void promises_are_those_of_the_calls(const std::string& path) {
+  file store(path);
+  file_batch batch;
+  batch.write("a", "1");
+  const auto none = static_cast<promise>(9);
+  EXPECT(refusal([&] { store.append(batch, {0, 5}, none); }).code() == HLC_FILE_BAD_OPTION);
+  EXPECT(refusal([&] { store.write_batch(batch, {0, 5}, none); }).code() == HLC_FILE_BAD_OPTION && batch.size() == 1);
+  EXPECT(store.append_records(hlcstore::encode_report({0, 0, at(5)}), none).code == HLC_FILE_BAD_OPTION);
+  EXPECT(refusal([&] { file(path + "2", with(none)); }).code() == HLC_FILE_BAD_OPTION);
+}
+
 void all_is_there_after_opening_again(const std::string& path) {
   {
     file store(path);
@@ -336,6 +348,7 @@ int main(int many, char** arguments) {
       {"past", past_stamps_are_read},
       {"batches", batches_are_appended_whole},
       {"one stamp", batches_are_written_at_one_stamp},
+      {"promises", promises_are_those_of_the_calls},
       {"reopened", all_is_there_after_opening_again},
       {"states", states_are_written_as_checkpoints},
       {"ranges", ranges_have_the_pairs_of_a_model},

@@ -132,6 +132,23 @@ void ranges() {
   fail_each([&](failing& once) { walk(once, empty.changes(snapshot), added, "the changes in a range"); });
 }
 
+// A range of several stores, of whose pieces each comes from one of them.
+void ranges_of_stores() {
+  const pairs all = rising_pairs();
+  std::vector<string> keys;
+  for (const auto& pair : all) keys.push_back(pair.first);
+  using hlcstore::division;
+  for (const division& divided : {division::by_hash(3), division::by_keys({all[20].first, all[21].first})}) {
+    hlcstore::ranges stores(divided, 1);
+    hlcstore::machine writer = stores.machine(0);
+    for (const auto& [key, value] : all) stores.write(writer, 1, key, value);
+    stores.report_all(writer, 2);
+    const hlcstore::ranges_snapshot snapshot = stores.open_snapshot();
+    fail_each([&](failing& once) { walk(once, snapshot.range(), all, "the pairs of several stores"); });
+    fail_each([&](failing& once) { walk(once, snapshot.keys(), keys, "the keys of several stores"); });
+  }
+}
+
 // A range that owns its snapshot: where it can't be made, the snapshot stays as it was.
 void owning_ranges() {
   const pairs all = rising_pairs();
@@ -224,6 +241,7 @@ void outputs() {
 
 int main() {
   ranges();
+  ranges_of_stores();
   owning_ranges();
   reads();
   batches();

@@ -7,10 +7,13 @@
 #include <cstdio>
 #include <cstdlib>
 #include <deque>
+#include <dlfcn.h>
+#include <functional>
 #include <hlcstore.hpp>
 #include <map>
 #include <mutex>
 #include <optional>
+#include <pthread.h>
 #include <random>
 #include <stdexcept>
 #include <string>
@@ -68,6 +71,33 @@ pairs listed(const ranges_snapshot& snapshot) { return pairs(snapshot.begin(), s
 
 timestamp at(std::uint64_t physical, std::uint64_t counter = 0) { return timestamp::of(physical, counter); }
 
+// What another thread does wherever this one has just given back the lock of a store.
+std::function<void()> between;
+
+// Makes a call, and what another thread does wherever it holds no lock.
+template <class Call>
+auto beside(std::function<void()> other, Call call) {
+  between = std::move(other);
+  auto made = call();
+  between = nullptr;
+  return made;
+}
+
+}  // namespace
+
+// Comes before that of the C library, which the locks of the standard library call.
+extern "C" int pthread_rwlock_unlock(pthread_rwlock_t* lock) noexcept {
+  static const auto unlock = reinterpret_cast<int (*)(pthread_rwlock_t*)>(dlsym(RTLD_NEXT, "pthread_rwlock_unlock"));
+  const int answer = unlock(lock);
+  if (!between) return answer;
+  std::function<void()> turn = std::exchange(between, nullptr);
+  turn();
+  between = std::move(turn);
+  return answer;
+}
+
+namespace {
+
 void divisions() {
   const division keys = division::by_keys({"g", "n", "t"});
   EXPECT(keys.stores() == 4 && keys.is_by_keys());
@@ -78,11 +108,17 @@ void divisions() {
   EXPECT(division::by_keys({}).stores() == 1 && division::by_keys({}).store_of("any") == 0);
   EXPECT(throws<std::invalid_argument>([] { division::by_keys({"b", "a"}); }));
   EXPECT(throws<std::invalid_argument>([] { division::by_keys({"a", "a"}); }));
-  // FNV-1a of no bytes, of "a" and of "foobar", from its authors' table.
-  const division large = division::by_hash(1000);
-  EXPECT(large.store_of("") == 0xcbf29ce484222325 % 1000 && large.store_of("a") == 0xaf63dc4c8601ec8c % 1000);
-  EXPECT(large.store_of("foobar") == 0x85944171f73967e8 % 1000 && !large.is_by_keys());
-  EXPECT(division::by_hash(1024).stores() == 1024 && division::by_hash(1).store_of("a") == 0);
+  // FNV-1a of some keys, from its authors' table.
+  const std::pair<string_view, std::uint64_t> hashes[] = {{"", 0xcbf29ce484222325},
+                                                          {"a", 0xaf63dc4c8601ec8c},
+                                                          {"b", 0xaf63df4c8601f1a5},
+                                                          {"foobar", 0x85944171f73967e8},
+                                                          {string_view("\xff\0\0\1", 4), 0x6961196491cc682d}};
+  for (const std::size_t stores : {1u, 2u, 7u, 64u, 1000u, 1024u}) {
+    const division large = division::by_hash(stores);
+    EXPECT(large.stores() == stores && !large.is_by_keys());
+    for (const auto& hash : hashes) EXPECT(large.store_of(hash.first) == hash.second % stores);
+  }
   EXPECT(throws<std::invalid_argument>([] { division::by_hash(0); }));
   EXPECT(throws<std::invalid_argument>([] { division::by_hash(1025); }));
 }
@@ -183,36 +219,34 @@ void clocks_and_cuts() {
   EXPECT(first.last() == at(20, 2) && first.report_all(20)[0].item.number == 2);
 }
 
-// Two stores, of which the second was changed by itself, as no call of ranges does.
+// Two stores, of which the second is changed by itself, as a call of ranges does that finds no memory for the first.
 template <class Change>
 ranges uneven(Change change) {
-  const division divided = division::by_keys({"g"});
-  ranges stores(divided, 1);
+  ranges stores(division::by_keys({"g"}), 1);
   machine only = stores.machine(0);
   stores.write(only, 1, "a", "x");
   stores.report_all(only, 5);
-  std::vector<string> saved = stores.checkpoint();
-  hlcstore::store second;
-  EXPECT(second.restore(saved[1]) == at(5).word);
-  change(second);
-  saved[1] = second.checkpoint(0);
-  return ranges::restore(divided, saved);
+  change(const_cast<hlcstore::shared_store&>(stores.store_at(1)));
+  return stores;
 }
 
 // Where one store refuses, the snapshot is open in none, and the vacuum goes on from where it was.
 void one_store_refuses() {
-  ranges stores = uneven([](hlcstore::store& second) { second.vacuum_to(at(4)); });
+  ranges stores = uneven([](hlcstore::shared_store& second) { second.vacuum_to(at(4)); });
   EXPECT(refusal_of([&] { stores.open_snapshot(at(3)); }) == HLC_BELOW_HORIZON);
   EXPECT(stores.store_at(0).snapshots().empty() && stores.store_at(1).snapshots().empty());
   EXPECT(stores.open_snapshot(at(4)).count() == 1);
   EXPECT(refusal_of([&] { stores.vacuum_to(at(3)); }) == HLC_BELOW_HORIZON && stores.store_at(0).horizon() == at(3));
   EXPECT(stores.vacuum_to(at(4)).kept == 1 && stores.store_at(0).horizon() == at(4));
   // A join that only the second store has: the next one is of the first store alone, at a start that serves both.
-  ranges joined = uneven([](hlcstore::store& second) { second.join_at(at(8)); });
+  ranges joined = uneven([](hlcstore::shared_store& second) { second.join_at(at(8)); });
   EXPECT(joined.nodes() == 1 && refusal_of([&] { joined.machine(1); }) == HLC_NO_NODE);
+  // What restore would refuse is not saved.
+  EXPECT(refusal_of([&] { joined.checkpoint(); }) == HLC_NO_NODE);
   const machine late = joined.join();
   EXPECT(late.id() == 1 && late.last() == at(8) && joined.nodes() == 2 && joined.store_at(1).nodes() == 2);
   EXPECT(joined.store_at(0).link(1).head == at(8) && joined.join().id() == 2);
+  EXPECT(ranges::restore(joined.division(), joined.checkpoint()).nodes() == 3);
 }
 
 void opens_and_vacuums() {
@@ -274,14 +308,21 @@ void joins_and_retirements() {
   EXPECT(refusal_of([&] { stores.machine(2); }) == HLC_NO_NODE);
   stores.report_all(first, 9);
   EXPECT(stores.cut() == at(5, 1));
-  // The retirement from one store alone is accepted before a restart, and the machine retires from the other one then.
+  // The retirement from one store alone is accepted before a restart. The machine reports to the other one then, so
+  // that the cut rises, and retires from it.
   const std::vector<routed_item> last = second.retire_all(10);
   EXPECT(last.size() == 2 && last[1].item.kind == hlcstore::item_kind::retire && second.retire_all(11).empty());
   EXPECT(refusal_of([&] { second.report_all(11); }) == HLC_RETIRED);
+  EXPECT(refusal_of([&] { stores.report_all(second, 11); }) == HLC_RETIRED);
   EXPECT(refusal_of([&] { second.write(11, "a", ""); }) == HLC_RETIRED);
   stores.accept(last[0]);
   machine again = stores.machine(1, last[1].item.stamp);
   EXPECT(again.last() == last[1].item.stamp);
+  const std::vector<routed_item> left = again.report_all(11);
+  EXPECT(left.size() == 1 && left[0].store == 1 && left[0].item.kind == hlcstore::item_kind::report);
+  stores.accept(left[0]);
+  stores.report_all(again, 12);
+  EXPECT(stores.store_at(1).link(1).head == at(12) && stores.cut() == at(9));
   stores.retire_all(again, 1);
   EXPECT(stores.store_at(0).link(1).retired && stores.store_at(1).link(1).retired && stores.cut() == at(9));
   while (stores.nodes() < 1024) stores.join();
@@ -300,6 +341,8 @@ void restarts() {
   const std::vector<string> saved = stores.checkpoint();
   EXPECT(throws<std::invalid_argument>([&] { ranges::restore(division::by_hash(2), saved); }));
   EXPECT(refusal_of([&] { ranges::restore(divided, {saved[0], saved[1], "no"}); }) == HLC_BAD_BYTES);
+  const string other = ranges(divided, 3).checkpoint()[2];
+  EXPECT(throws<std::invalid_argument>([&] { ranges::restore(divided, {saved[0], saved[1], other}); }));
   ranges restored = ranges::restore(divided, saved);
   EXPECT(restored.cut() == stores.cut() && restored.store_at(2).snapshots().empty());
   EXPECT(listed(restored.open_snapshot(before.stamp())) == listed(before));
@@ -319,6 +362,58 @@ void restarts() {
   EXPECT(refusal_of([&] { closed.range(); }) == HLC_NO_SNAPSHOT && restored.store_at(0).snapshots().empty());
   closed = restored.open_snapshot();
   EXPECT(closed.count() == 100 && restored.store_at(1).snapshots().size() == 1);
+}
+
+// A checkpoint, and at one place in it where it holds no lock, in its turn, what another thread does. What is restored
+// is read at the cut that is the tag, and lets the next machine write.
+void checkpoint_beside(const std::function<void(ranges&, machine&)>& other) {
+  const division divided = division::by_keys({"g", "n"});
+  bool came = true;
+  for (int place = 0; came; place++) {
+    ranges stores(divided, 1);
+    machine first = stores.machine(0);
+    stores.write(first, 1, "a", "x");
+    stores.write(first, 2, "z", "y");
+    stores.report_all(first, 5);
+    came = false;
+    const auto once = [&, left = place]() mutable {
+      if (left-- != 0) return;
+      came = true;
+      other(stores, first);
+    };
+    const std::vector<string> saved = beside(once, [&] { return stores.checkpoint(); });
+    ranges restored = ranges::restore(divided, saved);
+    const timestamp tag{hlcstore::store().restore(saved[0])};
+    for (std::size_t store = 0; store < 3; store++) EXPECT(restored.store_at(store).nodes() == restored.nodes());
+    EXPECT(refusal_of([&] { restored.open_snapshot(); }) == HLC_OK);
+    EXPECT(refusal_of([&] { restored.open_snapshot(tag); }) == HLC_OK && tag >= at(5));
+    machine next = restored.join();
+    EXPECT(refusal_of([&] { restored.write(next, 20, "a", ""); }) == HLC_OK);
+    EXPECT(came || place > 3);
+  }
+}
+
+void checkpoints_beside_others() {
+  checkpoint_beside([](ranges& stores, machine&) {
+    machine late = stores.join();
+    stores.write(late, 9, "h", "z");
+  });
+  const auto vacuum = [](ranges& stores, machine& first) {
+    stores.report_all(first, first.last().physical() + 1);
+    stores.vacuum_to(stores.cut());
+  };
+  checkpoint_beside(vacuum);
+  // Where machines join without end, until there are as many as may be, it goes on; but not beside vacuums.
+  ranges stores(division::by_hash(2), 1);
+  machine first = stores.machine(0);
+  const auto join = [&] {
+    if (stores.nodes() < 1024) stores.join();
+  };
+  const std::vector<string> saved = beside(join, [&] { return stores.checkpoint(); });
+  EXPECT(ranges::restore(stores.division(), saved).nodes() == 1024);
+  ranges others(division::by_hash(2), 1);
+  const auto checkpoint = [&] { return refusal_of([&] { others.checkpoint(); }); };
+  EXPECT(beside([&] { vacuum(others, first); }, checkpoint) == HLC_BELOW_HORIZON && checkpoint() == HLC_OK);
 }
 
 void ownership() {
@@ -501,6 +596,7 @@ int main(int count, char** words) {
     scans();
     joins_and_retirements();
     restarts();
+    checkpoints_beside_others();
     ownership();
   }
   std::puts(wrong == 0 ? "all right" : "wrong");

@@ -604,6 +604,30 @@ void batches_as_values() {
   EXPECT(copy.size() == 256 && std::distance(copy.begin(), copy.end()) == 256);
 }
 
+// The keys and values of a batch are written to it again, while its bytes fit where they are and while they do not.
+void batches_of_themselves() {
+  for (const std::size_t size : {0, 1, 9, 100, 65535}) {
+    hlcstore::batch batch;
+    const string value(size, 'v');
+    batch.write("k", value);
+    for (int number = 0; number < 50; number++) {
+      const hlcstore::batch_write first = *batch.begin();
+      if (number % 2 == 0) {
+        batch.write(key_of(number), *first.value);
+      } else {
+        batch.write(first.key, first.key);
+      }
+    }
+    int number = -1;
+    for (const auto& [key, found] : batch) {
+      const bool is_copy = number % 2 != 0 && number > 0;
+      EXPECT(key == (number < 0 || is_copy ? "k" : key_of(number)) && found == (is_copy ? "k" : value));
+      number++;
+    }
+    EXPECT(number == 50 && batch.size() == 51);
+  }
+}
+
 // A snapshot has all writes of a batch or none, and a refused batch leaves nothing.
 void batches() {
   store store(1);
@@ -978,6 +1002,7 @@ int main() {
   owned_items();
   decoded_items();
   batches_as_values();
+  batches_of_themselves();
   batches();
   batches_in_logs();
   for (unsigned seed = 1; seed <= 10; seed++) random_batches(seed);

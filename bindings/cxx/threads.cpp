@@ -1,7 +1,8 @@
 // Four threads read a shared store, each in snapshots of its own, while a fifth one writes and vacuums. Each answer is
 // checked. Then readers let a writer pass, also where two have each slot; readers run beside each other, more than
-// there are slots, and between the parts of a vacuum; changes wait for readers; what throws leaves no lock behind; and
-// stores end beside their readers. The word, if there is one, is how often a reader looks.
+// there are slots, and between the parts of a vacuum; changes wait for readers, and for a stream that a checkpoint is
+// written to, which readers do not; what throws leaves no lock behind; and stores end beside their readers. The word,
+// if there is one, is how often a reader looks.
 //
 // In round r the value of each key is r, and one list of items writes them all. So in a snapshot all values are alike.
 #include <algorithm>
@@ -9,11 +10,14 @@
 #include <chrono>
 #include <cstdio>
 #include <cstdlib>
+#include <functional>
 #include <hlcstore.hpp>
 #include <memory>
 #include <new>
 #include <optional>
+#include <ostream>
 #include <stdexcept>
+#include <streambuf>
 #include <string>
 #include <thread>
 #include <utility>
@@ -252,6 +256,45 @@ bool changes_wait_for_readers() {
          waits([&] { shared = nullptr; });
 }
 
+// A stream that makes a call when it is first written to.
+class calling_stream : public std::streambuf {
+ public:
+  explicit calling_stream(std::function<void()> call) : call_(std::move(call)) {}
+
+ private:
+  std::streamsize xsputn(const char*, std::streamsize many) override {
+    if (const auto once = std::exchange(call_, nullptr)) once();
+    return many;
+  }
+
+  std::function<void()> call_;
+};
+
+// Whether a reader runs while a checkpoint is written to a stream, though a change waits for the end of that.
+bool readers_run_beside_a_stream() {
+  shared_store shared{hlcstore::store(1)};
+  std::atomic<bool> begun = false, changed = false, has_read = false, has_waited = false;
+  std::thread writer, reader;
+  calling_stream stream([&] {
+    writer = std::thread([&] {
+      begun = true;
+      shared.close_all();
+      changed = true;
+    });
+    while (!begun) std::this_thread::yield();
+    std::this_thread::sleep_for(20ms);
+    reader = std::thread([&] { has_read = shared.rows() == 0; });
+    const auto end = steady_clock::now() + 5s;
+    while (!has_read && steady_clock::now() < end) std::this_thread::yield();
+    has_waited = has_read && !changed;
+  });
+  std::ostream out(&stream);
+  shared.checkpoint_to(out, 7);
+  writer.join();
+  reader.join();
+  return has_waited && changed && out;
+}
+
 // Ends a store beside a reader. Returns whether the reader's answers were right, and refused from then on.
 bool store_ends_beside_a_reader() {
   auto shared = std::make_unique<shared_store>(hlcstore::store(1));
@@ -294,6 +337,7 @@ int main(int count, char** words) {
   right = report("readers between the parts of a vacuum", readers_run_between_parts()) && right;
   right = report("exceptions", locks_end_with_exceptions()) && right;
   right = report("changes that wait for readers", changes_wait_for_readers()) && right;
+  right = report("readers beside a stream", readers_run_beside_a_stream()) && right;
   for (int store = 0; store <= rounds / 10; store++) {
     right = report("a store that ends beside a reader", store_ends_beside_a_reader()) && right;
   }

@@ -20,7 +20,7 @@ uint32_t raise_horizon(hlc_file *file, uint64_t stamp)
 {
     uint64_t floor, horizon, word, kept, bytes, dropped;
     size_t len;
-    bool more;
+    bool more = false;
     hlc_answer_ignore(hlc_store_floor(&file->store, &floor));
     hlc_answer_ignore(hlc_store_horizon(&file->store, &horizon));
     if (stamp > floor) stamp = floor;

@@ -7,6 +7,7 @@
 #include "file.h"
 #include <limits.h>
 #include <string.h>
+#include <unistd.h>
 #include <zlib.h>
 
 enum { APPLICATION = 0x686c6366, SCHEMA = 1, STATE_NUMBERS = 7 };
@@ -189,9 +190,16 @@ static int write_state(struct db *db, struct state *state)
     return run(db, STATE_SET);
 }
 
-/* Overwrites what a failed COMMIT may have left. */
+/* Answers whether this process opened the file, and not one of which it is the child by a fork. */
+bool db_is_ours(const struct db *db)
+{
+    return db->process == getpid();
+}
+
+/* Overwrites what a failed COMMIT may have left. A child of a fork writes nothing into its parent's file. */
 uint32_t db_settle(struct db *db)
 {
+    if (!db_is_ours(db)) db->doubt = SEALED;
     if (db->doubt == NO_DOUBT) return HLC_OK;
     if (db->doubt == SEALED) return HLC_FILE_SEALED;
     struct state state = db->state;
@@ -438,6 +446,7 @@ uint32_t db_opened(struct db *db)
 uint32_t db_open(struct db *db, const char *path, bool may_create, uint32_t nodes, bool *created, uint64_t *word)
 {
     int flags = SQLITE_OPEN_READWRITE | SQLITE_OPEN_NOMUTEX | (may_create ? SQLITE_OPEN_CREATE : 0);
+    db->process = getpid();
     db->synced = -1;
     int code = sqlite3_open_v2(path, &db->sqlite, flags, NULL);
     if (code == SQLITE_OK && sqlite3_db_readonly(db->sqlite, "main")) code = SQLITE_READONLY;

@@ -12,6 +12,7 @@
 #include "hlcstore_inline.h"
 #include <pthread.h>
 #include <sqlite3.h>
+#include <sys/types.h>
 
 enum {
     MOST_NODES = 1024,
@@ -91,6 +92,7 @@ enum doubt { NO_DOUBT, TAIL_IN_DOUBT, SEALED };
 struct db {
     sqlite3 *sqlite;
     sqlite3_stmt *statements[STATEMENTS];
+    pid_t process;      /* whose file it is: the child of a fork has a copy of all this */
     struct state state; /* as it is on disk */
     int code;           /* SQLite's extended code of the last failure */
     enum doubt doubt;
@@ -111,6 +113,7 @@ uint32_t db_open(struct db *db, const char *path, bool may_create, uint32_t node
 uint32_t db_check(struct db *db, const char *text);
 uint32_t db_opened(struct db *db);
 void db_close(struct db *db);
+bool db_is_ours(const struct db *db);
 uint32_t db_failure(struct db *db, int code);
 sqlite3_stmt *db_ask(struct db *db, enum statement which, const struct values *values);
 uint32_t db_do(struct db *db, enum statement which, const struct values *values);

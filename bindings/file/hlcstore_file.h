@@ -14,8 +14,12 @@
  * Threads. Calls with one file may be made by several threads at once, except where a call says otherwise; calls with
  * different files are independent. Calls that say "writes" wait for each other in turn, and for the disk. Calls that
  * say "reads" wait only while a batch is accepted, a snapshot opened or closed, or a part of a vacuum made; none of
- * that waits for the disk. A waiting write comes before later reads. No call comes from a signal handler, or from the
- * child of a fork.
+ * that waits for the disk. A waiting write comes before later reads. No call comes from a signal handler.
+ *
+ * Forks. The file stays its parent's. hlc_file_close and hlc_file_close_snapshot, which destructors may call in the
+ * child, do nothing there and answer HLC_OK; the memory ends with the child. The child makes no other call with the
+ * file, and does not open it: it could wait for a thread that it lacks. A write that comes as far as the disk is
+ * refused with HLC_FILE_SEALED.
  *
  * Time. A reading is a number of milliseconds since 1970, below 2^48, from the caller's clock; or HLC_FILE_NOW: then
  * the file reads the system's clock. If that was set back, stamps rise on by their counters, and by a millisecond where
@@ -59,7 +63,7 @@ typedef enum {
                                      not visible. The file tries to find out before the next write; see
                                      hlc_file_status */
     HLC_FILE_SEALED = 211,        /* the file takes no writes until it is opened again, since a sync failed or a batch
-                                     is still HLC_FILE_UNKNOWN; reads go on */
+                                     is still HLC_FILE_UNKNOWN; reads go on. Or this is the child of a fork */
     HLC_FILE_LATER = 212,         /* the batch is on disk, but the store had no memory for it: the next write, or
                                      opening of a snapshot, accepts it first. Do not append it again */
     HLC_FILE_TOO_LONG = 213,      /* a batch would have more than HLC_FILE_BATCH_BYTES */
@@ -224,9 +228,10 @@ uint32_t hlc_file_checkpoint(hlc_file *file, uint64_t *place);
 uint32_t hlc_file_copy(hlc_file *file, uint64_t tag, hlc_output *output, size_t *len);
 
 /* Vacuums to a stamp, as hlc_store_vacuum_to does, in parts between which reads and writes go on. The stamp is on disk
- * first, as a retention threshold: no snapshot opens below it any more. word: the stamp, or the refusal's word; kept,
- * bytes, dropped: sums over the parts. Refusals: 8, 9, and those of the section. After 15 and 212 the threshold stays
- * on disk, if it was put there, and the next call goes on. Writes. */
+ * first, as a retention threshold: no snapshot opens below it any more. word: the stamp, or the horizon where other
+ * machines' thresholds raised it above the stamp meanwhile: then the parts that were left are vacuumed to that; or the
+ * refusal's word. kept, bytes, dropped: sums over the parts. Refusals: 8, 9, and those of the section. After 15 and 212
+ * the threshold stays on disk, if it was put there, and the next call goes on. Writes. */
 uint32_t hlc_file_vacuum_to(hlc_file *file, uint64_t stamp, uint64_t *word, uint64_t *kept, uint64_t *bytes,
                             uint64_t *dropped);
 

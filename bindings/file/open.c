@@ -2,6 +2,7 @@
 #include "file.h"
 #include <errno.h>
 #include <fcntl.h>
+#include <limits.h>
 #include <stdio.h>
 #include <stdlib.h>
 #include <string.h>
@@ -13,18 +14,34 @@ enum { CHECKPOINT_BYTES = 64 << 20, MOST_STARTING = 64, MOST_WAIT = 1000000 };
 
 /* ---- The path and the lock ---- */
 
-/* Returns the one name of a path, whether there is a file or not, or NULL. */
-static char *full_path(const char *path)
+/* Returns the path of a name in the folder where another path lies, or NULL. */
+static char *path_beside(const char *path, const char *name)
 {
-    char *full = realpath(path, NULL), *whole = NULL;
-    if (full || errno != ENOENT) return full;
-    const char *slash = strrchr(path, '/'), *name = slash ? slash + 1 : path;
-    char *folder = slash ? strndup(path, (size_t)(slash - path) + 1) : strdup(".");
-    if (folder) full = realpath(folder, NULL);
-    if (full && *name && asprintf(&whole, "%s/%s", full, name) < 0) whole = NULL;
+    const char *slash = strrchr(path, '/');
+    char *folder = slash ? strndup(path, (size_t)(slash - path) + 1) : strdup("."), *whole = NULL;
+    char *full = folder ? realpath(folder, NULL) : NULL;
+    if (full && asprintf(&whole, "%s/%s", full, name) < 0) whole = NULL;
     free(full);
     free(folder);
     return whole;
+}
+
+/* Returns the one name of a path, whether there is a file or not, or NULL. A link to a file that is missing is followed
+ * as SQLite follows it: the lock and the write-ahead log lie beside that file, not beside the link. */
+static char *full_path(const char *path)
+{
+    char target[PATH_MAX], *full = realpath(path, NULL);
+    if (full || errno != ENOENT) return full;
+    const char *slash = strrchr(path, '/'), *name = slash ? slash + 1 : path;
+    char *whole = *name ? path_beside(path, name) : NULL;
+    ssize_t len = whole ? readlink(whole, target, sizeof target - 1) : -1;
+    if (len < 0) return whole;
+    target[len] = 0;
+    char *next = target[0] == '/' ? strdup(target) : path_beside(whole, target);
+    free(whole);
+    full = next ? full_path(next) : NULL;
+    free(next);
+    return full;
 }
 
 /* A lock of its own file: those of POSIX on the file itself end when any descriptor of it is closed in this process. */
@@ -230,9 +247,11 @@ static uint32_t settle(hlc_file *file)
     return answer;
 }
 
+/* In the child of a fork all of it stays as it is: the descriptors and the lock are the parent's, the threads that may
+ * hold its mutexes are missing, and the memory ends with the child. */
 uint32_t hlc_file_close(hlc_file *file)
 {
-    if (!file) return HLC_OK;
+    if (!file || !db_is_ours(&file->db)) return HLC_OK;
     background_stop(file);
     uint32_t answer = settle(file);
     file_free(file);

@@ -33,8 +33,11 @@ uint32_t hlc_file_open_snapshot_at_floor(hlc_file *file, uint64_t *id, uint64_t 
     return answer;
 }
 
+/* In the child of a fork a thread that is missing may hold the locks. */
 uint32_t hlc_file_close_snapshot(hlc_file *file, uint64_t id, uint64_t *stamp)
 {
+    *stamp = 0;
+    if (!db_is_ours(&file->db)) return HLC_OK;
     change_begin(file);
     uint32_t answer = hlc_snapshot_close(&file->store, id, stamp);
     change_end(file);

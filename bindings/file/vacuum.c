@@ -11,14 +11,17 @@ struct vacuumed {
     uint64_t dropped;
 };
 
-/* Vacuums the keys above `after`, which becomes the last of them. */
+/* Vacuums the keys above `after`, which becomes the last of them. A threshold that was appended since the part before
+ * may have raised the horizon above the stamp. */
 static uint32_t vacuum_part(hlc_file *file, uint64_t stamp, uint8_t *after, size_t *after_len, struct vacuumed *sum,
                             bool *more)
 {
-    uint64_t kept, bytes, dropped;
+    uint64_t horizon, kept, bytes, dropped;
     uint8_t last[MOST_KEY];
     size_t len;
     change_begin(file);
+    hlc_answer_ignore(hlc_store_horizon(&file->store, &horizon));
+    if (stamp < horizon) stamp = horizon;
     uint32_t answer = hlc_store_vacuum_part(&file->store, stamp, after, *after_len, PART_KEYS, &sum->word, &kept,
                                             &bytes, &dropped, last, sizeof last, &len, more);
     change_end(file);

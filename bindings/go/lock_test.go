@@ -54,6 +54,32 @@ func TestReadersAndWritersExcludeEachOther(t *testing.T) {
 	}
 }
 
+// A writer waits for a reader, in whatever slot that is.
+func TestAWriterWaitsForEachSlot(t *testing.T) {
+	for i := 0; i < 1<<slotBits; i++ {
+		var l storeLock
+		own := &l.slots[i]
+		own.readers.Add(1) // as RLock does
+		l.inSlots.Store(true)
+		var left atomic.Bool
+		waited := make(chan bool)
+		go func() {
+			l.Lock()
+			waited <- left.Load()
+			l.Unlock()
+		}()
+		for l.writers.Load() == 0 {
+			time.Sleep(time.Millisecond)
+		}
+		time.Sleep(5 * time.Millisecond)
+		left.Store(true)
+		l.RUnlock(own)
+		if !<-waited {
+			t.Error("a writer passed a reader in slot", i)
+		}
+	}
+}
+
 // readDeep reads so many calls down.
 func readDeep(l *storeLock, depth int, read func()) {
 	if depth > 0 {

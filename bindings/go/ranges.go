@@ -21,9 +21,9 @@ type Ranges struct {
 }
 
 const (
-	mostNodes    = 1024 // the node numbers of a store
-	keysOfPart   = 256  // of a vacuum
-	mostOpenings = 8    // of a snapshot that vacuums overtake
+	mostNodes  = 1024 // the node numbers of a store
+	keysOfPart = 256  // of a vacuum
+	mostTries  = 8    // of a snapshot, and a checkpoint, that vacuums overtake
 )
 
 // OpenRanges opens the stores of a division, in which nothing took place, with this many machines, 1 to 64, numbered
@@ -245,10 +245,8 @@ func (r *Ranges) VacuumInParts(ctx context.Context, stamp Stamp, keys int) (Vacu
 	if stamp > cut {
 		stamp = cut
 	}
-	for _, store := range r.stores {
-		if err := store.CheckVacuum(stamp); err != nil {
-			return Vacuumed{}, err
-		}
+	if err := r.checkVacuum(stamp); err != nil {
+		return Vacuumed{}, err
 	}
 	all := Vacuumed{Stamp: stamp}
 	for _, store := range r.stores {
@@ -261,6 +259,16 @@ func (r *Ranges) VacuumInParts(ctx context.Context, stamp Stamp, keys int) (Vacu
 		}
 	}
 	return all, nil
+}
+
+// checkVacuum returns why a store would refuse a vacuum to a stamp.
+func (r *Ranges) checkVacuum(stamp Stamp) error {
+	for _, store := range r.stores {
+		if err := store.CheckVacuum(stamp); err != nil {
+			return err
+		}
+	}
+	return nil
 }
 
 // Join lets a machine join, and returns it: its node has one number in all stores, and its clock starts at the greatest
@@ -351,13 +359,13 @@ func (r *Ranges) Snapshot() (*RangesSnapshot, error) { return r.snapshotAtOneOf(
 
 // snapshotAtOneOf opens a snapshot at a cut, or where a vacuum comes first, at a later one.
 func (r *Ranges) snapshotAtOneOf(cuts func() (Stamp, error)) (*RangesSnapshot, error) {
-	for openings := 1; ; openings++ {
+	for tries := 1; ; tries++ {
 		cut, err := cuts()
 		if err != nil {
 			return nil, err
 		}
 		opened, err := r.openAll(cut)
-		if openings == mostOpenings || !errors.Is(err, ErrBelowHorizon) {
+		if tries == mostTries || !errors.Is(err, ErrBelowHorizon) {
 			return opened, err
 		}
 	}

@@ -4,6 +4,7 @@ import (
 	"context"
 	"errors"
 	"fmt"
+	"io"
 	"sort"
 	"strings"
 	"testing"
@@ -82,7 +83,8 @@ func TestBoundariesAscend(t *testing.T) {
 // The hashes are the published ones of the function.
 func TestHashIsFNV1a(t *testing.T) {
 	for key, sum := range map[string]uint64{
-		"": 0xcbf29ce484222325, "a": 0xaf63dc4c8601ec8c, "foobar": 0x85944171f73967e8,
+		"": 0xcbf29ce484222325, "a": 0xaf63dc4c8601ec8c, "b": 0xaf63df4c8601f1a5, "foobar": 0x85944171f73967e8,
+		"\xff\x00\x00\x01": 0x6961196491cc682d,
 	} {
 		for _, stores := range []int{1, 2, 7, 64, 1000, 1024} {
 			equal(t, must(hlcstore.DivideByHash(stores)).StoreOf([]byte(key)), int(sum%uint64(stores)))
@@ -420,6 +422,7 @@ func TestJoinGoesOn(t *testing.T) {
 	ok(t, r.ReportAll(machines[0], 70))
 	ok(t, r.ReportAll(machines[1], 70))
 	equal(t, must(r.Cut()), at(60))
+	refused(t, second(r.Checkpoint()), hlcstore.ErrNoNode, 0) // which RestoreRanges would refuse
 	m := must(r.Join())
 	equal(t, m.ID(), 2)
 	equal(t, m.Last(), at(70)+3)
@@ -486,6 +489,47 @@ func TestRestoredRangesAnswerAlike(t *testing.T) {
 		ok(t, again.Close())
 		ok(t, restored.Close())
 	}
+}
+
+// A goroutine lets a machine join, or vacuums, when the first store is saved.
+func TestCheckpointBesideOthersIsMadeAnew(t *testing.T) {
+	for name, beside := range map[string]func(*hlcstore.Ranges, [2]*hlcstore.Machine){
+		"a join": func(r *hlcstore.Ranges, _ [2]*hlcstore.Machine) { must(r.Join()) },
+		"a vacuum": func(r *hlcstore.Ranges, machines [2]*hlcstore.Machine) {
+			ok(t, r.ReportAll(machines[0], 60))
+			ok(t, r.ReportAll(machines[1], 60))
+			equal(t, must(r.VacuumTo(hlcstore.MaxStamp)).Stamp, at(60))
+		},
+	} {
+		t.Run(name, func(t *testing.T) {
+			r, machines := written(t, byLetters)
+			saves := 0
+			saved := must(r.CheckpointBy(func(s *hlcstore.Store, w io.Writer, tag uint64) (int64, error) {
+				if saves++; saves == 2 {
+					beside(r, machines)
+				}
+				return s.Checkpoint(w, tag)
+			}))
+			equal(t, saves, 2*4)
+			restored := must(hlcstore.RestoreRanges(byLetters, saved))
+			defer restored.Close()
+			snapshot := must(restored.Snapshot())
+			equal(t, snapshot.Stamp(), must(r.Cut()))
+			equal(t, must(snapshot.Count(nil, nil)), 26)
+		})
+	}
+}
+
+func TestCheckpointWithoutAReadableCutIsRefused(t *testing.T) {
+	r, machines := written(t, byLetters)
+	must(r.StoreAt(3).Vacuum()) // to its floor, which is above the cut
+	saves := 0
+	_, err := r.CheckpointBy(func(*hlcstore.Store, io.Writer, uint64) (int64, error) { saves++; return 0, nil })
+	refused(t, err, hlcstore.ErrBelowHorizon, uint64(at(50)+3))
+	equal(t, saves, 8*4)
+	ok(t, r.ReportAll(machines[0], 60))
+	ok(t, r.ReportAll(machines[1], 60))
+	must(r.Checkpoint())
 }
 
 func TestCheckpointsThatAreNotOfOneCut(t *testing.T) {

@@ -13,8 +13,8 @@ type Version struct {
 }
 
 // Versions returns the stored rows of a key above one stamp and at or below another, the newest first: by stamp, and at
-// one stamp by node. From the horizon on these are all accepted writes of the key; below it, those that vacuums kept.
-// The rows share one block of memory. The cost is the square of the number of the key's rows.
+// one stamp by node. Above the horizon these are all accepted writes of the key; at and below it, those that vacuums
+// kept. The rows share one block of memory. The cost is the square of the number of the key's rows.
 func (s *Store) Versions(key []byte, above, to Stamp) ([]Version, error) {
 	defer s.mu.RUnlock(s.mu.RLock())
 	listed := s.versions(key, above, to, nil)

@@ -13,6 +13,9 @@
 #define AT(l) HLC_STAMP(l, 0)
 #define EXPECT(made, wanted) expect_at(__LINE__, (uint64_t)(made), (uint64_t)(wanted))
 
+/* The longest key, and the longest value, that takes no allocation of its own: refused.c counts them. */
+enum { IN_PLACE = 30 };
+
 static int wrong;
 
 /* Checks that a call returned, and wrote, what is expected. */

@@ -120,7 +120,7 @@ static void read_back(hlc_store *store)
     hlc_store copy = HLC_CLOSED_STORE;
     uint64_t id, word, kept, cost, dropped, threshold;
     size_t len, many;
-    bool more;
+    bool more = false;
     uint32_t code = hlc_snapshot_open_at_floor(store, &id, &word);
     expect("snapshot", code, word, HLC_OK, AT(1));
     code = hlc_snapshot_read(store, 1, BYTES("a"), NONE, &len);

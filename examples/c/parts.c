@@ -1,13 +1,13 @@
 /* A vacuum in parts, in which keys lose all their rows, and one that ends at the longest key; savings in pieces of
- * which some are given up or refused, and restores from pieces likewise. Keys and values are longer than 30 bytes, so
- * each of them has an allocation. */
+ * which some are given up or refused, and restores from pieces likewise; a vacuum of a key that has many rows, and one
+ * after which nothing is left. No key and no value lies in place, so valgrind finds each that is not freed. */
 #include "expect.h"
 
-enum { VALUE = 30, LONGEST = 255, ROOM = 4096 };
+enum { VALUE = IN_PLACE + 1, SHORTEST = IN_PLACE + 1, SHORT = IN_PLACE + 2, LONGEST = 255, ROOM = 4096 };
 
 /* A key is one letter, again and again. */
 static const struct { char letter; size_t len; } KEYS[] = {
-    { 'a', 23 }, { 'b', LONGEST }, { 'c', LONGEST }, { 'd', 24 },
+    { 'a', SHORTEST }, { 'b', LONGEST }, { 'c', LONGEST }, { 'd', SHORT },
 };
 enum { A, B, C, D };
 
@@ -64,7 +64,7 @@ static size_t vacuum_part(uint64_t stamp, uint8_t *after, size_t after_len, size
     uint8_t out[LONGEST] = { 0 }, key[LONGEST];
     uint64_t found[4];
     size_t len, expected_len = expected.more ? KEYS[expected.last].len : 0;
-    bool more;
+    bool more = false;
     uint32_t code = hlc_store_vacuum_part(&store, stamp, after, after_len, limit, &found[0], &found[1], &found[2],
                                           &found[3], out, sizeof out, &len, &more);
     expect("part", code, found[0], HLC_OK, stamp);
@@ -83,13 +83,13 @@ static size_t vacuum_part(uint64_t stamp, uint8_t *after, size_t after_len, size
 static void vacuum_in_parts(void)
 {
     uint8_t after[LONGEST];
-    expect_sizes(8, 4, 23 + 255 + 255 + 24, 5 * VALUE);
+    expect_sizes(8, 4, SHORTEST + 255 + 255 + SHORT, 5 * VALUE);
     size_t len = vacuum_part(AT(7), after, 0, 2, (struct part){ 1, 255 + VALUE + 10, 3, true, B });
-    expect_sizes(5, 3, 255 + 255 + 24, 3 * VALUE);
+    expect_sizes(5, 3, 255 + 255 + SHORT, 3 * VALUE);
     len = vacuum_part(AT(7), after, len, 1, (struct part){ 0, 0, 2, true, C });
-    expect_sizes(3, 2, 255 + 24, 2 * VALUE);
-    vacuum_part(AT(7), after, len, 9, (struct part){ 1, 24 + VALUE + 10, 0, false, D });
-    expect_sizes(3, 2, 255 + 24, 2 * VALUE);
+    expect_sizes(3, 2, 255 + SHORT, 2 * VALUE);
+    vacuum_part(AT(7), after, len, 9, (struct part){ 1, SHORT + VALUE + 10, 0, false, D });
+    expect_sizes(3, 2, 255 + SHORT, 2 * VALUE);
     /* At 8.0 d is deleted too. */
     vacuum_part(AT(8), after, 0, 9, (struct part){ 1, 255 + VALUE + 10, 2, false, D });
     expect_sizes(1, 1, 255, VALUE);
@@ -194,6 +194,27 @@ static void restore_in_vain(void)
     expect("the copy", code, word, HLC_CLOSED, 0);
 }
 
+/* A whole vacuum drops all six rows of d, and keeps one row of each other key. Then all keys are deleted, and one part
+ * drops the rest. */
+static void empty(void)
+{
+    uint8_t after[LONGEST];
+    uint64_t found[4], stamp;
+    for (int i = 0; i < 5; i++) write_key(D);
+    delete_key(D);
+    stamp = AT(number);
+    expect_sizes(9, 4, SHORTEST + 255 + 255 + SHORT, 8 * VALUE);
+    uint32_t code = hlc_store_vacuum(&store, &found[0], &found[1], &found[2], &found[3]);
+    expect("vacuum", code, found[0], HLC_OK, stamp);
+    expect("kept", code, found[1], HLC_OK, 3);
+    expect("their cost", code, found[2], HLC_OK, SHORTEST + 255 + 255 + 3 * (VALUE + 10));
+    expect("dropped", code, found[3], HLC_OK, 6);
+    expect_sizes(3, 3, SHORTEST + 255 + 255, 3 * VALUE);
+    for (int place = A; place <= C; place++) delete_key(place);
+    vacuum_part(AT(number), after, 0, SIZE_MAX, (struct part){ 0, 0, 6, false, D });
+    expect_sizes(0, 0, 0, 0);
+}
+
 int main(void)
 {
     expect("open", hlc_store_open(&store, 1), 0, HLC_OK, 0);
@@ -206,6 +227,7 @@ int main(void)
     write_again();
     restore_in_vain();
     save_in_vain();
+    empty();
     hlc_store_close(&store);
     return ended();
 }

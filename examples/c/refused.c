@@ -1,5 +1,5 @@
 /* Refuses one request for memory after another of a story, and of a batch, and checks that the store is unchanged and
- * works on. */
+ * works on. Counts the requests of a key and a value, short and long. */
 #include "expect.h"
 #include <stdlib.h>
 
@@ -7,6 +7,9 @@
 #define PIECE 50
 
 static long left = -1;
+
+/* How many requests there were. */
+static long requests;
 
 /* The checkpoint that the restores read. */
 static uint8_t saved[1024];
@@ -26,6 +29,7 @@ void *__real_realloc(void *at, size_t size);
 /* Returns whether this request is the one to refuse. */
 static bool refuse(void)
 {
+    requests++;
     if (left < 0) return false;
     return left-- == 0;
 }
@@ -154,7 +158,7 @@ static uint32_t call(int step, hlc_store *store)
     uint8_t out[1024];
     uint64_t v, w, x, y;
     uint16_t node;
-    bool more;
+    bool more = false;
     size_t len;
     switch (step) {
     case 0: return hlc_store_open(store, 2);
@@ -324,9 +328,35 @@ static bool refuse_batch(long request, int way)
     return met;
 }
 
+/* ---- What lies in place ---- */
+
+/* The requests of a new store's first write, of a key and a value of so many bytes. */
+static long requests_of(size_t key_len, size_t value_len)
+{
+    static const uint8_t bytes[2 * IN_PLACE];
+    hlc_store store = HLC_CLOSED_STORE;
+    uint64_t word;
+    if (hlc_store_open(&store, 1) != HLC_OK) wrong++;
+    const long before = requests;
+    if (hlc_store_accept_write(&store, 0, 0, AT(1), bytes, key_len, bytes, value_len, &word) != HLC_OK) wrong++;
+    const long made = requests - before;
+    hlc_store_close(&store);
+    return made;
+}
+
+static void count_requests(void)
+{
+    const long least = requests_of(1, 0);
+    EXPECT(requests_of(IN_PLACE, IN_PLACE), least);
+    EXPECT(requests_of(IN_PLACE + 1, IN_PLACE), least + 1);
+    EXPECT(requests_of(IN_PLACE, IN_PLACE + 1), least + 1);
+    EXPECT(requests_of(IN_PLACE + 1, IN_PLACE + 1), least + 2);
+}
+
 int main(void)
 {
     long request = 0;
+    count_requests();
     while (request < 1000 && story(request)) request++;
     if (request < 10 || request == 1000) wrong++;
     for (int way = 0; way < 3; way++) {

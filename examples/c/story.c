@@ -138,7 +138,7 @@ static void check(const uint8_t *text, size_t text_len)
 static void link_of(uint16_t node)
 {
     uint64_t next, head;
-    bool retired;
+    bool retired = false;
     uint32_t code = hlc_store_link(&store, node, &next, &head, &retired);
     printf("link %" PRIu32 " %" PRIu64 " %" PRIu64 " %d\n", code, next, head, retired);
 }
@@ -376,7 +376,7 @@ static void keep_above(hlc_node *node)
 static bool vacuum_part(uint64_t stamp, size_t limit, uint8_t key[255], size_t *key_len)
 {
     uint64_t kept, cost, dropped;
-    bool more;
+    bool more = false;
     uint8_t out[255];
     size_t len;
     uint32_t code = hlc_store_vacuum_part(&store, stamp, key, *key_len, limit, &word, &kept, &cost, &dropped, out,

@@ -260,7 +260,7 @@ def replicate():
 def restart():
     """Makes a node as it was before a restart, and raises its clock."""
     try:
-        Node.restore(7, 2, 3)
+        Node.restore(7, stamp(0, 2), 3)
     except Error as refused:
         put("restore", refused.code, 0, 2)
     node = Node.restore(7, stamp(10), 3)
@@ -419,7 +419,7 @@ def vacuum(store, first):
     check(certificate[:4])
     print_answer("rows", lambda: store.rows)
     print_sizes(store)
-    print_answer("snapshot", store.snapshot, 1)
+    print_answer("snapshot", store.snapshot, stamp(0, 1))
 
 
 def join_and_retire(store, a, b):

@@ -18,6 +18,9 @@ import (
 	"hlcstore"
 )
 
+// Silence is how long another replica may send nothing of its checkpoint.
+var silence = time.Minute
+
 const (
 	firstNodes = 1                      // the coordinator's node; all others join
 	lease      = 10                     // seconds after which the cluster forgets a replica that is gone
@@ -32,7 +35,9 @@ type replica struct {
 	checkpoints checkpoints
 	say         func(any)
 	lease       clientv3.LeaseID
+	saving      sync.Mutex
 	between     sync.RWMutex // whoever has it sees the store between two entries of the log
+	fields      sync.RWMutex // of the next three, for reads: they wait neither for an entry nor for a checkpoint
 	store       *hlcstore.Store
 	revision    int64
 	threshold   hlcstore.Stamp
@@ -44,6 +49,8 @@ var (
 	errCut    = errors.New("the log begins behind what was applied, so this begins from another replica")
 	errSealed = errors.New("the log has ended: other ranges go on")
 )
+
+var otherVersion = hlcstore.Error{Code: hlcstore.ErrBadBytes, Word: 2}
 
 // Apply accepts items, and lets nodes join: all replicas do so at the same place of the log, with the same start. What
 // was applied before is passed over.
@@ -57,6 +64,8 @@ func (r *replica) apply(revision int64, records []byte) error {
 	if err != nil {
 		return fmt.Errorf("the entry at revision %d: %w", revision, err)
 	}
+	r.fields.Lock()
+	defer r.fields.Unlock()
 	if r.revision = revision; applied.Threshold > r.threshold {
 		r.threshold = applied.Threshold
 	}
@@ -100,7 +109,8 @@ func (r *replica) watch(ctx context.Context) error {
 	return nil
 }
 
-// BeginFromDisk begins with the newest checkpoint that is whole, or with an empty store before the first entry.
+// BeginFromDisk begins with the newest checkpoint that is whole, or with an empty store before the first entry. A
+// checkpoint of another version stays for its program.
 func (r *replica) beginFromDisk() error {
 	for _, path := range r.checkpoints.paths() {
 		file, err := os.Open(path)
@@ -111,6 +121,10 @@ func (r *replica) beginFromDisk() error {
 		file.Close()
 		if !errors.Is(err, hlcstore.ErrBadBytes) && !errors.Is(err, hlcstore.ErrNoCheckpoint) {
 			return err
+		}
+		if refused := new(hlcstore.Error); errors.As(err, &refused) && *refused == otherVersion {
+			return fmt.Errorf("%s is of another version, or its beginning is damaged: start the program that saved it, "+
+				"or remove it", path)
 		}
 		log.Printf("removes a damaged checkpoint, %s: %v", path, err)
 		os.Remove(path)
@@ -134,7 +148,9 @@ func (r *replica) begin(origin string, saved io.Reader) error {
 		return err
 	}
 	r.between.Lock()
+	r.fields.Lock()
 	r.store, r.revision = store, int64(tag)
+	r.fields.Unlock()
 	r.between.Unlock()
 	log.Printf("begins from %s at revision %d, with %d rows", origin, tag, rows)
 	r.say(map[string]any{"begins": origin, "revision": tag, "rows": rows, "seconds": time.Since(start).Seconds()})
@@ -157,7 +173,7 @@ func (r *replica) beginFromAnother(ctx context.Context) {
 		for at := 0; err == nil && at < len(others.Kvs); at++ {
 			var other published
 			if json.Unmarshal(others.Kvs[at].Value, &other) == nil && other.Checkpoint > r.revision {
-				err := r.fetch(other.Address)
+				err := r.fetch(ctx, other.Address)
 				if err == nil {
 					return
 				}
@@ -167,8 +183,17 @@ func (r *replica) beginFromAnother(ctx context.Context) {
 	}
 }
 
-func (r *replica) fetch(address string) error {
-	answer, err := (&http.Client{Timeout: time.Minute}).Get("http://" + address + "/checkpoint")
+// Fetch begins with the checkpoint of a replica, which may take any time as long as bytes of it come.
+func (r *replica) fetch(ctx context.Context, address string) error {
+	ctx, cancel := context.WithCancel(ctx)
+	defer cancel()
+	asked, err := http.NewRequestWithContext(ctx, http.MethodGet, "http://"+address+"/checkpoint", nil)
+	if err != nil {
+		return err
+	}
+	silent := time.AfterFunc(silence, cancel)
+	defer silent.Stop()
+	answer, err := http.DefaultClient.Do(asked)
 	if err != nil {
 		return err
 	}
@@ -176,14 +201,25 @@ func (r *replica) fetch(address string) error {
 	if answer.StatusCode != http.StatusOK {
 		return errors.New(answer.Status)
 	}
-	return r.begin("another replica", answer.Body)
+	return r.begin("another replica", awaited{answer.Body, silent})
+}
+
+// An awaited reader has some time for each read.
+type awaited struct {
+	io.Reader
+	silent *time.Timer
+}
+
+func (a awaited) Read(to []byte) (int, error) {
+	a.silent.Reset(silence)
+	return a.Reader.Read(to)
 }
 
 // KeepUp publishes the floor and the oldest checkpoint, vacuums to the threshold, and makes checkpoints.
 func (r *replica) keepUp(ctx context.Context, address string, every time.Duration) error {
+	go r.keepPublished(ctx, address)
 	saved := time.Now()
 	for ; ctx.Err() == nil; wait(ctx, pause) {
-		r.publish(ctx, address)
 		if err := r.vacuum(ctx); err != nil {
 			return err
 		}
@@ -195,6 +231,13 @@ func (r *replica) keepUp(ctx context.Context, address string, every time.Duratio
 		}
 	}
 	return ctx.Err()
+}
+
+// KeepPublished publishes beside the rest of the upkeep: a vacuum, or a checkpoint, may take longer than the lease.
+func (r *replica) keepPublished(ctx context.Context, address string) {
+	for ; ctx.Err() == nil; wait(ctx, pause) {
+		r.publish(ctx, address)
+	}
 }
 
 // Publish puts where the replica is, for as long as the lease is kept alive. Where etcd does not answer, the next round
@@ -230,8 +273,8 @@ func (r *replica) vacuum(ctx context.Context) error {
 
 // Now returns the store, and the retention threshold that it has come to.
 func (r *replica) now() (*hlcstore.Store, hlcstore.Stamp) {
-	r.between.RLock()
-	defer r.between.RUnlock()
+	r.fields.RLock()
+	defer r.fields.RUnlock()
 	return r.store, r.threshold
 }
 
@@ -255,14 +298,27 @@ func (r *replica) state() map[string]any {
 	}
 }
 
-// Save makes a checkpoint of the store between two entries. The log waits for it, and reads do not.
+// Save makes a checkpoint of the store between two entries: a copy in memory, and of that a file. So neither the log,
+// nor reads, which open snapshots, wait for the disk.
 func (r *replica) save() error {
-	r.between.RLock()
-	defer r.between.RUnlock()
-	return r.checkpoints.save(r.revision, func(to io.Writer) error {
-		_, err := r.store.CheckpointTo(to, uint64(r.revision))
+	r.saving.Lock()
+	defer r.saving.Unlock()
+	revision, saved, err := r.copyOfStore()
+	if err != nil {
+		return err
+	}
+	return r.checkpoints.save(revision, func(to io.Writer) error {
+		_, err := saved.WriteTo(to)
 		return err
 	})
+}
+
+func (r *replica) copyOfStore() (int64, *bytes.Buffer, error) {
+	r.between.RLock()
+	defer r.between.RUnlock()
+	saved := new(bytes.Buffer)
+	_, err := r.store.Checkpoint(saved, uint64(r.revision))
+	return r.revision, saved, err
 }
 
 // wait waits for as long, or until the context ends.

@@ -22,6 +22,7 @@ import time
 import alarms
 import exported
 import hlcstore
+import keys
 import life
 import log
 import logs
@@ -34,7 +35,7 @@ import settings
 import sight
 from clock import reading
 from etcd import Etcd, delete, put, unchanged
-from hlcstore import Node, join_record, threshold_record
+from hlcstore import Node, Stamp, join_record, threshold_record
 from machine import JOIN, LOST, NODE
 from members import Members
 
@@ -150,7 +151,9 @@ class Coordinator(serve.Answerer):
                 self.counters.add("joins")
             return
         counts = {part.state["nodes"] for part in self.machine.parts.values()}
-        number = json.loads(found.value) if found else max(counts)
+        number = keys.number_in(found) if found else max(counts)
+        if number is None:
+            return  # nobody knows which node has the name
         if not found:
             if len(counts) > 1 or not self.can_join(name, number):
                 return  # another join is under way, whose name comes first
@@ -201,7 +204,9 @@ class Coordinator(serve.Answerer):
         if not found:
             self.etcd.transact(mine, [delete(request)])
             return
-        number = json.loads(found.value)
+        number = keys.number_in(found)
+        if number is None:
+            return  # nobody knows which node has the name
         retire = self.retire_in_one if simple else self.retire_in_all
         try:
             if retire(number, name, mine):
@@ -216,7 +221,7 @@ class Coordinator(serve.Answerer):
         link = log.Link(self.etcd, number, self.first.range.prefix)
         first = ranges.state_of(self.machine.connect, self.machine.map, self.first.range, number)
         state = link.claim(first, mine)
-        node = Node.restore(number, state["last"], state["next"])
+        node = Node.restore(number, Stamp.from_number(state["last"]), state["next"])
         item = bytes(node.retire(reading(node)))
         state |= {"next": node.next, "last": node.last, "retired": True}
         also = machine.given_back(number, name)
@@ -240,9 +245,7 @@ class Coordinator(serve.Answerer):
         writer, or the next process of its name, has some seconds to do it. Nothing is lost by doing it here: who has
         decided to retire writes nothing more.
         """
-        now, names = time.monotonic(), {}
-        for pair in self.etcd.list(NODE):
-            names[json.loads(pair.value)] = pair.key.removeprefix(NODE)
+        now, names = time.monotonic(), keys.names(self.etcd.list(NODE))
         numbers = [int(pair.key.removeprefix(machine.RETIRES), 16) for pair in self.etcd.list(machine.RETIRES)]
         self.decisions = {number: self.decisions.get(number, now) for number in numbers if number != NUMBER}
         for number, since in self.decisions.items():
@@ -270,13 +273,14 @@ class Coordinator(serve.Answerer):
 
     def keep_up(self):
         """Raises the threshold, and cuts what each replica has in its checkpoints: each that still publishes."""
-        replicas = [json.loads(pair.value) for pair in self.etcd.list(b"replica/")]
+        replicas = keys.replicas(self.etcd.list(b"replica/"))
         if not replicas:
             return
         threshold = min(words["floor"] for words in replicas) - (self.retention << 16)
         for part in self.machine.parts.values():
             if threshold > part.state["threshold"]:
-                self.append_plan(threshold_record(threshold), part=part, threshold=threshold)
+                record = threshold_record(Stamp.from_number(threshold))
+                self.append_plan(record, part=part, threshold=threshold)
         for number in self.machine.map.ranges:
             reshape.cut(self, number, replicas)
 

@@ -118,8 +118,8 @@ def unchanged(key, revision):
 class Etcd:
     """A connection to one member at a time. Each thread has its own.
 
-    `trouble` is the text of the last failure, and empty once a call was answered. A call that no member answers ends
-    when `ending` is set.
+    `trouble` is the text of the last failure, and empty once a call was answered. A call that no member answers fails
+    after `patience` seconds, and ends when `ending` is set.
     """
 
     def __init__(self, members, ending=None):
@@ -128,6 +128,7 @@ class Etcd:
         self.at = random.randrange(len(members))
         self.connection = self.channel = None
         self.by_rpc = BY_RPC
+        self.patience = PATIENCE
         self.trouble = ""
 
     def connect(self):
@@ -151,7 +152,7 @@ class Etcd:
 
         A process may stand still in a call. Of each attempt no more counts than it may take, so that the others follow.
         """
-        left = PATIENCE
+        left = self.patience
         while True:
             start = time.monotonic()
             try:

@@ -132,7 +132,7 @@ class Faults:
         self.programs.kill_replica(name)
         for path in sorted((self.programs.folder / name).rglob("*.checkpoint"))[-1:]:
             content = bytearray(path.read_bytes())
-            content[self.chance.randrange(len(content))] ^= 1
+            content[self.chance.randrange(4, len(content))] ^= 1  # not its version: then the replica refuses to start
             path.write_bytes(content)
         self.after(0.2, 2, self.programs.start_replica, name)
         return f"kill -9 replica {name}, and its newest checkpoint is damaged"

@@ -5,7 +5,7 @@
     2   its words or its settings make no sense
     3   another process took its node over
     4   its standard input ended, where it was started with --piped
-    5   it can never do its work: its node retired, or no node is left for its name
+    5   it can never do its work: its node retired, no node is left for its name, or a checkpoint is of another version
 
 The first signal ends it as soon as what it does now is whole; the second one at once.
 """

@@ -19,7 +19,7 @@ import hlcstore
 import log
 import ranges
 from etcd import delete, put, unchanged
-from hlcstore import Node
+from hlcstore import Node, Stamp
 
 NODE, JOIN, LOST = b"node/", b"ask/join/", b"ask/lost/"  # what etcd has by the name of a writer
 RETIRES, OWNER = b"retires/", b"owner/"
@@ -31,7 +31,7 @@ class Part:
 
     def __init__(self, found, link, state, number):
         self.range, self.link, self.state = found, link, state
-        self.node = Node.restore(number, state["last"], state["next"])
+        self.node = Node.restore(number, Stamp.from_number(state["last"]), state["next"])
         self.appended = time.monotonic()
 
     def append(self, key, records, also=(), **changed):
@@ -72,7 +72,7 @@ class Machine:
         self.new_connection, self.connections = connect, {(): home}
         self.map = ranges.Map()
         self.parts = {}  # of each live range in which the node has not retired
-        self.last = 0  # the stamp of its last event, in whatever range
+        self.last = Stamp(0)  # of its last event, in whatever range
 
     def connect(self, members):
         if members not in self.connections:

@@ -5,11 +5,11 @@ entry is at one place, all replicas begin it alike. Where a replica has no such 
 """
 
 import http.client
-import json
 import threading
 import time
 
 import hlcstore
+import keys
 import life
 import log
 import logs
@@ -19,6 +19,7 @@ from checkpoints import KEEP, Checkpoints
 
 FIRST_NODES = 1  # the coordinator's node; all others join
 DAMAGED = (hlcstore.BadBytes, hlcstore.NoCheckpoint)
+OTHER_VERSION = 2  # the word of BadBytes
 WAIT = 0.05  # seconds from one look to the next whether a range can begin
 
 
@@ -75,13 +76,16 @@ class Part:
 
     def begin_from_disk(self):
         """Begins with the newest checkpoint that is whole; or, where the range came from no others, with an empty store
-        before the first entry. Returns whether it did."""
+        before the first entry. Returns whether it did. A checkpoint of another version stays for its program."""
         for path in self.checkpoints.paths():
             try:
                 self.begin("disk", path.read_bytes)
                 return True
             except DAMAGED as refused:
                 self.replica.count_refusal(refused)
+                if isinstance(refused, hlcstore.BadBytes) and refused.word == OTHER_VERSION:
+                    said = f"{path} is of another version, or its beginning is damaged"
+                    raise life.Never(f"{said}: start the program that saved it, or remove it") from None
                 logs.warning("removes a damaged checkpoint", file=path.name, text=refused)
                 self.replica.report(damaged=path.name, text=str(refused))
                 path.unlink()
@@ -146,8 +150,8 @@ class Part:
                 try:
                     self.begin(words["name"], lambda: serve.fetch(words["address"], path))
                     return True
-                except (OSError, http.client.HTTPException, *DAMAGED) as failure:
-                    # that one was killed, or its disk is damaged
+                except (OSError, ValueError, http.client.HTTPException, *DAMAGED) as failure:
+                    # that one was killed, its disk is damaged, or its address is none
                     logs.warning("no checkpoint of another replica", name=words["name"], text=failure)
         return False
 
@@ -254,8 +258,7 @@ def published(etcd, number):
 
 def published_in(pairs, number):
     found = []
-    for pair in pairs:
-        words = json.loads(pair.value)
+    for words in keys.replicas(pairs):
         parts = words.get("ranges", {"0": words})
         if str(number) in parts:
             found.append({"name": words["name"], "address": words["address"]} | parts[str(number)])

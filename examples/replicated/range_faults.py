@@ -3,12 +3,22 @@
 import json
 
 import part
-from etcd import Etcd, put
+from etcd import Etcd, delete, put
 from faults import Faults
 from questions import KEYS
 from ranges import read_map
 
 LEAST_RANGES, MOST_RANGES, OF_EACH = 2, 7, 3
+WISHES = [b"ask/split/", b"ask/merge/", b"ask/move/", b"ask/place/"]
+
+
+def is_waiting(etcd):
+    """Returns whether a request about ranges waits. One that was refused as no member answered is taken back."""
+    requests = [pair for wish in WISHES for pair in etcd.list(wish)]
+    silent = [pair.key for pair in requests if b"no etcd answers at" in pair.value]
+    if silent:
+        etcd.transact([], map(delete, silent))
+    return len(silent) < len(requests)
 
 
 class RangeFaults(Faults):
@@ -27,8 +37,7 @@ class RangeFaults(Faults):
     def known(self):
         """Returns the map, unless a request about ranges waits."""
         etcd = self.etcd()
-        waits = any(etcd.list(b"ask/" + kind) for kind in (b"split/", b"merge/", b"move/", b"place/"))
-        return None if waits else read_map(etcd)
+        return None if is_waiting(etcd) else read_map(etcd)
 
     def members(self):
         return json.dumps({"members": self.chance.choice(self.programs.clusters).addresses}).encode()

@@ -76,7 +76,7 @@ class Map:
         """Applies what was appended since, and returns whether there was something."""
         before = self.changes
         for pair in etcd.list(MAP):
-            if int(pair.key.removeprefix(MAP), 16) == self.changes:
+            if pair.key == self.next_key():
                 self.apply(json.loads(pair.value))
         return self.changes > before
 
@@ -176,7 +176,8 @@ def fill(node, link, to):
         for number in range(first, min(first + MOST_FILLED, to.next)):
             last = to.retired and number + 1 == to.next
             issue = hlcstore.Item.retire if last else hlcstore.Item.report
-            items.append(bytes(issue(node, number, to.last - (to.next - 1 - number))))
+            at = hlcstore.Stamp.from_number(to.last - (to.next - 1 - number))
+            items.append(bytes(issue(node, number, at)))
         yield b"".join(items)
 
 

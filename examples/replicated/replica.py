@@ -215,7 +215,7 @@ class Replica(serve.Answerer):
     @contextlib.contextmanager
     def snapshot_of(self, each, stamp):
         with self.refusals():
-            snapshot = each.store.snapshot(stamp)
+            snapshot = each.store.snapshot(hlcstore.Stamp.from_number(stamp))
         key = each.range.id, snapshot.id
         self.opened[key] = time.monotonic()
         try:
@@ -236,12 +236,12 @@ class Replica(serve.Answerer):
     def certificate(self, stamp, number=None):
         if stamp is None:
             raise serve.Refused(400, "a stamp is missing")
-        each = self.part_of(number)
+        each, at = self.part_of(number), hlcstore.Stamp.from_number(stamp)
         with self.refusals():
             while True:
-                each.make_vacuum(stamp)
+                each.make_vacuum(at)
                 with contextlib.suppress(hlcstore.NotFewest):  # a snapshot was closed just now
-                    return each.store.certificate(stamp).certificate
+                    return each.store.certificate(at).certificate
 
     def newest(self, _, number=None):
         return self.part_of(number).newest()
@@ -261,14 +261,21 @@ class Replica(serve.Answerer):
 
     def keep_up(self, address):
         """Publishes the floor and the oldest checkpoint, vacuums to the threshold, and makes checkpoints."""
-        etcd, lease, saved = self.connect(()), None, time.monotonic()
+        life.essential(self.keep_published, address)
+        saved = time.monotonic()
         while True:
-            lease = self.publish(etcd, lease, address)
             for each in self.current():
                 each.vacuum()
             if time.monotonic() - saved >= self.seconds:
                 self.save_all()
                 saved = time.monotonic()
+            time.sleep(PAUSE)
+
+    def keep_published(self, address):
+        """Publishes beside the rest of the upkeep: a vacuum, or a checkpoint, may take longer than the lease."""
+        etcd, lease = self.connect(()), None
+        while True:
+            lease = self.publish(etcd, lease, address)
             time.sleep(PAUSE)
 
     def save_all(self):

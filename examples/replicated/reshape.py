@@ -5,7 +5,8 @@
     ask/move/KEY      to let the log of the range of a key go on at the `members` of another cluster
     ask/place/ID      to let a range be at the replicas of a list; those of an empty one are all
 
-Keys are in hexadecimal digits. What makes no sense is replaced by a text that says so, as `refused`.
+Keys are in hexadecimal digits. What makes no sense is replaced by a text that says so, as `refused`; and so is what
+names members that do not answer, as a seal cannot be taken back.
 
 A range ends with a seal in its log, which says what comes in its place. The map comes afterwards: whoever starts
 between finds the seal, and does the rest. So a seal is a promise, and no reader of the map sees a range whose parents
@@ -18,8 +19,10 @@ import log
 import logs
 import ranges
 import settings
-from etcd import delete, put, unchanged
+from etcd import TIMEOUT, delete, put, range_of, revision_of, trouble_text, unchanged
+from keys import SENSELESS
 from machine import RETIRES
+from members import FAILURES
 
 ASK = b"ask/"
 
@@ -42,22 +45,43 @@ def answer(coordinator, pair):
     except NotNow as reason:
         logs.debug("a request waits", request=request, text=reason)
         return
-    except ValueError as failure:
+    except (ValueError, RecursionError) as failure:
         logs.warning("refuses a request", request=request, text=failure)
         coordinator.decide([put(pair.key, log.to_json({"refused": str(failure)}))])
         return
     coordinator.decide([delete(pair.key)])
 
 
-def addresses(words):
+def addresses(coordinator, words):
     """Returns the members that a request names, or None."""
     if not isinstance(words, dict):
         raise ValueError("expected an object of JSON, or nothing")
-    return settings.members(words["members"]) if words.get("members") else words.get("members")
+    members = words.get("members")
+    if members in (None, []):
+        return members
+    try:
+        settings.members(members)
+    except ValueError:
+        raise ValueError(f"members: expected {settings.members.expected}, got {members!r}") from None
+    refuse_silent(coordinator, members)
+    return members
+
+
+def refuse_silent(coordinator, members):
+    """Refuses members of which none answers, or not as etcd does. Each of them has the time for one answer."""
+    etcd = coordinator.connect(members)
+    etcd.patience = TIMEOUT * (len(members) - 1)
+    try:
+        revision_of(etcd.call("kv/range", range_of(log.SEAL)))
+    except (*FAILURES, *SENSELESS) as failure:
+        said = f"no etcd answers at {', '.join(members)}: {trouble_text(failure)}"
+        raise ValueError(f"{said}. The range stays as it is; ask again when it does") from None
+    finally:
+        etcd.close()
 
 
 def split(coordinator, key, words):
-    replace(coordinator, ranges.split_words(coordinator.machine.map, key, addresses(words)))
+    replace(coordinator, ranges.split_words(coordinator.machine.map, key, addresses(coordinator, words)))
 
 
 def merge(coordinator, key, _):
@@ -67,7 +91,7 @@ def merge(coordinator, key, _):
 
 
 def move(coordinator, key, words):
-    replace(coordinator, ranges.move_words(coordinator.machine.map, key, addresses(words) or []))
+    replace(coordinator, ranges.move_words(coordinator.machine.map, key, addresses(coordinator, words) or []))
 
 
 def place(coordinator, number, names):

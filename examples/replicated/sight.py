@@ -11,6 +11,7 @@ import threading
 import time
 from typing import NamedTuple
 
+import keys
 import log
 from etcd import Refused, Unavailable, get, pairs_of, prefix_end
 from metrics import Rate
@@ -21,7 +22,7 @@ SILENT = 2.0  # seconds without an item after which a node is silent: it reports
 APART = 5.0  # seconds: the head of a node that appends is not as old, unless its clock is behind
 LINKS = b"link/"
 PREFIXES = [b"node/", b"replica/", b"ask/"]
-FAILURES = (OSError, http.client.HTTPException, Unavailable, Refused, ValueError, KeyError)
+FAILURES = (OSError, http.client.HTTPException, Unavailable, Refused, *keys.SENSELESS)
 
 
 class Head(NamedTuple):
@@ -87,10 +88,10 @@ def look(etcd, ranges=((None, b""),)):
             node, state = int(pair.key.removeprefix(links), 16), json.loads(pair.value)
             head = Head(state["next"], state["last"], bool(state.get("retired")))
             heads[node] = together(heads[node], head) if node in heads else head
-    names = {json.loads(pair.value): pair.key.removeprefix(b"node/").decode(errors="replace") for pair in nodes}
+    names = {number: name.decode(errors="replace") for number, name in keys.names(nodes).items()}
     names[log.COORDINATOR] = "coordinator"
     texts = [pair.key.removeprefix(b"ask/").decode(errors="replace") for pair in requests]
-    return Look(heads, names, [json.loads(pair.value) for pair in replicas], texts)
+    return Look(heads, names, keys.replicas(replicas), texts)
 
 
 class Eyes:

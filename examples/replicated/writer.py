@@ -27,7 +27,7 @@ import machine
 import settings
 from etcd import Etcd, Stopped, delete, put, unchanged
 from history import History
-from hlcstore import split
+from hlcstore import Stamp, split
 
 MOST_BYTES = 1_000_000  # in a batch: etcd takes transactions of at most 1.5 MiB
 AHEAD = 10_000  # milliseconds: stamps that are further ahead of this node come from a wrong clock
@@ -136,7 +136,7 @@ class Writer:
         part = self.chance.choice(list(self.machine.parts.values()))
         links = self.machine.connect(part.range.members).list(part.range.prefix + b"link/")
         last = json.loads(self.chance.choice(links).value)["last"]
-        self.observe(last)
+        self.observe(Stamp.from_number(last))
 
     def observe(self, stamp):
         """What it writes later is above this stamp, unless that is far ahead."""

@@ -1,4 +1,4 @@
-//! Prices in a file: each day is a batch, a past day is read as it was, and days that are too old go away.
+//! Prices in a file: each day is a batch at one stamp, a past day is read as it was, and days that are too old go away.
 //!
 //! The readings are days in place of milliseconds, so that the program prints the same whenever it runs.
 
@@ -26,7 +26,7 @@ fn write_days(path: &Path) -> Result<Vec<Stamp>> {
                 None => batch.delete(thing.as_bytes())?,
             }
         }
-        ends.push(file.node(0).at(day).append(&mut batch, Promise::Default)?);
+        ends.push(file.node(0).at(day).write_batch(&mut batch, Promise::Default)?);
     }
     file.close()?;
     Ok(ends)

@@ -208,9 +208,9 @@ class file_snapshot {
   timestamp stamp_;
 };
 
-// Writes and deletions that a file appends all or none: each at a stamp of its own by `file::append`, or all at one
-// stamp by `file::write_batch`. Appending clears the batch. One that was moved from may only be destroyed, or get a new
-// value.
+// Writes and deletions for a file. By `file::write_batch` they get one stamp: a snapshot shows all of them or none. By
+// `file::append` each gets a stamp of its own: a snapshot between these shows a part of them. Both clear the batch. One
+// that was moved from may only be destroyed, or get a new value.
 class file_batch {
  public:
   file_batch() {
@@ -285,13 +285,16 @@ class file {
   }
   timestamp report(origin from = {}) { return {own().word_of(hlc_file_report, from.node, from.reading)}; }
   timestamp retire(origin from = {}) { return {own().word_of(hlc_file_retire, from.node, from.reading)}; }
-  timestamp append(file_batch& batch, origin from = {}, promise given = promise::of_options) {
-    return {own().word_of(hlc_file_append, from.node, from.reading, batch.raw_.get(), std::uint32_t(given))};
-  }
 
   // Appends a batch of 1 to 256 different keys as one item, so that all of its writes have one stamp.
   timestamp write_batch(file_batch& batch, origin from = {}, promise given = promise::of_options) {
     return {own().word_of(hlc_file_write_batch, from.node, from.reading, batch.raw_.get(), std::uint32_t(given))};
+  }
+
+  // Appends a batch of any size as items in turn, and returns the stamp of the last one, at which a snapshot has them
+  // all. No crash divides the batch, but a snapshot at an earlier stamp does.
+  timestamp append(file_batch& batch, origin from = {}, promise given = promise::of_options) {
+    return {own().word_of(hlc_file_append, from.node, from.reading, batch.raw_.get(), std::uint32_t(given))};
   }
 
   // The stamp of a message from a node, and of the receipt of one with the stamp `seen`.

@@ -148,10 +148,24 @@ class batch {
     if (key.empty() || key.size() > detail::longest_key) throw error(HLC_BAD_KEY);
     if (value && value->size() > detail::longest_value) throw error(HLC_VALUE_TOO_LONG);
     if (size() == HLC_MAX_BATCH) throw error(HLC_TOO_MANY_WRITES);
-    const std::size_t many = size(), before = many == 0 ? 1 : bytes_.size();
-    bytes_.resize(before + 2 + key.size() + (value ? 2 + value->size() : 0));
-    bytes_[0] = static_cast<char>(many);
-    char* end = &bytes_[before];
+    const std::size_t before = empty() ? 1 : bytes_.size();
+    const std::size_t after = before + 2 + key.size() + (value ? 2 + value->size() : 0);
+    if (after <= bytes_.capacity()) return put(bytes_, before, after, key, value);
+    // The key and the value may be bytes of this batch, which stay where they are until they are copied.
+    std::string grown;
+    grown.reserve(std::max(after, 2 * bytes_.capacity()));
+    grown.append(bytes_);
+    put(grown, before, after, key, value);
+    bytes_.swap(grown);
+  }
+
+  // Puts a write, or a deletion, between two places of bytes that have room for it.
+  void put(std::string& bytes, std::size_t before, std::size_t after, std::string_view key,
+           const std::string_view* value) const noexcept {
+    const std::size_t many = size();
+    bytes.resize(after);
+    bytes[0] = static_cast<char>(many);
+    char* end = &bytes[before];
     *end++ = static_cast<char>(key.size());
     end = std::copy(key.begin(), key.end(), end);
     *end++ = value ? 1 : 0;

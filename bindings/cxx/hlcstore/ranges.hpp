@@ -146,12 +146,14 @@ class machine {
             })};
   }
 
-  // A report for each store, so that the floor of each may rise to this reading; and the last item for each store from
-  // which the machine has not retired. It issues nothing after that.
+  // A report for each store from which the machine has not retired, so that the floor of each may rise to this reading;
+  // and the last item for each of them. It issues nothing after that: then a report is refused with HLC_RETIRED.
   std::vector<routed_item> report_all(std::uint64_t reading) {
     machine next(*this);
     std::vector<routed_item> made;
+    const bool is_over = has_retired();
     for (std::size_t store = 0; store < nodes_.size(); store++) {
+      if (nodes_[store].retired() && !is_over) continue;
       const item report = next.act(store, [&](node& acting) { return acting.report(reading); });
       made.push_back({store, {report, item_kind::report, {}, {}}});
     }
@@ -186,6 +188,11 @@ class machine {
 
   machine(hlcstore::division divided, std::uint16_t id, timestamp start)
       : division_(std::move(divided)), id_(id), last_(start), nodes_(division_.stores(), node(id, start)) {}
+
+  // Whether it retired from all stores.
+  bool has_retired() const noexcept {
+    return std::all_of(nodes_.begin(), nodes_.end(), [](const node& one) { return one.retired(); });
+  }
 
   hlcstore::division division_;
   std::uint16_t id_;
@@ -342,7 +349,7 @@ class ranges {
 
   // Opens the stores from their checkpoints, without the snapshots that were open then. The division must be that of
   // the stores that were saved, which nothing checks. Throws std::invalid_argument where it has another number of
-  // stores.
+  // stores, or the stores have differing numbers of nodes: not all checkpoints are of one call then.
   static ranges restore(hlcstore::division divided, const std::vector<std::string>& checkpoints) {
     if (checkpoints.size() != divided.stores())
       throw std::invalid_argument("there must be one checkpoint for each store");
@@ -352,6 +359,8 @@ class ranges {
       one.restore(saved);
       one.close_all();
       restored.stores_.emplace_back(std::move(one));
+      if (restored.stores_.back().nodes() != restored.stores_.front().nodes())
+        throw std::invalid_argument("the checkpoints have differing numbers of nodes");
     }
     return restored;
   }
@@ -474,10 +483,12 @@ class ranges {
     });
   }
 
-  // The same of its reports, or of its last items, for each store in turn. Where it throws, the stores before that one
-  // have theirs, as the machine knows, and it may be called again.
+  // The same of its reports, or of its last items, for each store in turn from which it has not retired. Where it
+  // throws, the stores before that one have theirs, as the machine knows, and it may be called again.
   void report_all(hlcstore::machine& by, std::uint64_t reading) {
+    const bool is_over = by.has_retired();
     for (std::size_t store = 0; store < stores(); store++) {
+      if (by.nodes_.at(store).retired() && !is_over) continue;
       by.act(store, [&](node& acting) {
         stores_[store].accept_report(acting.report(reading));
         return true;
@@ -529,13 +540,34 @@ class ranges {
   }
 
   // A checkpoint of each store, one after another, with the cut before the first as the tag. Each has at least all up
-  // to that cut, so that what `restore` makes of them answers there as these stores do.
+  // to that cut, no horizon above it, and the same nodes, so that what `restore` makes of them answers there as these
+  // stores do. Where a machine joins meanwhile, or a vacuum goes past the cut, all are made anew. Throws
+  // HLC_BELOW_HORIZON where vacuums overtook it eight times, and HLC_NO_NODE where some stores lack a node that others
+  // have, after a join that ended with HLC_NO_MEMORY.
   std::vector<std::string> checkpoint() const {
-    const timestamp before = cut();
-    std::vector<std::string> saved;
-    saved.reserve(stores());
-    for (const shared_store& one : stores_) saved.push_back(one.checkpoint(before.word));
-    return saved;
+    for (int left = 8;;) {
+      const std::uint64_t machines = nodes();
+      const timestamp tag = cut();
+      timestamp horizon;
+      bool has_joined = false;
+      std::vector<std::string> saved;
+      saved.reserve(stores());
+      for (const shared_store& one : stores_) {
+        saved.push_back(one.read([&](const store& asked) {
+          horizon = std::max(horizon, asked.horizon());
+          has_joined = has_joined || asked.nodes() != machines;
+          return has_joined || horizon > tag ? std::string() : asked.checkpoint(tag.word);
+        }));
+      }
+      if (has_joined) {
+        // A join gives its node to all stores at once, so one failed midway where the least number did not rise.
+        if (nodes() == machines) throw error(HLC_NO_NODE);
+      } else if (horizon <= tag) {
+        return saved;
+      } else if (--left == 0) {
+        throw error(HLC_BELOW_HORIZON, horizon.word);
+      }
+    }
   }
 
  private:

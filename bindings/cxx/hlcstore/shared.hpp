@@ -292,8 +292,10 @@ class shared_store {
   [[nodiscard]] answer check_vacuum(timestamp stamp) const { return ask(&store::check_vacuum, stamp); }
   certified certificate(timestamp stamp) const { return ask(&store::certificate, stamp); }
   std::string checkpoint(std::uint64_t tag) const { return ask(&store::checkpoint, tag); }
+  // Readers go on while the stream is written; changes wait, and so does another such call.
   void checkpoint_to(std::ostream& out, std::uint64_t tag) const {
-    read([&](const store& asked) { asked.checkpoint_to(out, tag); });
+    const std::unique_lock lock = get().mutex.lock_for_long();
+    std::as_const(get().store).checkpoint_to(out, tag);
   }
   std::string increment(timestamp since, std::uint64_t tag) const { return ask(&store::increment, since, tag); }
 

@@ -25,10 +25,13 @@ inline std::size_t slot_of_thread() noexcept {
 // Readers keep no writer waiting for good: it counts itself first, and then takes the gate, which it keeps. A reader
 // that sees the count locks its slot behind the gate, so that only readers who came before the writer go first. Readers
 // of one slot still run beside each other.
+//
+// A long reader keeps writers out by a mutex of its own, where they wait before they take the gate: so others go on.
 class slot_mutex {
  public:
   void lock() {
     writers_.fetch_add(1, std::memory_order_relaxed);
+    long_reader_.lock();
     gate_.lock();
     for (slot& one : slots_) one.mutex.lock();
   }
@@ -36,6 +39,7 @@ class slot_mutex {
     for (slot& one : slots_) one.mutex.unlock();
     writers_.fetch_sub(1, std::memory_order_relaxed);
     gate_.unlock();
+    long_reader_.unlock();
   }
 
   void lock_shared() {
@@ -52,6 +56,9 @@ class slot_mutex {
   }
   void unlock_shared() { slots_[slot_of_thread()].mutex.unlock_shared(); }
 
+  // Keeps writers out, and other long readers, for as long as what it returns is there.
+  std::unique_lock<std::mutex> lock_for_long() { return std::unique_lock(long_reader_); }
+
   // Lets the readers in that wait at the gate. For a writer between two long turns: the gate is no queue, and a writer
   // that comes back at once would be there before them.
   void let_readers_in() const {
@@ -67,6 +74,7 @@ class slot_mutex {
   alignas(128) std::atomic<unsigned> writers_{0};
   std::atomic<unsigned> held_{0};
   alignas(128) std::mutex gate_;
+  std::mutex long_reader_;
 };
 
 }  // namespace hlcstore::detail

@@ -364,8 +364,8 @@ class store {
     return static_cast<std::uint16_t>(found.word);
   }
 
-  // The stored rows of a key above one stamp and at or below another, the newest first. From the horizon on these are
-  // all accepted writes of the key; below it, those that vacuums kept.
+  // The stored rows of a key above one stamp and at or below another, the newest first. Above the horizon these are all
+  // accepted writes of the key; at and below it, those that vacuums kept.
   std::vector<key_version> versions(std::string_view key, timestamp above = {}, timestamp to = {UINT64_MAX}) const {
     hlc_store mine = copy();
     std::size_t many = 0;

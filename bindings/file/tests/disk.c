@@ -57,6 +57,43 @@ static void synced_rows_are_never_lost_silently(void)
     }
 }
 
+/* Fills the write-ahead log until it is moved into the file, where the disk forgets the root of `log`, and writes on,
+ * over what was moved. The process ends early. */
+static void move_without_root(void)
+{
+    enum { ROOT = 2 * 4096 }; /* behind the first page, and that of `state` */
+    static uint8_t value[60000];
+    hlc_file_batch *batch;
+    uint64_t stamp, l = 0;
+    hlc_file *file = opened(PATH);
+    while (l < 100) put(file, ++l, "a", "a write, of which a page has some forty");
+    EXPECT(hlc_file_batch_new(&batch), HLC_OK);
+    for (int i = 0; i < 300; i++) EXPECT(hlc_file_batch_put(batch, BYTES("b"), value, sizeof value), HLC_OK);
+    shim.forgotten = ROOT;
+    EXPECT(hlc_file_append(file, 0, ++l, batch, 0, &stamp), HLC_OK);
+    shim.forgotten = 0;
+    put(file, ++l, "a", "last");
+    _exit(wrong);
+}
+
+/* The row of `state` names the last log row before a long write-ahead log is moved, so that what is forgotten there is
+ * missed. */
+static void a_long_log_is_moved_behind_its_state(void)
+{
+    hlc_file *file;
+    hlc_file_state state;
+    int status;
+    shim_set(NO_FAULT, false, 0, 0);
+    EXPECT(hlc_file_close(opened(fresh(PATH))), HLC_OK);
+    pid_t child = fork();
+    if (child == 0) move_without_root();
+    waitpid(child, &status, 0);
+    EXPECT(status, 0);
+    HOLDS(open_as_is(&file, &state) != HLC_OK);
+    HOLDS(state.failure == HLC_FILE_NO_CHECKPOINT || state.failure == HLC_FILE_CORRUPT);
+    hlc_file_close(file);
+}
+
 /* Power is lost, with all that is not synced. */
 static void lose_power(hlc_file *file)
 {
@@ -88,6 +125,33 @@ static void a_vacuum_outlives_a_loss_of_power(void)
     EXPECT_VALUE(file, AT(3), "a", "refused 9");
     EXPECT_VALUE(file, AT(4), "a", "x");
     hlc_file_close(file);
+}
+
+/* The stamp of a vacuum that the disk refused is nowhere: no later batch brings it to disk. */
+static void a_refused_vacuum_leaves_no_threshold(void)
+{
+    uint64_t word, kept, bytes, dropped, stamp;
+    uint32_t refused = 0;
+    bool met = true;
+    for (long at = 1; met; at++) {
+        shim_set(NO_FAULT, false, 0, 0);
+        hlc_file *file = opened(fresh(PATH));
+        for (uint64_t l = 1; l <= 5; l++) put(file, l, "a", l == 3 ? "three" : "x");
+        shim_set(FAILS, false, at, 0);
+        uint32_t answer = hlc_file_vacuum_to(file, AT(4), &word, &kept, &bytes, &dropped);
+        met = shim.met;
+        shim_set(NO_FAULT, false, 0, 0);
+        bool goes_on = put_at(file, 6, "a", "six", &stamp) == HLC_OK;
+        refused += answer != HLC_OK && goes_on;
+        for (int i = 0; i < 2 && goes_on; i++) {
+            EXPECT_VALUE(file, AT(3), "a", answer == HLC_OK ? "refused 9" : "three");
+            EXPECT_VALUE(file, 0, "a", "six");
+            hlc_file_close(file);
+            file = opened(PATH);
+        }
+        hlc_file_close(file);
+    }
+    HOLDS(refused > 0);
 }
 
 /* A checkpoint that is refused has no place, also where only what it makes needless could not be cut. */
@@ -166,6 +230,33 @@ static void a_log_that_cannot_be_lengthened_grows(void)
         /* The log is lengthened by eight writes. */
         EXPECT(left, 8);
     }
+}
+
+/* A checkpoint in the background for which there is no room is not tried again at once, but after some more log. */
+static void a_refused_checkpoint_waits_for_more_log(void)
+{
+    enum { BYTES_DUE = 2 << 20 };
+    static char value[60000];
+    uint64_t l = 0;
+    shim_set(NO_FAULT, false, 0, 0);
+    memset(value, 'v', sizeof value - 1);
+    hlc_file *file = opened_with(fresh(PATH), (hlc_file_options){ .checkpoint_bytes = BYTES_DUE });
+    while (state_of(file).log_bytes + sizeof value < BYTES_DUE) put(file, ++l, "a", value);
+    /* The write-ahead log has room for one more write, and for none of the last pieces. */
+    limit_files((rlim_t)log_len(WAL));
+    put(file, ++l, "a", value);
+    for (int i = 0; i < 1000 && state_of(file).background == HLC_OK; i++) usleep(10000);
+    HOLDS(state_of(file).background == HLC_FILE_FULL || state_of(file).background == HLC_FILE_IO);
+    long done = shim.done;
+    for (int i = 0; i < 100 && shim.done == done; i++) usleep(10000);
+    EXPECT(shim.done, done);
+    EXPECT(state_of(file).writes, HLC_OK);
+    limit_files(0);
+    uint64_t enough = l + BYTES_DUE / 4 / sizeof value + 2;
+    while (l < enough) put(file, ++l, "a", value);
+    for (int i = 0; i < 1000 && state_of(file).checkpoint_place == 0; i++) usleep(10000);
+    HOLDS(state_of(file).checkpoint_place > 0);
+    EXPECT(hlc_file_close(file), HLC_OK);
 }
 
 /* Opens a copy of the file that was left, whose log is cut at a length, or has a byte of rubbish there. Returns how
@@ -266,11 +357,14 @@ static void a_long_log_is_read_without_a_thread(void)
 
 static const struct test TESTS[] = {
     TEST(synced_rows_are_never_lost_silently),
+    TEST(a_long_log_is_moved_behind_its_state),
     TEST(a_vacuum_outlives_a_loss_of_power),
+    TEST(a_refused_vacuum_leaves_no_threshold),
     TEST(a_refused_checkpoint_has_no_place),
     TEST(a_folder_is_synced),
     TEST(a_log_is_lengthened_before_it_is_full),
     TEST(a_log_that_cannot_be_lengthened_grows),
+    TEST(a_refused_checkpoint_waits_for_more_log),
     TEST(a_log_ends_where_its_last_commit_does),
     TEST(a_long_log_is_read_without_a_thread),
 };

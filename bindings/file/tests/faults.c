@@ -59,7 +59,7 @@ static bool retire_others(void)
 {
     hlc_store mine;
     uint64_t nodes, next, head, stamp;
-    bool retired;
+    bool retired = false;
     hlc_file_read_begin(file, &mine);
     EXPECT(hlc_store_nodes(&mine, &nodes), HLC_OK);
     EXPECT(hlc_store_link(&mine, (uint16_t)(nodes - 1), &next, &head, &retired), HLC_OK);

@@ -268,7 +268,7 @@ static void compare_nodes(void)
     HOLDS(many == nodes || many == nodes + 1);
     nodes = many;
     for (uint64_t i = 0; i < nodes; i++) {
-        bool has;
+        bool has = false;
         EXPECT(hlc_store_link(&mine, (uint16_t)i, &next, &head, &has), HLC_OK);
         HOLDS(has || !retired[i]);
         retired[i] = has;

@@ -271,6 +271,57 @@ static bool make_refused(size_t at, size_t number)
     return refused;
 }
 
+static const char LONG_KEY[] = "a key of some length, for which the store makes a request of its own";
+
+/* Leaves a write on disk for which the store had no memory, and returns its stamp. */
+static uint64_t leave_behind(void)
+{
+    uint64_t stamp;
+    bool refused = true;
+    for (size_t number = 1; refused; number++) {
+        copy_begin();
+        file = opened(PATH);
+        refuse(number);
+        uint32_t answer = put_at(file, 50, LONG_KEY, "x", &stamp);
+        refused = was_refused();
+        if (answer == HLC_FILE_LATER) return stamp;
+        hlc_file_close(file);
+    }
+    puts("no write stays behind");
+    exit(1);
+}
+
+/* Opening a snapshot at the stamp that the write returned accepts it first. */
+static void read_behind(void)
+{
+    uint64_t stamp = leave_behind();
+    EXPECT(stamp, AT(50));
+    EXPECT_VALUE(file, stamp, LONG_KEY, "x");
+    EXPECT(state_of(file).waiting, 0);
+    EXPECT(hlc_file_close(file), HLC_OK);
+}
+
+/* A write that is refused, since there is still no memory for the one before it, leaves that one as it is: the next
+ * write comes after both. */
+static void refuse_behind(void)
+{
+    uint64_t stamp;
+    leave_behind();
+    /* The first request is for the write's own record. */
+    refuse(2);
+    EXPECT(put_at(file, 60, "next", "y", &stamp), HLC_NO_MEMORY);
+    HOLDS(was_refused());
+    EXPECT(state_of(file).waiting, 1);
+    put(file, 60, "next", "z");
+    for (int i = 0; i < 2; i++) {
+        EXPECT(state_of(file).waiting, 0);
+        EXPECT_VALUE(file, 0, LONG_KEY, "x");
+        EXPECT_VALUE(file, 0, "next", "z");
+        EXPECT(hlc_file_close(file), HLC_OK);
+        if (i == 0) file = opened(PATH);
+    }
+}
+
 /* Opens a file whose log two threads read and apply, where a request is refused, and then again. */
 static void open_long(void)
 {
@@ -318,6 +369,9 @@ int main(void)
         }
         HOLDS(!refused);
     }
+    snprintf(name, sizeof name, "a write that stayed behind");
+    read_behind();
+    refuse_behind();
     snprintf(name, sizeof name, "open a long log");
     open_long();
     hlc_file_batch_drop(batch);

@@ -511,7 +511,7 @@ static void a_second_opening_is_refused(void)
     hlc_file_state state = { 0 };
     put(file, 1, "a", "one");
     EXPECT(hlc_file_open(PATH, NULL, &second, &state), HLC_FILE_IN_USE);
-    HOLDS(symlink(PATH, "link.hlc") == 0);
+    HOLDS(symlink(PATH, fresh("link.hlc")) == 0);
     EXPECT(hlc_file_open("link.hlc", NULL, &second, &state), HLC_FILE_IN_USE);
     unlink("link.hlc");
     pid_t child = fork();
@@ -524,14 +524,14 @@ static void a_second_opening_is_refused(void)
     hlc_file_close(opened(PATH));
 }
 
-/* Leaves a file whose last write is in its write-ahead log alone. */
+/* Leaves a file whose writes, all synced, are in its write-ahead log alone. */
 static void leave_a_log(void)
 {
     fresh(PATH);
     pid_t child = fork();
     if (child == 0) {
         hlc_file *file = opened(PATH);
-        put(file, 1, "a", "one");
+        for (uint64_t l = 1; l <= 50; l++) put(file, l, "a", "one");
         _exit(wrong);
     }
     int status;
@@ -585,6 +585,67 @@ static void a_log_without_its_file_is_refused(void)
     hlc_file_close(file);
 }
 
+/* Names of the file: a link, a link to it from another folder, and one of no folder. */
+static const char *const LINKS[] = { "link.hlc", "folder/link.hlc", "whole.hlc" };
+enum { MANY_LINKS = sizeof LINKS / sizeof *LINKS };
+
+static void make_links(void)
+{
+    char *whole = NULL, *here = realpath(".", NULL);
+    HOLDS(here && asprintf(&whole, "%s/%s", here, PATH) > 0);
+    mkdir("folder", 0700);
+    for (int i = 0; i < MANY_LINKS; i++) fresh(LINKS[i]);
+    HOLDS(symlink(PATH, LINKS[0]) == 0 && symlink("../link.hlc", LINKS[1]) == 0 && symlink(whole, LINKS[2]) == 0);
+    free(whole);
+    free(here);
+}
+
+/* SQLite follows a link whose file is missing, and would delete the write-ahead log beside that. */
+static void a_log_of_a_missing_file_is_found_by_links(void)
+{
+    hlc_file *file;
+    hlc_file_state state = { 0 };
+    leave_a_log();
+    make_links();
+    copy("opening.hlc-wal", "before-wal");
+    HOLDS(rename(PATH, "before") == 0);
+    for (int i = 0; i < MANY_LINKS; i++) {
+        EXPECT(hlc_file_open(LINKS[i], NULL, &file, &state), HLC_FILE_CORRUPT);
+        hlc_file_close(file);
+        HOLDS(same("opening.hlc-wal", "before-wal"));
+    }
+    HOLDS(access(PATH, F_OK) != 0);
+    HOLDS(rename("before", PATH) == 0);
+    file = opened(LINKS[1]);
+    EXPECT(state_of(file).place, 50);
+    EXPECT_VALUE(file, 0, "a", "one");
+    hlc_file_close(file);
+}
+
+/* A file that is made by a link has the lock of its own name, which all its names share. */
+static void a_file_made_by_a_link_has_one_lock(void)
+{
+    char lock[64];
+    hlc_file *second;
+    hlc_file_options options = { .flags = HLC_FILE_MUST_EXIST };
+    make_links();
+    for (int i = 0; i < MANY_LINKS; i++) {
+        fresh(PATH);
+        EXPECT(hlc_file_open(LINKS[i], &options, &second, NULL), HLC_FILE_CANNOT_OPEN);
+        hlc_file *file = opened(LINKS[i]);
+        HOLDS(state_of(file).created == 1 && access(PATH, F_OK) == 0 && access("opening.hlc-lock", F_OK) == 0);
+        snprintf(lock, sizeof lock, "%s-lock", LINKS[i]);
+        HOLDS(access(lock, F_OK) != 0);
+        EXPECT(hlc_file_open(PATH, NULL, &second, NULL), HLC_FILE_IN_USE);
+        for (int j = 0; j < MANY_LINKS; j++) EXPECT(hlc_file_open(LINKS[j], NULL, &second, NULL), HLC_FILE_IN_USE);
+        put(file, 1, "a", "one");
+        hlc_file_close(file);
+    }
+    HOLDS(symlink("circle.hlc", fresh("circle.hlc")) == 0 && symlink("nowhere/file", fresh("lost.hlc")) == 0);
+    EXPECT(hlc_file_open("circle.hlc", NULL, &second, NULL), HLC_FILE_CANNOT_OPEN);
+    EXPECT(hlc_file_open("lost.hlc", NULL, &second, NULL), HLC_FILE_CANNOT_OPEN);
+}
+
 /* A child of a fork has the descriptor of the lock too. */
 static void closing_ends_the_lock(void)
 {
@@ -627,6 +688,8 @@ static const struct test TESTS[] = {
     TEST(a_lock_dies_with_its_process),
     TEST(a_second_hard_link_is_refused),
     TEST(a_log_without_its_file_is_refused),
+    TEST(a_log_of_a_missing_file_is_found_by_links),
+    TEST(a_file_made_by_a_link_has_one_lock),
     TEST(closing_ends_the_lock),
 };
 

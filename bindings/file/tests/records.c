@@ -68,7 +68,7 @@ static size_t put_record(const struct links *links, uint8_t *bytes)
 static void compare(hlc_store *store, struct links *links)
 {
     uint8_t bytes[LEN + 100];
-    struct links made;
+    struct links made = { 0 };
     struct record record;
     size_t len = 0, used, many, taken = 0, at = 0;
     uint64_t threshold, word, our_word = 0;

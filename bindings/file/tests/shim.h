@@ -31,6 +31,7 @@ static struct {
     bool met;     /* whether the fault came */
     bool is_sync; /* and at a sync */
     bool is_room; /* and at a write of zeros, which makes room in the write-ahead log */
+    sqlite3_int64 forgotten; /* the place of a page of the database whose writes are forgotten too, or 0 */
 } shim;
 
 /* ---- What is on disk ---- */
@@ -206,9 +207,11 @@ static int shim_write(sqlite3_file *file, const void *bytes, int len, sqlite3_in
     if (shim.met && !had_met) shim.is_room = makes_room(bytes, len);
     int code = fault == IS_FULL ? SQLITE_FULL : SQLITE_IOERR_WRITE;
     if (fault == FAILS || fault == IS_FULL || fault == LOSES_POWER) return code;
-    if (fault == IS_FORGOTTEN) return SQLITE_OK;
+    const char *path = ((struct shim_file *)file)->path;
+    bool is_page = shim.forgotten > 0 && at == shim.forgotten && !strstr(path, "-wal");
+    if (fault == IS_FORGOTTEN || is_page) return SQLITE_OK;
     if (fault == FAILS_SHORT) len /= 2;
-    keep(kept_of(((struct shim_file *)file)->path), false, at, bytes, len);
+    keep(kept_of(path), false, at, bytes, len);
     int real = CALL(file, xWrite, bytes, len, at);
     return fault == NO_FAULT ? real : code;
 }

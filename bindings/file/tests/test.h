@@ -4,10 +4,12 @@
 #define _GNU_SOURCE
 #include "hlcstore_file.h"
 #include <inttypes.h>
+#include <signal.h>
 #include <sqlite3.h>
 #include <stdio.h>
 #include <stdlib.h>
 #include <string.h>
+#include <sys/resource.h>
 #include <unistd.h>
 
 #define BYTES(text) (const uint8_t *)(text), strlen(text)
@@ -131,6 +133,16 @@ static inline int ended(void)
 {
     if (wrong == 0) puts("all right");
     return wrong != 0;
+}
+
+/* Files of limited length are as a full disk. 0: no limit. */
+static inline void limit_files(rlim_t bytes)
+{
+    struct rlimit limit;
+    signal(SIGXFSZ, SIG_IGN);
+    getrlimit(RLIMIT_FSIZE, &limit);
+    limit.rlim_cur = bytes == 0 ? limit.rlim_max : bytes;
+    HOLDS(setrlimit(RLIMIT_FSIZE, &limit) == 0);
 }
 
 struct test {

@@ -1,7 +1,6 @@
 /* A test of each decision of the calls, on files in the current folder. Those of an opening are in opening.c. */
 #include "test.h"
-#include <signal.h>
-#include <sys/resource.h>
+#include <sys/syscall.h>
 #include <sys/wait.h>
 #include <time.h>
 
@@ -73,6 +72,33 @@ static void the_system_clock_serves(void)
     EXPECT(put_at(file, 1, "a", "two", &later), HLC_OK);
     EXPECT(hlc_file_receive(file, 0, AT(far + 9) + 0xffff, HLC_FILE_NOW, &later), HLC_OK);
     EXPECT(later, AT(far + 10));
+    hlc_file_close(file);
+}
+
+static uint64_t set_clock; /* in milliseconds, or 0: the system's */
+
+/* In place of that of the system. */
+int clock_gettime(clockid_t clock, struct timespec *now)
+{
+    if (set_clock == 0) return (int)syscall(SYS_clock_gettime, clock, now);
+    *now = (struct timespec){ (time_t)(set_clock / 1000), (long)(set_clock % 1000) * 1000000 };
+    return 0;
+}
+
+/* A counter has 65,536 values. An event for which none is left in the clock's own millisecond takes the next one. */
+static void a_full_counter_refuses_no_write_at_the_clock(void)
+{
+    uint64_t stamp;
+    hlc_file *file = opened(fresh(PATH));
+    set_clock = 5000;
+    EXPECT(hlc_file_receive(file, 0, AT(5000) + 0xfffe, HLC_FILE_NOW, &stamp), HLC_OK);
+    EXPECT(stamp, AT(5000) + 0xffff);
+    EXPECT(put_at(file, HLC_FILE_NOW, "a", "one", &stamp), HLC_OK);
+    EXPECT(stamp, AT(5001));
+    set_clock = 5002;
+    EXPECT(hlc_file_receive(file, 0, AT(5002) + 0xffff, HLC_FILE_NOW, &stamp), HLC_OK);
+    EXPECT(stamp, AT(5003));
+    set_clock = 0;
     hlc_file_close(file);
 }
 
@@ -494,29 +520,40 @@ static void a_policy_makes_checkpoints(void)
     hlc_file_close(file);
 }
 
-/* ---- A full disk ---- */
-
-static void limit_files(rlim_t bytes)
+/* After a checkpoint of many bytes, the next one in the background waits for half as many of log. */
+static void a_large_store_is_not_saved_often(void)
 {
-    struct rlimit limit;
-    getrlimit(RLIMIT_FSIZE, &limit);
-    limit.rlim_cur = bytes == 0 ? limit.rlim_max : bytes;
-    HOLDS(setrlimit(RLIMIT_FSIZE, &limit) == 0);
+    static char value[50000];
+    uint64_t place, l = 0;
+    memset(value, 'v', sizeof value - 1);
+    hlc_file *file = opened(fresh(PATH));
+    while (l < 20) put(file, ++l, "a", value);
+    EXPECT(hlc_file_checkpoint(file, &place), HLC_OK);
+    EXPECT(place, 20);
+    for (uint64_t many = 40; many <= 60; many += 20) {
+        hlc_file_close(file);
+        file = opened_with(PATH, (hlc_file_options){ .checkpoint_bytes = 1000 });
+        while (l < many) put(file, ++l, "small", "a write of more bytes than a twentieth of 1000");
+        usleep(50000);
+        EXPECT(state_of(file).checkpoint_place, 20);
+    }
+    EXPECT(hlc_file_close(file), HLC_OK);
 }
+
+/* ---- A full disk ---- */
 
 static bool is_of_disk(uint32_t answer)
 {
     return answer == HLC_FILE_FULL || answer == HLC_FILE_IO;
 }
 
-/* Files of limited length are as a full disk. When there is room again, writes go on. */
+/* When there is room again, writes go on. */
 static void a_full_disk_refuses(void)
 {
     char key[16];
     static char value[10000];
     uint32_t answer = HLC_OK;
     uint64_t l = 0, stamp, place;
-    signal(SIGXFSZ, SIG_IGN);
     memset(value, 'v', sizeof value - 1);
     for (rlim_t bytes = 200000; bytes < 212000; bytes += 1111) {
         hlc_file *file = opened(fresh(PATH));
@@ -606,6 +643,7 @@ static const struct test TESTS[] = {
     TEST(stamps_rise_over_openings),
     TEST(messages_share_a_written_clock),
     TEST(the_system_clock_serves),
+    TEST(a_full_counter_refuses_no_write_at_the_clock),
     TEST(nodes_join_and_retire),
     TEST(refused_writes_change_nothing),
     TEST(a_batch_is_one_row),
@@ -620,6 +658,7 @@ static const struct test TESTS[] = {
     TEST(a_vacuum_by_age),
     TEST(reading_calls_are_those_of_the_store),
     TEST(a_policy_makes_checkpoints),
+    TEST(a_large_store_is_not_saved_often),
     TEST(a_full_disk_refuses),
     TEST(a_copy_opens_in_memory),
     TEST(each_answer_has_a_name_and_a_text),

@@ -5,9 +5,9 @@ import "C"
 
 import "runtime"
 
-// A Batch is writes and deletions that [File.Append] or [File.WriteBatch] takes at once, at most 64 MiB; a write takes
-// 22 bytes beside its key and its value. The zero Batch is empty. It is for one goroutine at a time, and must not be
-// copied while it is used.
+// A Batch is writes and deletions, at most 64 MiB; a write takes 24 bytes beside its key and its value.
+// [File.WriteBatch] gives all of them one stamp, and [File.Append] each a stamp of its own. The zero Batch is empty. It
+// is for one goroutine at a time, and must not be copied while it is used.
 //
 // Its memory is in C until Close; the garbage collector frees that of a forgotten one, at some time.
 type Batch struct{ owned *rawBatch }

@@ -1,5 +1,5 @@
-// Package file is a store of package hlcstore in one file: a batch is on disk before the store accepts it, whole or not
-// at all. It calls libhlcstore-file, which keeps a log and checkpoints by SQLite.
+// Package file is a store of package hlcstore in one file: a batch is on disk, all of it, before the store accepts it.
+// It calls libhlcstore-file, which keeps a log and checkpoints by SQLite.
 //
 // A [File] and its snapshots are safe for concurrent use. Reads do not wait for the disk. A [Batch] is for one
 // goroutine at a time. Stamps count milliseconds since 1970, as [hlcstore.Reading] does.

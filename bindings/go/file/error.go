@@ -15,21 +15,21 @@ type Code uint32
 
 // What a file answers beside the refusals of package hlcstore.
 const (
-	ErrInUse        = Code(C.HLC_FILE_IN_USE)        // another process, or this one, has the file open
-	ErrCannotOpen   = Code(C.HLC_FILE_CANNOT_OPEN)   // the path or its lock file cannot be opened, or has several links
-	ErrNotOurs      = Code(C.HLC_FILE_NOT_OURS)      // another application's file, which is unchanged
-	ErrNewer        = Code(C.HLC_FILE_NEWER)         // made by a newer library; word: the version of its schema
-	ErrBadOption    = Code(C.HLC_FILE_BAD_OPTION)    // an option or a promise is out of range
-	ErrFull         = Code(C.HLC_FILE_FULL)          // the disk is full
-	ErrIO           = Code(C.HLC_FILE_IO)            // the disk failed
-	ErrCorrupt      = Code(C.HLC_FILE_CORRUPT)       // SQLite's structure is damaged or the file missing beside its log
-	ErrDamagedLog   = Code(C.HLC_FILE_DAMAGED_LOG)   // a log row is missing or altered; word: its place
-	ErrNoCheckpoint = Code(C.HLC_FILE_NO_CHECKPOINT) // no checkpoint is whole, nor the log; word: how many are damaged
-	ErrUnknown      = Code(C.HLC_FILE_UNKNOWN)       // whether the batch is on disk is not known now; it is not visible
-	ErrSealed       = Code(C.HLC_FILE_SEALED)        // no writes are taken until the file is opened again; reads go on
-	ErrLater        = Code(C.HLC_FILE_LATER)         // the batch is on disk and visible later: do not append it again
-	ErrTooLong      = Code(C.HLC_FILE_TOO_LONG)      // a batch would have more than 64 MiB
-	ErrNoStamp      = Code(C.HLC_FILE_NO_STAMP)      // no stamp is so old
+	ErrInUse             = Code(C.HLC_FILE_IN_USE)        // another process, or this one, has the file open
+	ErrCannotOpen        = Code(C.HLC_FILE_CANNOT_OPEN)   // the path or its lock cannot be opened, or has several links
+	ErrNotOurs           = Code(C.HLC_FILE_NOT_OURS)      // another application's file, which is unchanged
+	ErrNewer             = Code(C.HLC_FILE_NEWER)         // made by a newer library; word: the version of its schema
+	ErrBadOption         = Code(C.HLC_FILE_BAD_OPTION)    // an option or a promise is out of range
+	ErrFull              = Code(C.HLC_FILE_FULL)          // the disk is full
+	ErrIO                = Code(C.HLC_FILE_IO)            // the disk failed
+	ErrCorrupt           = Code(C.HLC_FILE_CORRUPT)       // SQLite's structure is damaged, or only its log is there
+	ErrDamagedLog        = Code(C.HLC_FILE_DAMAGED_LOG)   // a log row is missing or altered; word: its place
+	ErrNoWholeCheckpoint = Code(C.HLC_FILE_NO_CHECKPOINT) // none is whole, nor the log; word: how many are damaged
+	ErrUnknown           = Code(C.HLC_FILE_UNKNOWN)       // whether the batch is on disk is not known; it is not visible
+	ErrSealed            = Code(C.HLC_FILE_SEALED)        // no writes until the file is opened again; reads go on
+	ErrLater             = Code(C.HLC_FILE_LATER)         // the batch is on disk and visible later: do not append it again
+	ErrTooLong           = Code(C.HLC_FILE_TOO_LONG)      // a batch would have more than 64 MiB
+	ErrNoStamp           = Code(C.HLC_FILE_NO_STAMP)      // no stamp is so old
 )
 
 // Name returns the name of the answer in hlcstore_file.h, or nothing for an unknown number.
@@ -50,7 +50,7 @@ type Error struct {
 // Error returns the text of the answer, and its word where it has one.
 func (e *Error) Error() string {
 	switch e.Code {
-	case ErrNewer, ErrDamagedLog, ErrNoCheckpoint:
+	case ErrNewer, ErrDamagedLog, ErrNoWholeCheckpoint:
 		return fmt.Sprintf("%v (%d)", e.Code, e.Word)
 	}
 	return e.Code.Error()

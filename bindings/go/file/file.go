@@ -68,7 +68,7 @@ var closedFile File
 // it. No snapshot is open then.
 //
 // Errors: ErrInUse, ErrCannotOpen, ErrNotOurs, ErrNewer, ErrBadOption, ErrFull, ErrIO, ErrCorrupt, ErrDamagedLog,
-// ErrNoCheckpoint, and ErrNoMemory of package hlcstore.
+// ErrNoWholeCheckpoint, and ErrNoMemory of package hlcstore.
 func Open(path string, options *Options) (*File, error) {
 	if strings.IndexByte(path, 0) >= 0 {
 		return nil, &Error{Code: ErrCannotOpen}

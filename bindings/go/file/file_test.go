@@ -102,6 +102,10 @@ func TestBatchIsThereAfterAReopening(t *testing.T) {
 	f := open(t, path, nil)
 	first := put(t, f, 10, "city", "Lyon", "lake", "Como")
 	equal(t, first, hlcstore.MustStamp(10, 1))
+	// Each write has a stamp of its own.
+	between := must(f.SnapshotAt(at(10)))
+	equal(t, must(between.Count(nil, nil)), 1)
+	ok(t, between.Close())
 	later := put(t, f, 20, "city", "Rome")
 	equal(t, get(f, first, "city"), "Lyon")
 	equal(t, must(f.Status()).Created, true)
@@ -112,6 +116,7 @@ func TestBatchIsThereAfterAReopening(t *testing.T) {
 	equal(t, get(f, first, "city")+get(f, first, "lake")+get(f, later, "city"), "LyonComoRome")
 	state := must(f.Status())
 	equal(t, state.Created, false)
+	equal(t, state.Clock >= later, true)
 	if state.Applied == 0 || state.Failure != nil || state.Writes != nil || state.Background != nil {
 		t.Error(state)
 	}
@@ -216,6 +221,30 @@ func TestCheckpointToAWriter(t *testing.T) {
 	many, err := f.CheckpointTo(&short, 0)
 	equal(t, many, 100_000)
 	is(t, err, io.ErrShortWrite)
+}
+
+// A closer closes the file before each piece.
+type closer struct{ file *file.File }
+
+func (c closer) Write(piece []byte) (int, error) {
+	closed := make(chan error, 1)
+	go func() { closed <- c.file.Close() }()
+	select {
+	case err := <-closed:
+		return len(piece), err
+	case <-time.After(20 * time.Second):
+		return 0, errors.New("the file is in use")
+	}
+}
+
+// The bytes are a copy, which is written to its end.
+func TestWriterOfACheckpointMayCloseTheFile(t *testing.T) {
+	f := open(t, fresh(t), nil)
+	put(t, f, 1, "lake", strings.Repeat("v", 60_000), "river", strings.Repeat("v", 60_000))
+	if many := must(f.CheckpointTo(closer{f}, 0)); many <= 2*60_000 {
+		t.Error(many)
+	}
+	is(t, second(f.Floor()), hlcstore.ErrClosed)
 }
 
 func TestNodesOfAFile(t *testing.T) {
@@ -443,7 +472,7 @@ func TestErrorsAreThoseOfTheHeader(t *testing.T) {
 		"HLC_FILE_NOT_OURS": file.ErrNotOurs, "HLC_FILE_NEWER": file.ErrNewer,
 		"HLC_FILE_BAD_OPTION": file.ErrBadOption, "HLC_FILE_FULL": file.ErrFull,
 		"HLC_FILE_IO": file.ErrIO, "HLC_FILE_CORRUPT": file.ErrCorrupt, "HLC_FILE_DAMAGED_LOG": file.ErrDamagedLog,
-		"HLC_FILE_NO_CHECKPOINT": file.ErrNoCheckpoint, "HLC_FILE_UNKNOWN": file.ErrUnknown,
+		"HLC_FILE_NO_CHECKPOINT": file.ErrNoWholeCheckpoint, "HLC_FILE_UNKNOWN": file.ErrUnknown,
 		"HLC_FILE_SEALED": file.ErrSealed, "HLC_FILE_LATER": file.ErrLater, "HLC_FILE_TOO_LONG": file.ErrTooLong,
 		"HLC_FILE_NO_STAMP": file.ErrNoStamp,
 	}
@@ -537,12 +566,12 @@ func Example() {
 	defer os.RemoveAll(folder)
 	store := must(file.Open(filepath.Join(folder, "store"), nil))
 	defer store.Close()
+	then := must(store.Write(0, file.Now, []byte("city"), []byte("Lyon")))
 	var batch file.Batch
 	defer batch.Close()
-	must(0, batch.Put([]byte("city"), []byte("Lyon")))
-	then := must(store.Append(0, file.Now, &batch, file.Synced))
 	must(0, batch.Put([]byte("city"), []byte("Rome")))
-	must(store.Append(0, file.Now, &batch, file.Synced))
+	must(0, batch.Put([]byte("river"), []byte("Tiber")))
+	must(store.WriteBatch(0, file.Now, &batch, file.Synced)) // both at one stamp
 
 	past := must(store.SnapshotAt(then))
 	defer past.Close()

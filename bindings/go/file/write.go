@@ -14,8 +14,9 @@ import (
 const mostCopied = 64 << 10
 
 // Append appends a batch as items of a node, in turn, at a reading of the clock, or [Now]; and clears the batch, also
-// where the error is ErrLater. It returns the stamp of the last item, at which a snapshot has all of them. An empty
-// batch does nothing.
+// where the error is ErrLater. After a crash all of it is in the file or none. Each write has a stamp of its own, so a
+// snapshot between two of them shows a part; for one stamp use [File.WriteBatch]. It returns the stamp of the last
+// item, at which a snapshot has all of them. An empty batch does nothing.
 //
 // Refusals: ErrBadOption; ErrNoNode, ErrRetired, ErrNumbersSpent, ErrReadingTooLarge, ErrCounterFull of package
 // hlcstore.
@@ -133,8 +134,8 @@ func (f *File) Join() (uint16, hlcstore.Stamp, error) {
 	return uint16(joined.node), hlcstore.Stamp(joined.start), refusal(joined.code, 0)
 }
 
-// AppendRecords appends records as bytes, as other machines made them: all, or none where one is refused. Records that
-// came before are passed over. It returns how many records came before the refused one, or how many there are.
+// AppendRecords appends records as bytes, as other machines made them. Where one is refused, none is appended. Records
+// that came before are passed over. It returns how many records came before the refused one, or how many there are.
 //
 // Refusals: ErrBadOption, ErrTooLong; of each record those of [hlcstore.Store.ApplyRecords].
 func (f *File) AppendRecords(log []byte, promise Promise) (int, error) {

@@ -125,7 +125,8 @@ def compile_file(to):
     """Compiles the extension for files, which shares a part of the sources of the other one."""
     shared = [NATIVE / f"{name}.c" for name in ("arguments", "objects", "refusals", "writer")]
     library = find_library()
-    compile_extension(to, [HERE / "src/file/file.c", *shared], [library.file_archive, library.archive, *FILE_NEEDS])
+    sources = [*sorted((HERE / "src/file").glob("*.c")), *shared]
+    compile_extension(to, sources, [library.file_archive, library.archive, *FILE_NEEDS])
 
 
 def metadata():

@@ -2,6 +2,7 @@
 
 import copy
 import faulthandler
+import gc
 import os
 import pathlib
 import pickle
@@ -91,6 +92,30 @@ class Building(unittest.TestCase):
             Batch().item = None
 
 
+class Listing(unittest.TestCase):
+    class Ring:
+        """Garbage that writes to a batch when it is collected."""
+
+        def __init__(self, batch):
+            self.itself, self.batch = self, batch
+
+        def __del__(self):
+            for _ in range(4):
+                self.batch.write(b"new", b"v" * 60_000)
+
+    def test_a_batch_that_grows_meanwhile(self):
+        """The list is of the writes at its beginning, wherever garbage is collected."""
+        self.addCleanup(gc.set_threshold, *gc.get_threshold())
+        pairs = tuple((b"key %03d" % i, b"value %03d" % i) for i in range(60))
+        for call, expected in (lambda batch: batch.writes, pairs), (repr, f"Batch({pairs})"):
+            for _ in range(20):
+                batch = Batch(pairs)
+                gc.set_threshold(0)
+                self.Ring(batch)
+                gc.set_threshold(1, 1, 1)
+                self.assertEqual(call(batch), expected)
+
+
 class Items(unittest.TestCase):
     def test_nodes_issue_them(self):
         node = Node(3, stamp(7))
@@ -113,13 +138,14 @@ class Items(unittest.TestCase):
         self.assertEqual([item.writes for item in items], [((b"a", b"x"),), ((b"b", None),), (), ()])
 
     def test_items_are_values(self):
-        first, same = (Item.batch(node=1, number=2, stamp=3, writes=writes) for writes in (PAIRS, Batch(PAIRS)))
-        self.assertEqual((len({first, same}), repr(first)), (1, f"Item.batch(1, 2, 3, {PAIRS})"))
-        others = [Item.batch(0, 2, 3, PAIRS), Item.batch(1, 0, 3, PAIRS), Item.batch(1, 2, 0, PAIRS)]
-        others += [Item.batch(1, 2, 3, PAIRS[:2]), Item.batch(1, 2, 3, PAIRS[::-1]), Item.batch(1, 2, 3, ())]
-        for other in [*others, Item.report(1, 2, 3), Item.write(1, 2, 3, b"a", b""), PAIRS]:
+        at = stamp(3)
+        first, same = (Item.batch(node=1, number=2, stamp=at, writes=writes) for writes in (PAIRS, Batch(PAIRS)))
+        self.assertEqual((len({first, same}), repr(first)), (1, f"Item.batch(1, 2, Stamp(3, 0), {PAIRS})"))
+        others = [Item.batch(0, 2, at, PAIRS), Item.batch(1, 0, at, PAIRS), Item.batch(1, 2, stamp(0), PAIRS)]
+        others += [Item.batch(1, 2, at, PAIRS[:2]), Item.batch(1, 2, at, PAIRS[::-1]), Item.batch(1, 2, at, ())]
+        for other in [*others, Item.report(1, 2, at), Item.write(1, 2, at, b"a", b""), PAIRS]:
             self.assertNotEqual(first, other)
-        for item in [first, *others, Item.batch(1, 2, 3, TWICE)]:
+        for item in [first, *others, Item.batch(1, 2, at, TWICE)]:
             for protocol in range(2, pickle.HIGHEST_PROTOCOL + 1):
                 self.assertEqual(pickle.loads(pickle.dumps(item, protocol)), item)
             self.assertEqual((copy.copy(item), copy.deepcopy(item), eval(repr(item))), (item, item, item))
@@ -131,7 +157,7 @@ class Items(unittest.TestCase):
         item = Item.batch(2, 3, stamp(5, 4), [(b"k", b"vv"), (b"kk", None)])
         self.assertEqual((bytes(item), Item.decode(encoded)), (encoded, (item, len(encoded))))
         self.assertEqual(Item.decode(b"before" + encoded + b"after", 6), (item, 6 + len(encoded)))
-        longest = Item.batch(0, 0, 1, [(bytes([i]) * 255, bytes(65535)) for i in range(256)])
+        longest = Item.batch(0, 0, stamp(1), [(bytes([i]) * 255, bytes(65535)) for i in range(256)])
         self.assertEqual(len(bytes(longest)), 16843285)
         self.assertEqual(Item.decode(bytes(longest))[0], longest)
         store = Store(1)
@@ -139,7 +165,7 @@ class Items(unittest.TestCase):
         self.assertEqual(tuple(store.snapshot().items()), longest.writes)
 
     def test_bad_bytes_have_the_fault_that_the_library_finds(self):
-        encoded = bytes(Item.batch(0, 0, 1, PAIRS))
+        encoded = bytes(Item.batch(0, 0, stamp(1), PAIRS))
         changes = [encoded[:length] for length in range(1, len(encoded))]
         for place in range(len(encoded)):
             changes += [encoded[:place] + bytes([byte]) + encoded[place + 1 :] for byte in b"\0\1\2\3\4\xffac"]
@@ -176,7 +202,7 @@ class Items(unittest.TestCase):
             Node(0, full).write_batch(5, PAIRS)
         self.assertEqual(met.exception.word, full)
         with self.assertRaises(NumbersSpent):
-            Node.restore(0, 2**64 - 1, 2**64 - 1).write_batch(1, PAIRS)
+            Node.restore(0, Stamp.from_number(2**64 - 1), 2**64 - 1).write_batch(1, PAIRS)
         node.retire(1)
         with self.assertRaises(Retired):
             node.write_batch(2, ())
@@ -332,19 +358,19 @@ class Feeding(unittest.TestCase):
                 call(Item.batch(0, 3, stamp(8), TWICE))
         store.close()
         for call, *args in (
-            (store.accept, item), (store.check_item, item), (store.accept_batch, 0, 3, 9, TWICE),
-            (store.check_batch, 0, 3, 9, ()),
+            (store.accept, item), (store.check_item, item), (store.accept_batch, 0, 3, stamp(9), TWICE),
+            (store.check_batch, 0, 3, stamp(9), ()),
         ):  # fmt: skip
             with self.assertRaises(hlcstore.Closed):
                 call(*args)
         for call, *args in (
-            (store.accept_batch, 0, 3, 9), (store.accept_batch, 0, 3, 9, None), (store.check_batch, 0, 3, 9, [1]),
-            (Item.batch, 0, 3, 9), (Item.batch, 0, 3, 9, "ab"),
+            (store.accept_batch, 0, 3, stamp(9)), (store.accept_batch, 0, 3, stamp(9), None),
+            (store.check_batch, 0, 3, stamp(9), [1]), (Item.batch, 0, 3, stamp(9)), (Item.batch, 0, 3, stamp(9), "ab"),
         ):  # fmt: skip
             with self.assertRaises(TypeError):
                 call(*args)
         with self.assertRaises(OverflowError):
-            Item.batch(65536, 0, 0, PAIRS)
+            Item.batch(65536, 0, stamp(0), PAIRS)
 
 
 class Histories(unittest.TestCase):
@@ -465,7 +491,7 @@ class Threads(unittest.TestCase):
             with store.snapshot() as snapshot:
                 self.compare(snapshot)
                 try:
-                    with store.snapshot(max(snapshot.stamp - (3 << 16), 0)) as older:
+                    with store.snapshot(max(snapshot.stamp, stamp(3)) - (3 << 16)) as older:
                         self.compare(older)
                 except hlcstore.BelowHorizon:
                     pass
@@ -561,6 +587,19 @@ void *realloc(void *place, size_t size) { return is_refused() ? NULL : __libc_re
 """
 
 
+needs_compiler = unittest.skipUnless(
+    sys.platform == "linux" and shutil.which("cc"), "needs a C compiler, and the library of GNU"
+)
+
+
+def refusing_library(folder):
+    """Compiles that into a folder, and returns its path."""
+    library = str(pathlib.Path(folder, "refusing.so"))
+    words = ["cc", "-shared", "-fPIC", "-O1", "-x", "c", "-", "-o", library]
+    subprocess.run(words, input=REFUSING, text=True, check=True)
+    return library
+
+
 class OutOfMemory(unittest.TestCase):
     def run_program(self, program, **environment):
         words = [sys.executable, "-c", textwrap.dedent(program)]
@@ -592,25 +631,20 @@ class OutOfMemory(unittest.TestCase):
             print("all right")
         """)
 
-    @unittest.skipUnless(sys.platform == "linux" and shutil.which("cc"), "needs a C compiler, and the library of GNU")
+    @needs_compiler
     def test_each_request_is_refused_in_turn(self):
         """Of Python and of the library: after each refusal the item is issued and accepted, or nothing has changed."""
         with tempfile.TemporaryDirectory() as folder:
-            library = pathlib.Path(folder, "refusing.so")
-            compiled = subprocess.run(
-                ["cc", "-shared", "-fPIC", "-O1", "-x", "c", "-", "-o", str(library)],
-                input=REFUSING, text=True, capture_output=True,
-            )  # fmt: skip
-            self.assertEqual((compiled.returncode, compiled.stderr), (0, ""))
+            library = refusing_library(folder)
             program = """
                 import ctypes
                 import hlcstore
-                from hlcstore import Batch, Item, Node, Store
+                from hlcstore import Batch, Item, Node, Stamp, Store
 
                 refusing = ctypes.CDLL(None)
                 old = [(b"a long key that needs memory, %d" % i, b"old") for i in range(3)]
                 new = [(b"a long key that needs memory, %d" % i, b"v" * 400 if i != 4 else None) for i in range(1, 6)]
-                first = Item.batch(0, 0, 1, old)
+                first = Item.batch(0, 0, Stamp(0, 1), old)
                 expected = {**dict(old), **dict(new)}
                 del expected[new[3][0]]
 
@@ -626,7 +660,7 @@ class OutOfMemory(unittest.TestCase):
                 for call in accept, accept_block:
                     refused, unchanged = 0, 0
                     for number in range(5000):
-                        store, node = Store(1), Node(0, 1)
+                        store, node = Store(1), Node(0, Stamp(0, 1))
                         node.write(1, b"a", b"")
                         store.accept(first)
                         before = store.checkpoint()
@@ -650,7 +684,7 @@ class OutOfMemory(unittest.TestCase):
                 print("all right")
             """
             for allocator in "malloc", "pymalloc":
-                self.run_program(program, LD_PRELOAD=str(library), PYTHONMALLOC=allocator)
+                self.run_program(program, LD_PRELOAD=library, PYTHONMALLOC=allocator)
 
 
 if __name__ == "__main__":

@@ -57,14 +57,16 @@ class Items(unittest.TestCase):
         self.assertEqual((delete.key, delete.value, report.key, report.value), (b"city", None, None, None))
 
     def test_items_are_values(self):
-        first, same = (Item.write(node=1, number=2, stamp=3, key=b"a", value=b"x") for _ in range(2))
+        at = stamp(3)
+        first, same = (Item.write(node=1, number=2, stamp=at, key=b"a", value=b"x") for _ in range(2))
         self.assertEqual(len({first, same}), 1)
-        others = [Item.write(0, 2, 3, b"a", b"x"), Item.write(1, 0, 3, b"a", b"x"), Item.write(1, 2, 0, b"a", b"x")]
-        others += [Item.write(1, 2, 3, b"b", b"x"), Item.write(1, 2, 3, b"a", b"y"), Item.write(1, 2, 3, b"ax", b"")]
-        others += [Item.delete(1, 2, 3, b"a"), Item.report(1, 2, 3), Item.retire(1, 2, 3), (1, 2, 3, b"a", b"x")]
+        others = [Item.write(0, 2, at, b"a", b"x"), Item.write(1, 0, at, b"a", b"x"), Item.write(1, 2, at, b"b", b"x")]
+        others += [Item.write(1, 2, stamp(0), b"a", b"x"), Item.write(1, 2, at, b"a", b"y")]
+        others += [Item.write(1, 2, at, b"ax", b"")]
+        others += [Item.delete(1, 2, at, b"a"), Item.report(1, 2, at), Item.retire(1, 2, at), (1, 2, at, b"a", b"x")]
         for other in others:
             self.assertNotEqual(first, other)
-        self.assertEqual(repr(first), "Item.write(1, 2, 3, b'a', b'x')")
+        self.assertEqual(repr(first), "Item.write(1, 2, Stamp(3, 0), b'a', b'x')")
         self.assertEqual([repr(other)[:11] for other in others[-4:-1]], ["Item.delete", "Item.report", "Item.retire"])
         with self.assertRaises(AttributeError):
             first.stamp = 4
@@ -86,9 +88,10 @@ class Items(unittest.TestCase):
 
     def each_kind(self):
         key, value = b"k" * 255, bytes(65535)
-        items = [Item.write(0, 0, 1, b"a", b"x"), Item.write(0, 1, 2, key, value), Item.write(0, 2, 3, b"b", b"")]
-        items += [Item.delete(0, 3, 4, key), Item.report(0, 4, 5), Item.batch(0, 5, 6, [(key, value), (b"b", None)])]
-        return [*items, Item.retire(0, 6, 2**64 - 1)]
+        items = [Item.write(0, 0, stamp(1), b"a", b"x"), Item.write(0, 1, stamp(2), key, value)]
+        items += [Item.write(0, 2, stamp(3), b"b", b""), Item.delete(0, 3, stamp(4), key), Item.report(0, 4, stamp(5))]
+        items.append(Item.batch(0, 5, stamp(6), [(key, value), (b"b", None)]))
+        return [*items, Item.retire(0, 6, Stamp.from_number(2**64 - 1))]
 
     def test_bad_bytes_have_the_fault_that_the_library_finds(self):
         for item in self.each_kind():
@@ -116,7 +119,7 @@ class Items(unittest.TestCase):
             self.assertEqual(bytes(item), log[:end])
 
     def test_logs_are_read_where_they_are(self):
-        item = Item.report(1, 2, 3)
+        item = Item.report(1, 2, stamp(3))
         log = bytearray(bytes(item) + bytes(2**20))
         tracemalloc.start()
         try:
@@ -129,7 +132,7 @@ class Items(unittest.TestCase):
         log.clear()
 
     def test_items_are_pickled_and_copied(self):
-        for item in [*self.each_kind(), Item.write(0, 0, 0, b"", bytes(70_000))]:
+        for item in [*self.each_kind(), Item.write(0, 0, stamp(0), b"", bytes(70_000))]:
             for protocol in range(2, pickle.HIGHEST_PROTOCOL + 1):
                 self.assertEqual(pickle.loads(pickle.dumps(item, protocol)), item)
             self.assertEqual((copy.copy(item), copy.deepcopy(item)), (item, item))
@@ -208,7 +211,7 @@ class Feeding(unittest.TestCase):
     def test_records(self):
         first, *rest = map(bytes, self.items)
         log = first + hlcstore.threshold_record(stamp(2)) + hlcstore.join_record(2, stamp(9)) + b"".join(rest)
-        self.assertEqual(hlcstore.join_record(node=2, start=9), b"\2\0\2" + bytes(7) + b"\x09")
+        self.assertEqual(hlcstore.join_record(node=2, start=stamp(0, 9)), b"\2\0\2" + bytes(7) + b"\x09")
         self.assertEqual(hlcstore.threshold_record(stamp(1)), b"\3\0\0\0\0\0\1\0\0")
         store = Store(2)
         for kind in bytes, bytearray, memoryview:
@@ -222,7 +225,7 @@ class Feeding(unittest.TestCase):
             store.apply_records(hlcstore.join_record(4, stamp(9)))
         self.assertEqual((met.exception.word, store.nodes), (3, 3))
         with self.assertRaises(OverflowError):
-            hlcstore.join_record(1 << 16, 0)
+            hlcstore.join_record(1 << 16, stamp(0))
 
     def test_nodes_join(self):
         store, node = filled([(b"a", b"x")])
@@ -290,6 +293,15 @@ class Snapshots(unittest.TestCase):
         self.assertEqual([next(items) for _ in range(10)], pairs[:10])
         self.assertEqual(list(items), pairs[10:])
         self.assertEqual(list(items), [])
+
+    def test_the_last_pair_of_any_length(self):
+        for length in (0, 200, 300, 65535):
+            pair = b"key", bytes(length)
+            self.assertEqual(filled([pair])[0].snapshot().last_below(b"kez"), pair)
+
+    def test_many_long_values_at_once(self):
+        pairs = {b"%04d" % i: b"%04d" % i * 25 for i in range(5000)}
+        self.assertEqual(filled(pairs.items())[0].snapshot().read_all(pairs), list(pairs.values()))
 
     def test_the_longest_pairs(self):
         keys = [b"a", b"a\0", b"a\0\0", b"a\0\1", b"a\1", *[bytes([i]) * 255 for i in range(100, 105)]]
@@ -526,8 +538,9 @@ class Vacuums(unittest.TestCase):
         rows = [Version(stamp(2), 1, None), Version(stamp(2), 0, long), Version(stamp(1), 0, b"x")]
         self.assertEqual(store.versions(b"a"), rows)
         self.assertEqual(store.versions(bytearray(b"a"), stamp(1)), rows[:2])
-        self.assertEqual(store.versions(key=b"a", above=0, to=stamp(1)), rows[2:])
-        self.assertEqual((store.versions(b"b"), store.versions(b""), store.versions(b"a", 5, 4)), ([], [], []))
+        self.assertEqual(store.versions(key=b"a", above=stamp(0), to=stamp(1)), rows[2:])
+        none = store.versions(b"b"), store.versions(b""), store.versions(b"a", stamp(2), stamp(1))
+        self.assertEqual(none, ([], [], []))
         self.assertEqual(len(filled([(b"a", b"%d" % i) for i in range(300)])[0].versions(b"a")), 300)
 
 
@@ -630,18 +643,18 @@ class Restarts(unittest.TestCase):
 
 class Arguments(unittest.TestCase):
     def test_wrong_types(self):
-        store, node = Store(1), Node(0)
+        store, node, at = Store(1), Node(0), stamp(1)
         snapshot, item = store.snapshot(), node.report(1)
         calls = [
             (Stamp, 1.0), (Stamp,), (Stamp.from_number, "1"), (Stamp.parse, 5), (Stamp.parse, b"5.0"),
             (stamp, 1.0), (stamp, "1"), (stamp, 1, None), (split, 1.5), (split, b"1"), (hlcstore.error_name, "1"),
-            (Store, "1"), (Store,), (Store, 1, 2), (Node, None), (Node.restore, 1, 2), (Item,), (hlcstore.Snapshot,),
+            (Store, "1"), (Store,), (Store, 1, 2), (Node, None), (Node.restore, 1, at), (Item,), (hlcstore.Snapshot,),
             (Item.decode,), (Item.decode, "a"), (Item.decode, b"a", "1"), (snapshot.values, 1),
-            (Item.write, 0, 0, 0, "a", b""), (Item.write, 0, 0, 0, b"a", 5), (Item.report, 0.5, 0, 0),
+            (Item.write, 0, 0, at, "a", b""), (Item.write, 0, 0, at, b"a", 5), (Item.report, 0.5, 0, at),
             (node.write, 1, "a", b""), (node.write, 1, b"a", None), (node.write, 1, b"a"), (node.report, "1"),
-            (node.report,), (node.receive, 1), (node.raise_to, None), (store.accept, (0, 0, 1)), (store.accept, None),
+            (node.report,), (node.receive, at), (node.raise_to, None), (store.accept, (0, 0, 1)), (store.accept, None),
             (store.accept_all, 5), (store.accept_all, [item, None]), (store.accept_items, [1, 2]),
-            (store.accept_items, 8), (store.accept_write, 0, 0, 1, ["a"], b""), (store.snapshot, "floor"),
+            (store.accept_items, 8), (store.accept_write, 0, 0, at, ["a"], b""), (store.snapshot, "floor"),
             (store.close_snapshot, None), (store.restore, None), (store.checkpoint, b""), (store.link, None),
             (store.snapshot_by_id, "1"),
             (store.checkpoint_to,), (store.checkpoint_to, io.BytesIO(), b""), (store.checkpoint_to, io.StringIO()),
@@ -650,7 +663,7 @@ class Arguments(unittest.TestCase):
             (snapshot.items, b"", b"", True), (snapshot.last_below, 1), (snapshot.changes,), (snapshot.changes, store),
             (snapshot.changes, snapshot, 1), (store.versions,), (store.versions, "a"), (store.certificate, None),
             (snapshot.__getitem__, 1), (snapshot.__contains__, "a"), (hlcstore.check, "point 1.0"),
-            (store.increment,), (store.increment, b""), (store.increment, 0, None), (store.increment, 0, 0, 0),
+            (store.increment,), (store.increment, b""), (store.increment, at, None), (store.increment, at, 0, 0),
             (hlcstore.apply_increment, b""), (hlcstore.apply_increment, "", b""), (hlcstore.apply_increment, b"", 5),
             (hlcstore.apply_increment, b"", b"", b""), (hlcstore.split_checkpoint, b""),
             (hlcstore.split_checkpoint, "", b""), (hlcstore.split_checkpoint, b"", 5),
@@ -664,33 +677,27 @@ class Arguments(unittest.TestCase):
 
     def test_numbers_that_do_not_fit(self):
         """The text says which numbers fit."""
-        store, node = Store(1), Node(0)
+        store, node, at = Store(1), Node(0), stamp(1)
         words, halves, parts = "from 0 to 18446744073709551615$", "from 0 to 65535$", "from 0 to 281474976710655$"
         calls = [
-            (Store, 65536), (Store, -1), (Node, 65536), (Node, 0, 2**64), (Item.report, 65536, 0, 0),
-            (Item.report, 0, -1, 0), (node.report, 2**64), (node.send, -1), (store.snapshot, 2**64),
-            (store.link, 65536), (store.checkpoint, 2**64), (store.vacuum_to, -1), (hlcstore.error_text, -1),
-            (store.checkpoint_to, io.BytesIO(), 2**64),
+            (Store, 65536), (Store, -1), (Node, 65536), (Item.report, 65536, 0, at), (Item.report, 0, -1, at),
+            (node.report, 2**64), (node.send, -1), (store.link, 65536), (store.checkpoint, 2**64),
+            (hlcstore.error_text, -1), (store.checkpoint_to, io.BytesIO(), 2**64),
         ]  # fmt: skip
         for call, *args in calls:
             with self.assertRaisesRegex(OverflowError, f"{words}|{halves}", msg=f"{call} {args}"):
                 call(*args)
         texts = {
             words: [
-                (Node, 0, -1), (Node.restore, 0, -1, 0), (Node.restore, 0, 0, 2**64), (Item.write, 0, 0, -1, b"a", b""),
-                (Item.delete, 0, 2**64, 0, b"a"), (Item.retire, 0, 0, -(2**64)), (node.write, -1, b"a", b""),
-                (node.delete, 2**80, b"a"), (node.retire, -1), (node.receive, -1, 0), (node.receive, 0, 2**64),
-                (node.raise_to, -1), (store.accept_write, 0, -1, 1, b"a", b""), (store.accept_delete, 0, 0, -1, b"a"),
-                (store.accept_report, 0, 0, 2**64), (store.accept_retire, 0, -1, 0), (store.check_report, 0, 0, -1),
-                (store.check_write, 0, 0, -1, b"a", b""), (store.check_delete, 0, -1, 0, b"a"), (store.join_at, -1),
-                (store.snapshot, -1), (store.close_snapshot, -1), (store.vacuum_to, 10**5000), (store.checkpoint, -1),
-                (store.certificate, -1), (store.vacuum_part, -1), (store.vacuum_part, 0, b"", -1),
-                (store.versions, b"a", -1), (store.versions, b"a", 0, 2**64),
-                (store.increment, -1), (store.increment, 0, 2**64),
-                (store.check_vacuum, 2**64), (split, -1), (split, 2**64), (hlcstore.error_name, 2**64),
+                (Node.restore, 0, at, 2**64), (Item.delete, 0, 2**64, at, b"a"), (Item.retire, 0, -(2**64), at),
+                (node.write, -1, b"a", b""), (node.delete, 2**80, b"a"), (node.retire, -1), (node.receive, at, -1),
+                (node.receive, at, 2**64), (store.accept_write, 0, -1, at, b"a", b""), (store.accept_retire, 0, -1, at),
+                (store.check_delete, 0, -1, at, b"a"), (store.close_snapshot, -1), (store.checkpoint, -1),
+                (store.checkpoint, 10**5000), (store.vacuum_part, at, b"", -1), (store.increment, at, 2**64),
+                (Stamp.from_number, -1), (Stamp.from_number, 2**64), (hlcstore.error_name, 2**64),
             ],
-            halves: [(Store, -1), (Node, -1), (store.link, -1), (Item.report, 2**64, 0, 0), (stamp, 1, 70000),
-                     (stamp, 1, -1), (store.check_report, 65536, 0, 0), (Node.restore, -1, 0, 0)],
+            halves: [(Store, -1), (Node, -1), (store.link, -1), (Item.report, 2**64, 0, at), (stamp, 1, 70000),
+                     (stamp, 1, -1), (store.check_report, 65536, 0, at), (Node.restore, -1, at, 0)],
             parts: [(Stamp, -1), (Stamp, 2**48, 1), (stamp, -1), (stamp, 2**48), (stamp, 2**50, 1), (stamp, 10**5000)],
         }  # fmt: skip
         for text, calls in texts.items():

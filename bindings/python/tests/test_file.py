@@ -2,17 +2,18 @@
 
 import ast
 import contextlib
+import copy
 import gc
 import inspect
 import io
 import pathlib
+import pickle
 import resource
 import signal
 import sqlite3
 import subprocess
 import sys
 import tempfile
-import threading
 import time
 import unittest
 from datetime import timedelta
@@ -275,6 +276,13 @@ class Snapshots(InFolder):
             with self.assertRaises(hlcstore.NoSnapshot):
                 call()
 
+    def test_no_copies(self):
+        """A copy would be a second owner of what is open, or of what is to be written."""
+        for owner in self.snapshot, self.file.batch(), self.file:
+            for make in copy.copy, copy.deepcopy, pickle.dumps:
+                with self.assertRaisesRegex(TypeError, "cannot"):
+                    make(owner)
+
     def test_a_forgotten_one_is_closed(self):
         self.file.append([(key, b"new") for key in self.pairs])
         self.assertEqual(self.file.vacuum().dropped, 0)
@@ -414,7 +422,7 @@ class Refusals(InFolder):
                     call()
                 self.assertEqual(refused.exception.word, word, refusal)
             self.assertEqual((file.floor, dict(file.snapshot().items())), (last, {b"a": b"1"}))
-            self.assertIn("(5.0)", str(self.refusal(file.snapshot, 6 << 16)))
+            self.assertIn("(5.0)", str(self.refusal(file.snapshot, stamp(6))))
 
     def refusal(self, call, *args):
         with self.assertRaises(hlcstore.Error) as refused:
@@ -593,94 +601,6 @@ class Reopening(InFolder):
             self.assertEqual(file.snapshot()[b"a"], b"1")
 
 
-class Threads(InFolder):
-    def run_all(self, *works):
-        """Runs each function in a thread of its own, and raises what one of them raised."""
-        failed = []
-
-        def run(work):
-            try:
-                work()
-            except BaseException as error:
-                failed.append(error)
-
-        threads = [threading.Thread(target=run, args=(work,)) for work in works]
-        for thread in threads:
-            thread.start()
-        for thread in threads:
-            thread.join()
-        if failed:
-            raise failed[0]
-
-    def test_readers_beside_a_writer(self):
-        is_done = threading.Event()
-
-        def write():
-            try:
-                for number in range(300):
-                    file.append({key: b"%d" % number for key in (b"a", b"b", b"c")}, promise=Promise.WRITTEN)
-                    if number % 100 == 0:
-                        file.checkpoint()
-                        file.vacuum()
-            finally:
-                is_done.set()
-
-        def read():
-            while not is_done.is_set():
-                with file.snapshot() as snapshot:
-                    values = list(snapshot.items())
-                    self.assertIn(len({value for _, value in values}), (0, 1), values)
-                    self.assertEqual(values, list(snapshot.items(reverse=True))[::-1])
-                    self.assertEqual(snapshot.get(b"b"), dict(values).get(b"b"))
-
-        with File(self.path) as file:
-            self.run_all(write, read, read, read)
-            self.assertEqual(dict(file.snapshot().items()), {b"a": b"299", b"b": b"299", b"c": b"299"})
-
-    def test_writers_share_a_sync(self):
-        def write(number):
-            for turn in range(50):
-                file.write(b"key %d" % number, b"%d" % turn)
-
-        with File(self.path, promise=Promise.GROUP) as file:
-            self.run_all(*(lambda number=number: write(number) for number in range(4)))
-        with File(self.path) as file:
-            self.assertEqual(dict(file.snapshot().items()), {b"key %d" % number: b"49" for number in range(4)})
-
-    def test_a_call_that_waits_lets_others_run(self):
-        """A write that waits half a second for others keeps the interpreter from nobody."""
-        file = File(self.path, promise=Promise.GROUP, group_microseconds=500_000)
-        file.write(b"a", b"1")
-        turns, is_done = 0, threading.Event()
-        writer = threading.Thread(target=lambda: (file.write(b"a", b"2"), is_done.set()))
-        writer.start()
-        while not is_done.is_set():
-            turns += 1
-            time.sleep(0.01)
-        writer.join()
-        self.assertGreater(turns, 10)
-        file.close()
-
-    def test_closing_waits_for_calls(self):
-        for turn in range(20):
-            file = File(self.path, promise=Promise.WRITTEN)
-            begun = threading.Barrier(4)
-
-            def use():
-                begun.wait()
-                with contextlib.suppress(Closed):
-                    while True:
-                        file.write(b"a", b"1")
-                        file.snapshot().get(b"a")
-
-            def close():
-                begun.wait()
-                time.sleep(turn / 10_000)
-                file.close()
-
-            self.run_all(use, use, use, close)
-
-
 class Stub(unittest.TestCase):
     """The stub has the parameters of the extension, and all calls are documented."""
 
@@ -717,7 +637,7 @@ class Memory(InFolder):
             file.checkpoint_to(io.BytesIO())
             for call in (
                 lambda: File(self.path),
-                lambda: file.snapshot(2**63),
+                lambda: file.snapshot(stamp(2**47)),
                 lambda: file.append([(b"a", bytes(60_000)), (b"", b"")]),
                 lambda: file.append([(bytearray(b"a"), 5)]),
                 lambda: snapshot[b"none"],
@@ -755,7 +675,7 @@ class Memory(InFolder):
                 snapshot.get(key, value)
                 list(snapshot.items(key, value)), snapshot.count(key, value)
                 with contextlib.suppress(hlcstore.Error):
-                    file.snapshot(2**63)
+                    file.snapshot(stamp(2**47))
 
             watched = [key, value, number, file, snapshot, None, True, False, File, Snapshot, hlcstore.AboveFloor]
             for _ in range(50):

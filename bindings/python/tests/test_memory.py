@@ -37,7 +37,8 @@ def use_batches():
     refuse(TypeError, node.write_batch, 1, [(KEY, VALUE), None])
     refuse(hlcstore.KeyTwice, node.write_batch, 1, [(KEY, VALUE), (KEY, None)])
     item = node.write_batch(1, batch)
-    repr(batch), repr(item), batch.writes, item.writes, len(batch), hash(item), item == Item.batch(0, 0, 2, batch)
+    repr(batch), repr(item), batch.writes, item.writes, len(batch), hash(item)
+    item == Item.batch(0, 0, stamp(2), batch), refuse(TypeError, Item.batch, 0, 0, 2, batch)
     with node.batch(2) as block:
         block[KEY] = memoryview(VALUE)
         del block[LONG_KEY]
@@ -48,7 +49,7 @@ def use_batches():
     store.check_item(item), store.accept(item), store.accept(block.item)
     store.check_batch(0, 2, stamp(9), batch), store.accept_batch(0, 2, stamp(9), [(KEY, VALUE)])
     refuse(hlcstore.NotNext, store.accept_batch, 0, 2, stamp(9), batch)
-    refuse(hlcstore.KeyTwice, bytes, Item.batch(0, 0, 1, [(KEY, None)] * 2))
+    refuse(hlcstore.KeyTwice, bytes, Item.batch(0, 0, stamp(1), [(KEY, None)] * 2))
     refuse(hlcstore.BadBytes, Item.decode, bytes(item)[:-1])
     Item.decode(bytes(item)), pickle.loads(pickle.dumps(item)), item.__reduce__()
     batch.clear()
@@ -75,7 +76,7 @@ def feed(store, node):
     refuse(TypeError, store.accept_all, [items[0], KEY])
     refuse(TypeError, store.accept_write, 0, 5, stamp(6), KEY, "text")
     refuse(hlcstore.ValueTooLong, node.write, 9, KEY, TOO_LONG)
-    refuse(hlcstore.ValueTooLong, bytes, Item.write(0, 0, 1, KEY, TOO_LONG))
+    refuse(hlcstore.ValueTooLong, bytes, Item.write(0, 0, stamp(1), KEY, TOO_LONG))
     hash(items[0]), repr(items), items[0] == items[3], items[0].kind, items[0].value
     for item in items:
         Item.decode(bytes(item)), pickle.loads(pickle.dumps(item))
@@ -121,12 +122,12 @@ def keep(store):
     vacuum = store.vacuum()
     certificate = store.certificate(vacuum.stamp).certificate
     store.vacuum_to(vacuum.stamp)
-    store.versions(KEY), store.versions(bytearray(LONG_KEY), 0, vacuum.stamp)
+    store.versions(KEY), store.versions(bytearray(LONG_KEY), stamp(0), vacuum.stamp)
     refuse(TypeError, store.versions, KEY, "1")
-    refuse(hlcstore.AboveFloor, store.certificate, 2**63)
+    refuse(hlcstore.AboveFloor, store.certificate, stamp(2**47))
     store.vacuum_part(vacuum.stamp, limit=1), store.vacuum_part(vacuum.stamp, bytearray(KEY), 0)
-    refuse(hlcstore.AboveFloor, store.vacuum_to, 2**63)
-    refuse(hlcstore.AboveFloor, store.vacuum_part, 2**63, KEY)
+    refuse(hlcstore.AboveFloor, store.vacuum_to, stamp(2**47))
+    refuse(hlcstore.AboveFloor, store.vacuum_part, stamp(2**47), KEY)
     refuse(TypeError, store.vacuum_part, vacuum.stamp, KEY, "1")
     hlcstore.check(certificate)
     refuse(hlcstore.BadLine, hlcstore.check, b"point")
@@ -137,12 +138,12 @@ def keep(store):
     refuse(AttributeError, store.checkpoint_to, KEY)
     with Store.restore(saved) as copy:
         [copy.snapshot_by_id(each.id) for each in copy.snapshots()], refuse(hlcstore.NoSnapshot, copy.snapshot_by_id, 0)
-        copy.snapshots(), copy.link(0), copy.floor, copy.join(), copy.join_at(2**50), copy.floor_node()
+        copy.snapshots(), copy.link(0), copy.floor, copy.join(), copy.join_at(stamp(2**34)), copy.floor_node()
     with Store.restore(saved[at : at + 500] for at in range(0, len(saved), 500)) as copy:
         empty_a_key(copy)
     made = store.increment(vacuum.stamp), store.increment(since=vacuum.stamp, tag=5)
     hlcstore.apply_increment(saved, bytearray(made[0])), hlcstore.apply_increment(older=saved, increment=made[1])
-    refuse(hlcstore.BelowHorizon, store.increment, 0)
+    refuse(hlcstore.BelowHorizon, store.increment, stamp(0)), refuse(TypeError, store.increment, 0)
     refuse(hlcstore.NoIncrement, hlcstore.apply_increment, bytearray(saved), made[0][:-1])
     refuse(TypeError, hlcstore.apply_increment, bytearray(saved), 5)
     parts = hlcstore.split_checkpoint(bytearray(saved), key=bytearray(KEY))
@@ -157,7 +158,8 @@ def keep(store):
 
 
 def empty_a_key(store):
-    """Deletes a long key, of which a vacuum in parts then drops all rows."""
+    """Deletes a long key, of which a vacuum in parts then drops all rows, and after six rows a whole one; and the last
+    key, so that a part leaves nothing."""
     node = Node.restore(0, store.link(0).head, store.link(0).next)
     store.accept_all([node.write(9, LONG_KEY, VALUE), node.delete(10, LONG_KEY)])
     store.close_all()
@@ -166,6 +168,11 @@ def empty_a_key(store):
         part = store.vacuum_part(store.floor, part.next, limit=1)
     if store.sizes.keys != keys - 1:
         raise AssertionError("the key has rows")
+    store.accept_all([*(node.write(11, LONG_KEY, VALUE) for _ in range(5)), node.delete(12, LONG_KEY)])
+    store.vacuum()
+    store.accept(node.delete(13, KEY)), store.vacuum_part(store.floor)
+    if store.rows:
+        raise AssertionError("a key has rows")
 
 
 def change():
@@ -237,7 +244,8 @@ class Memory(unittest.TestCase):
             del iterators
             refuse(hlcstore.NotNext, store.accept, items[0])
             refuse(hlcstore.NotNext, store.accept_all, items)
-            Node(1).write(1, KEY, VALUE), Item.delete(0, 1, 2, KEY), items[0].key, store.link(0).retired, node.retired
+            Node(1).write(1, KEY, VALUE), Item.delete(0, 1, stamp(2), KEY), refuse(TypeError, Item.delete, 0, 1, 2, KEY)
+            items[0].key, store.link(0).retired, node.retired
             bytes(items[0]), repr(items[0]), hash(items[0])
             Item.decode(bytes(items[0])), items[0].__reduce__(), list(snapshot.values(KEY)), repr(store)
             refuse(hlcstore.BadBytes, Item.decode, KEY)

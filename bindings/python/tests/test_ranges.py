@@ -1,5 +1,6 @@
 """Several stores that share the keys: each decision, and then threads beside a model."""
 
+import contextlib
 import copy
 import doctest
 import faulthandler
@@ -7,6 +8,7 @@ import inspect
 import pickle
 import queue
 import random
+import sys
 import threading
 import time
 import unittest
@@ -44,6 +46,42 @@ def after(stamp, counter):
     return Stamp.from_number(stamp + counter)
 
 
+class Beside:
+    """One of the stores, which lets another thread act just before a call of this name, as often as is said."""
+
+    def __init__(self, stores, number, name, act, times=1):
+        self.store, self.name, self.act, self.left = stores._stores[number], name, act, times
+        stores._stores[number] = self
+
+    def __getattr__(self, name):
+        if name == self.name and self.left:
+            self.left -= 1
+            acting = threading.Thread(target=self.act)
+            acting.start()
+            acting.join()
+        return getattr(self.store, name)
+
+
+class Interrupt(Exception):
+    """What the handler of a signal raises."""
+
+
+@contextlib.contextmanager
+def interrupted(event, name):
+    """Raises it before or after the first call of a function of this name: at its event c_call or c_return."""
+
+    def interrupt(frame, at, function):
+        if at == event and function.__name__ == name:
+            sys.setprofile(None)
+            raise Interrupt
+
+    sys.setprofile(interrupt)
+    try:
+        yield
+    finally:
+        sys.setprofile(None)
+
+
 class Divisions(unittest.TestCase):
     def test_keys_between_boundaries(self):
         places = {b"": 0, b"a": 0, b"f\xff": 0, b"g": 1, b"g\0": 1, b"mz": 1, b"n": 2, b"s": 2, b"t": 3, b"\xff": 3}
@@ -66,7 +104,8 @@ class Divisions(unittest.TestCase):
 
     def test_the_hash_is_fnv_1a(self):
         """The hashes are the published ones of the function."""
-        hashes = {b"": 0xCBF29CE484222325, b"a": 0xAF63DC4C8601EC8C, b"foobar": 0x85944171F73967E8}
+        hashes = {b"": 0xCBF29CE484222325, b"a": 0xAF63DC4C8601EC8C, b"b": 0xAF63DF4C8601F1A5}
+        hashes |= {b"foobar": 0x85944171F73967E8, b"\xff\0\0\1": 0x6961196491CC682D}
         for key, found in hashes.items():
             for stores in (1, 2, 7, 64, 1000, 1024):
                 self.assertEqual(Division.by_hash(stores).store_of(key), found % stores)
@@ -129,10 +168,46 @@ class Machines(unittest.TestCase):
         self.assertEqual(stores.write(machine, 8, b"i", b""), Stamp(8))
         self.assertEqual(stores.link(1, 0), Link(2, Stamp(8), False))
         stores.retire_all(machine, 9)
-        with self.assertRaises(Retired):
-            stores.retire_all(machine, 10)
+        for call in stores.retire_all, lambda machine, reading: stores.write(machine, reading, b"i", b""):
+            with self.assertRaises(Retired):
+                call(machine, 10)
+            self.assertTrue(machine.retired)
         with self.assertRaises(WrongStore):
             stores.write(Machine(Division.by_hash(1), 0), 9, b"a", b"")
+
+    def test_interrupts(self):
+        """A machine goes on with what the store accepted, whether it had accepted the item already or not."""
+        calls = {
+            "write": lambda: stores.write(machine, 5, b"a", b""),
+            "delete": lambda: stores.delete(machine, 5, b"a"),
+            "write_batch": lambda: stores.write_batch(machine, 5, [(b"a", b""), (b"b", b"")]),
+            "report_all": lambda: stores.report_all(machine, 5),
+            "retire_all": lambda: stores.retire_all(machine, 5),
+        }
+        for name, call in calls.items():
+            for event, accepted in ("c_call", 0), ("c_return", 1):
+                stores, machine = Ranges(LETTERS, 1), Machine(LETTERS, 0)
+                with self.subTest(name, event=event):
+                    with self.assertRaises(Interrupt), interrupted(event, "accept"):
+                        call()
+                    self.assertEqual((stores.link(0, 0).next, machine.last), (accepted, Stamp(5 * accepted)))
+                    (stores.retire_all if name == "retire_all" else stores.report_all)(machine, 6)
+                    self.assertEqual(stores.link(3, 0).next, 1)
+
+    def test_an_interrupt_before_the_item_is_whole(self):
+        for name in "raise_to", "write":
+            stores, machine = Ranges(LETTERS, 1), Machine(LETTERS, 0)
+            with self.assertRaises(Interrupt), interrupted("c_return", name):
+                stores.write(machine, 5, b"a", b"")
+            self.assertEqual((stores.rows, machine.last, stores.write(machine, 6, b"a", b"")), (0, Stamp(0), Stamp(6)))
+
+    def test_no_copies(self):
+        """A copy would be a second owner: of a clock, or of what it closes."""
+        stores, (machine, _) = written(LETTERS)
+        for owner in stores, machine, stores.snapshot():
+            for make in copy.copy, copy.deepcopy, pickle.dumps:
+                with self.assertRaisesRegex(TypeError, "cannot copy or pickle"):
+                    make(owner)
 
     def test_restored_machines_go_on(self):
         stores, (first, other) = written(LETTERS)
@@ -300,6 +375,25 @@ class Stores(unittest.TestCase):
         stores.report_all(joined, 80)
         self.assertEqual((stores.cut, stores.join().id), (Stamp(70), 3))
 
+    def test_no_call_comes_into_the_middle_of_a_join(self):
+        for call in (
+            lambda stores, machine: stores.write(machine, 90, b"a", b""),
+            lambda stores, machine: len(stores.checkpoint()),
+        ):
+            (stores, machines), answers, waits = written(LETTERS), [], []
+            calling = threading.Thread(target=lambda: answers.append(call(stores, machines[0])))
+
+            def begin():
+                calling.start()
+                calling.join(timeout=0.2)
+                waits.append(calling.is_alive())
+
+            Beside(stores, 2, "join_at", begin)
+            joined = stores.join()
+            calling.join()
+            self.assertEqual((waits, joined.last), ([True], Stamp(50, 3)))
+            self.assertIn(answers, ([Stamp(90)], [4]))
+
     def test_no_store_joins_where_none_is_left(self):
         stores = Ranges(LETTERS, 64)
         for _ in range(64, 1024):
@@ -325,6 +419,45 @@ class Stores(unittest.TestCase):
             machine = restored.machine(0)
             self.assertEqual(machine.last, machines[0].last)
             restored.write(machine, 70, b"b", b"new")
+
+    def test_a_checkpoint_beside_a_join(self):
+        """The machine is in each store, or in none."""
+        stores, _ = written(LETTERS)
+        Beside(stores, 2, "checkpoint", stores.join)
+        restored = Ranges.restore(LETTERS, stores.checkpoint())
+        self.assertEqual([store.nodes for store in restored._stores], [3] * 4)
+        self.assertEqual(restored.join().id, 3)
+
+    def test_a_checkpoint_after_half_a_join(self):
+        """There is none before a join has ended, since there would be no machine for the node."""
+        stores, _ = written(LETTERS)
+        for store in stores._stores[:2]:
+            store.join_at(Stamp(60))
+        with self.assertRaises(NoNode):
+            stores.checkpoint()
+        joined = stores.join()
+        self.assertEqual(Ranges.restore(LETTERS, stores.checkpoint()).nodes, joined.id + 1)
+
+    def test_a_checkpoint_beside_vacuums(self):
+        """What is restored has a cut that can be read, or there is no checkpoint."""
+        stores, machines = written(LETTERS)
+        readings = iter(range(60, 100))
+
+        def vacuum():
+            reading = next(readings)
+            for machine in machines:
+                stores.report_all(machine, reading)
+            stores.vacuum_to(stores.cut)
+
+        Beside(stores, 2, "checkpoint", vacuum)
+        restored = Ranges.restore(LETTERS, stores.checkpoint())
+        with restored.snapshot() as snapshot:
+            self.assertEqual((snapshot.stamp, list(snapshot)), (Stamp(60), ALPHABET))
+        Beside(stores, 2, "checkpoint", vacuum, times=8)
+        with self.assertRaises(BelowHorizon) as refused:
+            stores.checkpoint()
+        self.assertEqual((refused.exception.word, stores.cut), (Stamp(68), Stamp(68)))
+        Ranges.restore(LETTERS, stores.checkpoint()).snapshot(Stamp(68))
 
     def test_checkpoints_that_are_not_of_one_cut(self):
         stores, machines = written(LETTERS)

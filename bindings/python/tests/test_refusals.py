@@ -84,7 +84,7 @@ class ChangingFile:
 def saved_in_vain():
     """Saves a store of several pieces, which the file changes."""
     store = Store(1)
-    store.accept_all([Item.write(0, i, i + 1, b"%d" % i, bytes(60_000)) for i in range(9)])
+    store.accept_all([Item.write(0, i, stamp(i + 1), b"%d" % i, bytes(60_000)) for i in range(9)])
     store.checkpoint_to(ChangingFile(store))
 
 
@@ -108,8 +108,8 @@ REFUSED = {
     hlcstore.NoSnapshot: (lambda: Store(1).close_snapshot(1), 0),
     hlcstore.TooManySnapshots: (lambda: [store.snapshot() for store in [Store(1)] for _ in range(1025)], 0),
     hlcstore.BadKey: (lambda: Node(0).delete(1, bytes(256)), 0),
-    hlcstore.ValueTooLong: (lambda: bytes(Item.write(0, 0, 1, b"a", bytes(65536))), 0),
-    hlcstore.NumbersSpent: (lambda: Node.restore(0, 2**64 - 1, 2**64 - 1).report(1), 0),
+    hlcstore.ValueTooLong: (lambda: bytes(Item.write(0, 0, stamp(1), b"a", bytes(65536))), 0),
+    hlcstore.NumbersSpent: (lambda: Node.restore(0, stamp(2**48 - 1, 65535), 2**64 - 1).report(1), 0),
     hlcstore.BadLine: (lambda: hlcstore.check(b"point 1.0\npoint"), 2),
     hlcstore.NotShown: (lambda: hlcstore.check(certificate()), 7),
     hlcstore.TooManyNodes: (lambda: [store.join() for store in [Store(1)] for _ in range(1024)], 0),
@@ -119,7 +119,7 @@ REFUSED = {
     hlcstore.KeyTwice: (lambda: Node(0).write_batch(1, [(b"a", b""), (b"a", None)]), 0),
     hlcstore.Closed: (lambda: closed().rows, 0),
     hlcstore.NoValue: (lambda: fed().snapshot()[b"b"], 0),
-    hlcstore.NoSuchNode: (lambda: Node.restore(7, 2, 3), 0),
+    hlcstore.NoSuchNode: (lambda: Node.restore(7, stamp(0, 2), 3), 0),
     hlcstore.BadBytes: (lambda: Store.restore(bytes(60)), 2),
     hlcstore.NoCheckpoint: (lambda: Store.restore(checkpoint_without_nodes()), 1),
     hlcstore.NotFewest: (lambda: deleted().certificate(stamp(3)), 0),
@@ -170,7 +170,7 @@ class Refusals(unittest.TestCase):
     def test_a_word_of_0(self):
         """A stamp of 0 is printed, and a number of 0 is none."""
         with self.assertRaisesRegex(hlcstore.AboveFloor, r"\(0\.0\)$"):
-            Store(1).snapshot(1)
+            Store(1).snapshot(stamp(1))
         with self.assertRaisesRegex(hlcstore.BadKey, r"[a-z]$"):
             Node(0).delete(1, b"")
 
@@ -272,20 +272,20 @@ class Refusals(unittest.TestCase):
 
 class AfterClose(unittest.TestCase):
     def test_a_closed_store_refuses(self):
-        store, item = Store(1), Item.report(0, 0, 1)
+        store, at, item = Store(1), stamp(1), Item.report(0, 0, stamp(1))
         store.close()
         store.close()
         calls = [
-            (store.accept, item), (store.accept_write, 0, 0, 1, b"a", b""), (store.accept_delete, 0, 0, 1, b"a"),
-            (store.accept_report, 0, 0, 1), (store.accept_retire, 0, 0, 1), (store.accept_all, [item]),
+            (store.accept, item), (store.accept_write, 0, 0, at, b"a", b""), (store.accept_delete, 0, 0, at, b"a"),
+            (store.accept_report, 0, 0, at), (store.accept_retire, 0, 0, at), (store.accept_all, [item]),
             (store.accept_all, []), (store.accept_items, bytes(item)), (store.apply_records, bytes(item)),
-            (store.check_item, item),
-            (store.check_write, 0, 0, 1, b"a", b""), (store.check_delete, 0, 0, 1, b"a"), (store.check_report, 0, 0, 1),
-            (store.join,), (store.join_at, 5), (store.link, 0), (store.floor_node,), (store.snapshot,),
-            (store.snapshot, 0), (store.snapshots,), (store.snapshot_by_id, 1), (store.close_snapshot, 1),
+            (store.check_item, item), (store.check_report, 0, 0, at),
+            (store.check_write, 0, 0, at, b"a", b""), (store.check_delete, 0, 0, at, b"a"),
+            (store.join,), (store.join_at, at), (store.link, 0), (store.floor_node,), (store.snapshot,),
+            (store.snapshot, at), (store.snapshots,), (store.snapshot_by_id, 1), (store.close_snapshot, 1),
             (store.close_all,), (store.vacuum,),
-            (store.vacuum_to, 0), (store.vacuum_part, 0), (store.check_vacuum, 0), (store.certificate, 0),
-            (store.checkpoint,), (store.checkpoint_to, io.BytesIO()), (store.increment, 0), (store.versions, b"a"),
+            (store.vacuum_to, at), (store.vacuum_part, at), (store.check_vacuum, at), (store.certificate, at),
+            (store.checkpoint,), (store.checkpoint_to, io.BytesIO()), (store.increment, at), (store.versions, b"a"),
             *[(getattr, store, name) for name in ("floor", "horizon", "rows", "sizes", "nodes")],
         ]  # fmt: skip
         for call, *args in calls:

@@ -95,7 +95,7 @@ class Pieces(unittest.TestCase):
             import hlcstore
 
             store, value = hlcstore.Store(1), bytes(65535)
-            store.accept_all([hlcstore.Item.write(0, i, i + 1, b"%d" % i, value) for i in range(1200)])
+            store.accept_all([hlcstore.Item.write(0, i, hlcstore.stamp(i + 1), b"%d" % i, value) for i in range(1200)])
             pages = int(open("/proc/self/statm").read().split()[0])
             limit = pages * resource.getpagesize() + 2**25
             resource.setrlimit(resource.RLIMIT_AS, (limit, resource.RLIM_INFINITY))
@@ -208,7 +208,7 @@ class Calls(unittest.TestCase):
             "join": lambda store: store.join(),
             "snapshot": lambda store: store.snapshot(),
             "vacuum": lambda store: store.vacuum(),
-            "vacuum_to": lambda store: store.vacuum_to(1),
+            "vacuum_to": lambda store: store.vacuum_to(stamp(1)),
             "close_all": lambda store: store.close_all(),
         }
         for name, change in changes.items():
@@ -416,6 +416,8 @@ class Ends(unittest.TestCase):
                 time.sleep(float(sys.argv[1]))
                 return len(piece)
 
+        ITEM = hlcstore.Item.report(0, 0, hlcstore.stamp(1))
+
         class Last:
             def __init__(self):
                 self.store = hlcstore.Store(1)
@@ -429,7 +431,7 @@ class Ends(unittest.TestCase):
                 finally:
                     self.store.join()
 
-            def __del__(self, sleep=time.sleep, item=hlcstore.Item.report(0, 0, 1), file=io.BytesIO(), write=os.write):
+            def __del__(self, sleep=time.sleep, item=ITEM, file=io.BytesIO(), write=os.write):
                 sleep(0.5)
                 del self.snapshot
                 self.joining.close()

@@ -225,7 +225,7 @@ class LongCalls(unittest.TestCase):
         cls.store.accept(Item.report(1, 0, node.last))
         cls.snapshot = cls.store.snapshot()
         cls.wide = Store(1)
-        cls.wide.accept_all([Item.write(0, i, i + 1, b"%06d" % i, b"") for i in range(100_000)])
+        cls.wide.accept_all([Item.write(0, i, stamp(i + 1), b"%06d" % i, b"") for i in range(100_000)])
 
     @classmethod
     def tearDownClass(cls):
@@ -279,7 +279,7 @@ class LongCalls(unittest.TestCase):
             "checkpoint": self.store.checkpoint,
             "checkpoint_to": lambda: self.store.checkpoint_to(io.BytesIO()),
             "digest": self.snapshot.digest,
-            "increment": partial(wide.increment, 0),
+            "increment": partial(wide.increment, stamp(0)),
             "merge_checkpoints": partial(hlcstore.merge_checkpoints, *parts),
             "restore": partial(Store.restore, saved),
             "restore from a piece": partial(Store.restore, [saved]),
@@ -306,7 +306,7 @@ class LongCalls(unittest.TestCase):
         """The copy is the last part of a call, and short beside the others. If it kept the interpreter, the other
         thread would not run at the end of the call for as long as such a copy takes."""
         store, value = Store(1), bytes(65535)
-        store.accept_all([Item.write(0, i, i + 1, b"%d" % i, value) for i in range(1000)])
+        store.accept_all([Item.write(0, i, stamp(i + 1), b"%d" % i, value) for i in range(1000)])
         saved, before = store.checkpoint(), time.thread_time()
         copy = bytes(memoryview(saved))
         seconds = time.thread_time() - before

@@ -3,7 +3,7 @@
 //! 1. in the folder HLCSTORE_LIB_DIR, and nowhere else if that is set;
 //! 2. where pkg-config finds `hlcstore`;
 //! 3. in bindings/build of this repository, where `make -C bindings` leaves it;
-//! 4. in crates/hlc_ffi/out of this repository, where `rt lib` leaves it, with the archive of the toolchain.
+//! 4. in crates/hlc_ffi/out of this repository, where tests/build leaves it, with the archive of the toolchain.
 //!
 //! The static library is linked, or the shared one where HLCSTORE_STATIC is 0. A program that was linked with the
 //! shared one must find it when it starts, for example by LD_LIBRARY_PATH. The build of hlcstore-file-sys gets the kind

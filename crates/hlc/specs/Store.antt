@@ -4,6 +4,7 @@ pub use Rattle.hlc_core.specs.Past.{initial_nodes, numbered, count, head, floor,
 pub use Rattle.hlc_core.specs.Past.{last_id, open_snapshots, writes, stamp_of, item_refusal, join_refusal, open_refusal}
 pub use Rattle.hlc_core.specs.Past.{join_at_refusal, room_refusal, vacuum_refusal, IsLegal}
 pub use Rattle.hlc_core.specs.Replicas.{items_of, joins_of, AreReplicas, CanMeet}
+pub use Rattle.hlc_replicas.specs.Places.{log_of}
 pub use Rattle.hlc_core.specs.StoreView.{StoreView, Represents}
 pub use Rattle.hlc_core.specs.Calls.{IsWrite, IsRefusal, IsListed, AreRowsTo, AreSizes, AreVersions, Vacuums}
 pub use Rattle.hlc_core.specs.Certified.{Certifies, IsCertified, AreNotFewest}

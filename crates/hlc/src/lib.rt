@@ -24,5 +24,5 @@ pub use hlc_node::{
     Content, Listed, MAX_WRITES, Message, NodeCore, NodeFault, RefusedBatch, RefusedWrite, Write,
     Writes, Written, batch_fault,
 };
-pub use hlc_replicas::lagging_replicas_answer_alike;
+pub use hlc_replicas::{lagging_replicas_answer_alike, places_of_one_log_can_meet};
 pub use hlc_vacuum_parts::{parts_are_a_vacuum, vacuums_leave_a_certificate};

@@ -8,6 +8,6 @@ pub use hlc_ranges::{
 pub use hlc_routing::{
     Division, MAX_STORES, Machine, MachineFault, Ranges, RangesFault, RangesSnapshot,
     RefusedBatchRouting, RefusedRouting, events_keep_machines, events_keep_stores,
-    joins_make_machines, steps_keep_machines,
+    joins_make_machines, max_stores_are_1024, steps_keep_machines, the_hash_is_fnv_1a,
 };
 pub use hlc_split::{MergeFault, merge, split};

@@ -5,8 +5,8 @@ use Rattle.std.specs.Prelude.{slice_get, is_some}
 use Rattle.std.proofs.lemmas.List.{take-append-drop, append-nil}
 use Rattle.hlc_text.specs.Text.{Reads}
 use Rattle.hlc_text.specs.Lines.{lines_of}
-use Rattle.hlc_world.specs.Schedule.{Event}
-use Rattle.hlc_script.specs.Line.{event_line, HasLine}
+use Rattle.hlc_world_event.specs.Events.{Event}
+use Rattle.hlc_line.specs.Line.{event_line, HasLine}
 use Rattle.hlc_explain.specs.Lines.{IsEventLine, AreEventLines, IsFirstBadLine}
 
 -- this many lines are those of events, and the lines of the rest follow

@@ -1,8 +1,8 @@
 -- The first line of a script that is not that of an event.
 use Rattle.std.specs.Prelude.{◌≡◌, ℕ, List, Some, slice_get, take}
 use Rattle.std.specs.List.{AllByRecursion}
-use Rattle.hlc_world.specs.Schedule.{Event}
-use Rattle.hlc_script.specs.Line.{event_line, HasLine}
+use Rattle.hlc_world_event.specs.Events.{Event}
+use Rattle.hlc_line.specs.Line.{event_line, HasLine}
 
 -- the line is that of an event
 abbrev pub IsEventLine : List ℕ → Type 0

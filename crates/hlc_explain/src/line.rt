@@ -3,7 +3,7 @@ ghost use Rattle.std.specs.Prelude.{◌≡◌, None, Some, MatchOption, slice_ge
 ghost use Rattle.hlc_text.specs.Lines.{lines_of};
 ghost use Rattle.hlc_explain.specs.Lines.{AreEventLines, IsFirstBadLine};
 
-use hlc_script::read_line;
+use hlc_line::read_line;
 use hlc_text::input::first_line;
 
 /// Returns the line after the first `before` lines, or none where the text has no more lines.

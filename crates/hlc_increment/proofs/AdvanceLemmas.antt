@@ -5,7 +5,7 @@ use Rattle.std.proofs.Common.{sym, ◌∙◌, subst, inl, inr, arith, leb, ltb, 
 use Rattle.std.proofs.Common.{◌&&◌, Bool, false}
 use Rattle.std.specs.Prelude.{◌==◌}
 use Rattle.std.proofs.lemmas.Bool.{cases_lt, leb-true, le-leb, ltb-true, lt-ltb, lt-leb}
-use Rattle.std.proofs.lemmas.List.{length-append}
+use Rattle.std.proofs.lemmas.List.{length-append, append_assoc}
 use Rattle.std.proofs.lemmas.List.Elements.{Contains-append_left, Contains-append_right, Contains-append_cases}
 use Rattle.std.proofs.lemmas.List.Elements.{filter-append, filter_passes, All-contains, All-weaker}
 use Rattle.std.proofs.lemmas.List.Sorted.{All-permutation, Contains-permutation, IsPermutation-sym, length_permutation}
@@ -32,34 +32,19 @@ use Rattle.hlc_checkpoint.specs.Sorted.{rows_above}
 use Rattle.hlc_checkpoint.proofs.CheckpointLemmas.{row_set-moved, sound-has_no_reason}
 use Rattle.hlc_core.specs.Past.{Step, Started, Took, Opened, Closed, Vacuumed, PartVacuumed, Joined, floor, horizon}
 use Rattle.hlc_core.specs.Past.{vacuumed}
-use Rattle.hlc_core.specs.Past.{initial_nodes, numbered, part_dropped, last_id, open_snapshots, writes, item_rows}
+use Rattle.hlc_core.specs.Past.{initial_nodes, part_dropped, last_id, open_snapshots, writes, item_rows}
 use Rattle.hlc_core.specs.Past.{body_rows, IsLegal}
 use Rattle.hlc_core.specs.StoreView.{StoreView, with_rows, Represents}
 use Rattle.hlc_core.specs.Checkpoint.{IsCheckpoint, floor_in}
-use Rattle.hlc_core.proofs.PastLemmas.{above_floor, body_rows-are, open-above, vacuum-above, vacuumed-low}
+use Rattle.hlc_core.proofs.PastLemmas.{above_floor, body_rows-are, open-above, vacuumed-low}
 use Rattle.hlc_core.proofs.StayLemmas.{answers-stay, floor-never_falls}
 use Rattle.hlc_core.proofs.CheckpointLemmas.{copy-represents, floor-in}
 use Rattle.hlc_increment.specs.declared.advancing.AdvanceFault.{AdvanceFault}
 use Rattle.hlc_increment.specs.declared.advancing.AdvanceFault.TheVariants as faults
-use Rattle.hlc_increment.specs.Increment.{IncrementView, IsIncrementOf, IsAdvanced, IsReason, without_drops}
-use Rattle.hlc_increment.proofs.AgreeLemmas.{drops-agree, drops-legal, drops-part_nothing, drops-vacuumed}
-use Rattle.hlc_increment.proofs.AgreeLemmas.{drops-last_changes}
-
--- the horizon never falls
-horizon-grows : (past more : List Step) → IsLegal (more ++ past)
-    → horizon past ≤ horizon (more ++ past)
-horizon-grows past [] legal = omega arith
-horizon-grows past (Took item ∷ more) legal = horizon-grows past more legal.1
-horizon-grows past (Opened stamp ∷ more) legal = horizon-grows past more legal.1
-horizon-grows past (Started nodes ∷ more) legal = horizon-grows past more legal.1
-horizon-grows past (Closed id ∷ more) legal = horizon-grows past more legal.1
-horizon-grows past (Vacuumed at ∷ more) legal =
-    let before = horizon-grows past more legal.1 in
-    let up : horizon (more ++ past) ≤ at = vacuum-above (more ++ past) at legal.0 in omega (arith, before)
-horizon-grows past (PartVacuumed at dropped ∷ more) legal =
-    let before = horizon-grows past more legal.1 in
-    let up : horizon (more ++ past) ≤ at = vacuum-above (more ++ past) at legal.0 in omega (arith, before)
-horizon-grows past (Joined node start ∷ more) legal = horizon-grows past more legal.3
+use Rattle.hlc_increment.specs.Increment.{IncrementView, IsIncrementOf, IsAdvanced, IsReason, MayBeLater, without_drops}
+use Rattle.hlc_increment.proofs.LaterLemmas.{horizon-grows, later-goes_on}
+use Rattle.hlc_increment.proofs.AgreeLemmas.{Agree, drops-agree, drops-legal, drops-part_nothing, drops-vacuumed}
+use Rattle.hlc_increment.proofs.AgreeLemmas.{drops-last_changes, drops-append}
 
 -- accepted writes are kept
 writes-kept : (past more : List Step) (row : Row) → Contains (writes past) row → Contains (writes (more ++ past)) row
@@ -208,7 +193,7 @@ to-low : (since : ℕ) (rows : List Row) (row : Row) → Contains (rows_to since
 to-low since rows row m = let found = Contains-from_filter (λ (r : Row). leb r.stamp since) rows row m in
     (found.0, leb-true row.stamp since found.1)
 
-above-high : (since : ℕ) (rows : List Row) (row : Row) → Contains (rows_above since rows) row
+pub above-high : (since : ℕ) (rows : List Row) (row : Row) → Contains (rows_above since rows) row
     → Contains rows row × (since < row.stamp)
 above-high since rows row m = let found = Contains-from_filter (λ (r : Row). ltb since r.stamp) rows row m in
     (found.0, ltb-true since row.stamp found.1)
@@ -229,51 +214,70 @@ abbrev pub joined : ℕ → List Row → List Row → List Row
 joined since older upper = rows_to since older ++ upper
 
 -- the upper rows are the rows of a store above the stamp
-module _ (since : ℕ) (older newer : StoreView) (upper : List Row) (past more : List Step)
-    (h : Represents older past) (g : Represents newer (more ++ past)) (low : since ≤ floor past)
-    (high : newer.horizon ≤ since) (moved : IsPermutation (rows_above since newer.rows) upper) where
-  rises : horizon past ≤ horizon (more ++ past)
-  rises = horizon-grows past more g.legal
+pub record AreUpper (since : ℕ) (newer : StoreView) (upper : List Row) : Type 0 where
+  pub row_set : IsRowSet upper
+  pub within : (row : Row) → Contains upper row → Contains newer.rows row × (since < row.stamp)
+  pub each : (row : Row) → Contains newer.rows row → since < row.stamp → Contains upper row
+  pub many : length (rows_above since newer.rows) ≡ length upper
 
-  bounded : horizon (more ++ past) ≤ since
-  bounded = subst (λ n. n ≤ since) g.horizon high
-
-  from-upper : (row : Row) → Contains upper row → Contains newer.rows row × (since < row.stamp)
-  from-upper row m = above-high since newer.rows row
+upper-moved : (since : ℕ) (newer : StoreView) (upper : List Row) → IsRowSet newer.rows
+    → IsPermutation (rows_above since newer.rows) upper → AreUpper since newer upper
+upper-moved since newer upper set' moved = record {
+  row_set = row_set-moved (rows_above since newer.rows) upper
+      (filter-IsRowSet (λ (r : Row). ltb since r.stamp) newer.rows set') moved;
+  within = λ row m. above-high since newer.rows row
       (Contains-permutation upper (rows_above since newer.rows) row
-      (IsPermutation-sym (rows_above since newer.rows) upper moved) m)
+      (IsPermutation-sym (rows_above since newer.rows) upper moved) m);
+  each = λ row m up. Contains-permutation (rows_above since newer.rows) upper row moved
+      (Contains-filter (λ (r : Row). ltb since r.stamp) newer.rows row m (lt-ltb since row.stamp up));
+  many = sym (length_permutation (rows_above since newer.rows) upper moved);
+}
 
-  to-upper : (row : Row) → Contains newer.rows row → since < row.stamp → Contains upper row
-  to-upper row m up = Contains-permutation (rows_above since newer.rows) upper row moved
-      (Contains-filter (λ (r : Row). ltb since r.stamp) newer.rows row m (lt-ltb since row.stamp up))
+-- The older checkpoint may itself be what increments made: then the vacuums since a first one dropped none of its rows.
+module _ (since : ℕ) (older newer : StoreView) (upper : List Row) (past mid more : List Step)
+    (h : Represents older (without_drops mid ++ past)) (g : Represents newer (more ++ (mid ++ past)))
+    (low : since ≤ floor (mid ++ past)) (high : newer.horizon ≤ since) (tops : AreUpper since newer upper) where
+  same : Agree (without_drops mid ++ past) (mid ++ past)
+  same = drops-agree mid past
+
+  hr : RowsRepresent older.rows (writes (mid ++ past)) (horizon (mid ++ past))
+      (stamps (open_snapshots (mid ++ past)))
+  hr = rw (← same.rows, ← same.horizons, ← same.alike.5) h.rows
+
+  rises : horizon (mid ++ past) ≤ horizon (more ++ (mid ++ past))
+  rises = horizon-grows (mid ++ past) more g.legal
+
+  bounded : horizon (more ++ (mid ++ past)) ≤ since
+  bounded = subst (λ n. n ≤ since) g.horizon high
 
   joined-row_set : IsRowSet (joined since older.rows upper)
   joined-row_set = both-row_set (rows_to since older.rows) upper
-      (filter-IsRowSet (λ (r : Row). leb r.stamp since) older.rows h.rows.row_set)
-      (row_set-moved (rows_above since newer.rows) upper
-      (filter-IsRowSet (λ (r : Row). ltb since r.stamp) newer.rows g.rows.row_set) moved)
+      (filter-IsRowSet (λ (r : Row). leb r.stamp since) older.rows hr.row_set)
+      tops.row_set
       (λ row other m n same.
       let under = (to-low since older.rows row m).1 in
-      let over = (from-upper other n).1 in
+      let over = (tops.within other n).1 in
       omega (arith, under, over, same.stamp))
 
-  joined-within : (row : Row) → Contains (joined since older.rows upper) row → Contains (writes (more ++ past)) row
+  joined-within : (row : Row) → Contains (joined since older.rows upper) row
+      → Contains (writes (more ++ (mid ++ past))) row
   joined-within row m = elim (Contains-append_cases (rows_to since older.rows) upper row m) [
-    | inl old ↦ writes-kept past more row (h.rows.within row (to-low since older.rows row old).0)
-    | inr new ↦ g.rows.within row (from-upper row new).0
+    | inl old ↦ writes-kept (mid ++ past) more row (hr.within row (to-low since older.rows row old).0)
+    | inr new ↦ g.rows.within row (tops.within row new).0
   ]
 
-  joined-above : (row : Row) → Contains (writes (more ++ past)) row → horizon (more ++ past) < row.stamp
+  joined-above : (row : Row) → Contains (writes (more ++ (mid ++ past))) row
+      → horizon (more ++ (mid ++ past)) < row.stamp
       → Contains (joined since older.rows upper) row
   joined-above row m up = elim (cases_lt since row.stamp) [
     | inl over ↦ Contains-append_right (rows_to since older.rows) upper row
-        (to-upper row (g.rows.above row m up) over)
+        (tops.each row (g.rows.above row m up) over)
     | inr under ↦
-        let before : Contains (writes past) row =
-        writes-before past more row g.legal m (omega (arith, under, low)) in
+        let before : Contains (writes (mid ++ past)) row =
+        writes-before (mid ++ past) more row g.legal m (omega (arith, under, low)) in
         Contains-append_left (rows_to since older.rows) upper row
         (Contains-filter (λ (r : Row). leb r.stamp since) older.rows row
-        (h.rows.above row before (let r = rises in omega (arith, r, up))) (le-leb row.stamp since under))
+        (hr.above row before (let r = rises in omega (arith, r, up))) (le-leb row.stamp since under))
   ]
 
   -- up to the stamp it answers as the older checkpoint
@@ -286,48 +290,48 @@ module _ (since : ℕ) (older newer : StoreView) (upper : List Row) (past more :
       (λ row m. let found = to-low since (joined since older.rows upper) row m in
       elim (Contains-append_cases (rows_to since older.rows) upper row found.0) [
         | inl old ↦ old
-        | inr new ↦ absurd (let over = (from-upper row new).1 in omega (arith, over, found.1))
+        | inr new ↦ absurd (let over = (tops.within row new).1 in omega (arith, over, found.1))
       ])
       (λ row m. Contains-filter (λ (r : Row). leb r.stamp since) (joined since older.rows upper) row
       (Contains-append_left (rows_to since older.rows) upper row m)
       (le-leb row.stamp since (to-low since older.rows row m).1))
       key stamp
-      ∙ answer-rows_to older.rows since key stamp h.rows.row_set under
+      ∙ answer-rows_to older.rows since key stamp hr.row_set under
 
   -- where the older checkpoint answers as its past does, the rows do as the later past
   joined-stays : (key : List ℕ) (stamp : ℕ) → stamp ≤ since
-      → answer older.rows key stamp ≡ answer (writes past) key stamp
-      → answer (joined since older.rows upper) key stamp ≡ answer (writes (more ++ past)) key stamp
+      → answer older.rows key stamp ≡ answer (writes (mid ++ past)) key stamp
+      → answer (joined since older.rows upper) key stamp ≡ answer (writes (more ++ (mid ++ past))) key stamp
   joined-stays key stamp under was =
       joined-low key stamp under ∙ was
-      ∙ sym (answers-stay past more g.legal key stamp (omega (arith, under, low)))
+      ∙ sym (answers-stay (mid ++ past) more g.legal key stamp (omega (arith, under, low)))
 
-  joined-from : (key : List ℕ) (stamp : ℕ) → horizon (more ++ past) ≤ stamp
-      → answer (joined since older.rows upper) key stamp ≡ answer (writes (more ++ past)) key stamp
+  joined-from : (key : List ℕ) (stamp : ℕ) → horizon (more ++ (mid ++ past)) ≤ stamp
+      → answer (joined since older.rows upper) key stamp ≡ answer (writes (more ++ (mid ++ past))) key stamp
   joined-from key stamp up = elim (cases_lt since stamp) [
     | inr under ↦ joined-stays key stamp under
-        (h.rows.from_horizon key stamp (let r = rises in omega (arith, r, up)))
-    | inl over ↦ alike_from (joined since older.rows upper) (writes (more ++ past)) since joined-row_set
+        (hr.from_horizon key stamp (let r = rises in omega (arith, r, up)))
+    | inl over ↦ alike_from (joined since older.rows upper) (writes (more ++ (mid ++ past))) since joined-row_set
         joined-within
         (λ row m higher. joined-above row m (let b = bounded in omega (arith, b, higher)))
         key stamp (omega (arith, over))
         (joined-stays key since (omega arith)
-        (h.rows.from_horizon key since (let r = rises in let b = bounded in omega (arith, r, b))))
+        (hr.from_horizon key since (let r = rises in let b = bounded in omega (arith, r, b))))
   ]
 
-  joined-open : (key : List ℕ) (stamp : ℕ) → Contains (stamps (open_snapshots (more ++ past))) stamp
-      → answer (joined since older.rows upper) key stamp ≡ answer (writes (more ++ past)) key stamp
-  joined-open key stamp m = elim (cases_lt stamp (horizon (more ++ past))) [
+  joined-open : (key : List ℕ) (stamp : ℕ) → Contains (stamps (open_snapshots (more ++ (mid ++ past)))) stamp
+      → answer (joined since older.rows upper) key stamp ≡ answer (writes (more ++ (mid ++ past))) key stamp
+  joined-open key stamp m = elim (cases_lt stamp (horizon (more ++ (mid ++ past)))) [
     | inr up ↦ joined-from key stamp up
     | inl under ↦ joined-stays key stamp (let b = bounded in omega (arith, b, under))
-        (elim (cases_lt stamp (horizon past)) [
-          | inr up ↦ h.rows.from_horizon key stamp up
-          | inl below ↦ h.rows.at_open key stamp (open-before past more stamp g.legal m below)
+        (elim (cases_lt stamp (horizon (mid ++ past))) [
+          | inr up ↦ hr.from_horizon key stamp up
+          | inl below ↦ hr.at_open key stamp (open-before (mid ++ past) more stamp g.legal m below)
         ])
   ]
 
-  joined-represent : RowsRepresent (joined since older.rows upper) (writes (more ++ past)) (horizon (more ++ past))
-      (stamps (open_snapshots (more ++ past)))
+  pub joined-represent : RowsRepresent (joined since older.rows upper) (writes (more ++ (mid ++ past)))
+      (horizon (more ++ (mid ++ past))) (stamps (open_snapshots (more ++ (mid ++ past))))
   joined-represent = record {
     row_set = joined-row_set;
     all_row_set = g.rows.all_row_set;
@@ -338,37 +342,53 @@ module _ (since : ℕ) (older newer : StoreView) (upper : List Row) (past more :
   }
 
   -- as many as there should be
-  joined-count : length (joined since older.rows upper) + part_dropped past
-      ≡ length h.stored.0 + count_above (vacuumed past) (writes (more ++ past))
+  pub joined-count : length (joined since older.rows upper) + part_dropped (without_drops mid ++ past)
+      ≡ length h.stored.0 + count_above (vacuumed (without_drops mid ++ past)) (writes (more ++ (mid ++ past)))
   joined-count =
-      let was : length older.rows + part_dropped past ≡ length h.stored.0 + count_above (vacuumed past) (writes past) =
-      h.stored.2 in
-      let vacuumed_low : vacuumed past ≤ horizon past = vacuumed-low past h.legal in
+      let base : List Step = without_drops mid ++ past in
+      let was : length older.rows + part_dropped base
+      ≡ length h.stored.0 + count_above (vacuumed base) (writes (mid ++ past)) =
+      subst (λ (ws : List Row). length older.rows + part_dropped base
+      ≡ length h.stored.0 + count_above (vacuumed base) ws) same.rows h.stored.2 in
+      let vacuumed_low : vacuumed base ≤ horizon base = vacuumed-low base h.legal in
+      let hz = same.horizons in
       let r = rises in let b = bounded in
-      let older_above : count_above since older.rows ≡ count_above since (writes past) =
-      same_above since older.rows (writes past) h.rows.row_set h.rows.all_row_set (λ row m up. h.rows.within row m)
-      (λ row m up. h.rows.above row m (omega (arith, r, b, up))) in
-      let newer_above : count_above since newer.rows ≡ count_above since (writes (more ++ past)) =
-      same_above since newer.rows (writes (more ++ past)) g.rows.row_set g.rows.all_row_set
+      let older_above : count_above since older.rows ≡ count_above since (writes (mid ++ past)) =
+      same_above since older.rows (writes (mid ++ past)) hr.row_set hr.all_row_set (λ row m up. hr.within row m)
+      (λ row m up. hr.above row m (omega (arith, r, b, up))) in
+      let newer_above : count_above since newer.rows ≡ count_above since (writes (more ++ (mid ++ past))) =
+      same_above since newer.rows (writes (more ++ (mid ++ past))) g.rows.row_set g.rows.all_row_set
       (λ row m up. g.rows.within row m) (λ row m up. g.rows.above row m (omega (arith, b, up))) in
-      let many : length (rows_above since newer.rows) ≡ length upper =
-      sym (length_permutation (rows_above since newer.rows) upper moved) in
+      let many = tops.many in
       let split = split_count since older.rows in
-      let parts = rows_above_are_counted (vacuumed past) since (writes past) (omega (arith, r, b, vacuumed_low)) in
-      let parts' = rows_above_are_counted (vacuumed past) since (writes (more ++ past))
-      (omega (arith, r, b, vacuumed_low)) in
-      let stays = between-stays past more (vacuumed past) since g.legal low in
+      let parts = rows_above_are_counted (vacuumed base) since (writes (mid ++ past))
+      (omega (arith, r, b, vacuumed_low, hz)) in
+      let parts' = rows_above_are_counted (vacuumed base) since (writes (more ++ (mid ++ past)))
+      (omega (arith, r, b, vacuumed_low, hz)) in
+      let stays = between-stays (mid ++ past) more (vacuumed base) since g.legal low in
       let both = length-append (rows_to since older.rows) upper in
       omega (arith, was, older_above, newer_above, many, split, parts, parts', stays, both)
 
+  to-base : without_drops (more ++ mid) ++ past ≡ without_drops more ++ (without_drops mid ++ past)
+  to-base = ap (λ (s : List Step). s ++ past) (drops-append more mid)
+      ∙ append_assoc (without_drops more) (without_drops mid) past
+
+  to-full : (more ++ mid) ++ past ≡ more ++ (mid ++ past)
+  to-full = append_assoc more mid past
+
+  all-agree : Agree (without_drops more ++ (without_drops mid ++ past)) (more ++ (mid ++ past))
+  all-agree = subst (λ (p : List Step). Agree p (more ++ (mid ++ past))) to-base
+      (subst (λ (p : List Step). Agree (without_drops (more ++ mid) ++ past) p) to-full
+      (drops-agree (more ++ mid) past))
+
   -- so a state with these rows, and else the newer one, represents the past in which vacuums dropped nothing
   pub joined-represents : Represents (with_rows newer (joined since older.rows upper))
-      (without_drops more ++ past)
+      (without_drops more ++ (without_drops mid ++ past))
   joined-represents =
-      let are = drops-agree more past in
-      let now : List Step = without_drops more ++ past in
+      let base : List Step = without_drops mid ++ past in
+      let are = all-agree in
       record {
-        legal = drops-legal more past g.legal;
+        legal = subst IsLegal to-base (drops-legal (more ++ mid) past (subst IsLegal (sym to-full) g.legal));
         initial_nodes = g.initial_nodes ∙ sym are.alike.0;
         links = record {
           many = g.links.many ∙ sym are.alike.1;
@@ -380,53 +400,35 @@ module _ (since : ℕ) (older newer : StoreView) (upper : List Row) (past more :
         rows = rw (are.rows, are.horizons, are.alike.5) joined-represent;
         stored = (
           h.stored.0,
-          drops-last_changes more past h.stored.0 h.stored.1,
+          drops-last_changes more base h.stored.0 h.stored.1,
           let counted = joined-count in
-              rw (are.rows, drops-part_nothing more past, drops-vacuumed more past) counted,
+              rw (are.rows, drops-part_nothing more base, drops-vacuumed more base) counted,
         );
         horizon = g.horizon ∙ sym are.horizons;
       }
 
--- and so does what the older checkpoint becomes by the increment
+-- and so does what the older checkpoint becomes by the increment, one increment after another
+pub chained-represents : (older newer made : StoreView) (increment : IncrementView) (past mid more : List Step)
+    → Represents older (without_drops mid ++ past) → Represents newer (more ++ (mid ++ past))
+    → IsIncrementOf newer increment → increment.since ≤ floor (mid ++ past) → IsAdvanced older increment made
+    → Represents made (without_drops more ++ (without_drops mid ++ past))
+chained-represents older newer made increment past mid more h g of low is =
+    let whole : StoreView =
+    with_rows newer (joined increment.since older.rows increment.state.rows) in
+    let first : Represents whole (without_drops more ++ (without_drops mid ++ past)) =
+    joined-represents increment.since older newer increment.state.rows past mid more h g low of.horizon
+    (upper-moved increment.since newer increment.state.rows g.rows.row_set of.copy.rows.same) in
+    copy-represents whole made (without_drops more ++ (without_drops mid ++ past)) first (record {
+      same = is.same ∙ ap (λ (state : StoreView). with_rows state made.rows) of.copy.same;
+      rows = is.rows;
+    })
+
 pub advanced-represents : (older newer made : StoreView) (increment : IncrementView) (past more : List Step)
     → Represents older past → Represents newer (more ++ past)
     → IsIncrementOf newer increment → increment.since ≤ floor past → IsAdvanced older increment made
     → Represents made (without_drops more ++ past)
 advanced-represents older newer made increment past more h g of low is =
-    let whole : StoreView =
-    with_rows newer (joined increment.since older.rows increment.state.rows) in
-    let first : Represents whole (without_drops more ++ past) =
-    joined-represents increment.since older newer increment.state.rows past more h g low of.horizon
-    of.copy.rows.same in
-    copy-represents whole made (without_drops more ++ past) first (record {
-      same = is.same ∙ ap (λ (state : StoreView). with_rows state made.rows) of.copy.same;
-      rows = is.rows;
-    })
-
--- the numbers of nodes are not assigned again
-numbered-grows : (past more : List Step) → numbered past ≤ numbered (more ++ past)
-numbered-grows past [] = omega arith
-numbered-grows past (Took item ∷ more) = numbered-grows past more
-numbered-grows past (Opened stamp ∷ more) = numbered-grows past more
-numbered-grows past (Started nodes ∷ more) = (let h = numbered-grows past more in omega (arith, h))
-numbered-grows past (Closed id ∷ more) = numbered-grows past more
-numbered-grows past (Vacuumed at ∷ more) = numbered-grows past more
-numbered-grows past (PartVacuumed at dropped ∷ more) = numbered-grows past more
-numbered-grows past (Joined node start ∷ more) = (let h = numbered-grows past more in omega (arith, h))
-
--- and so is the number of those at the start
-initial_nodes-stay : (past more : List Step) → 0 < initial_nodes past → IsLegal (more ++ past)
-    → initial_nodes (more ++ past) ≡ initial_nodes past
-initial_nodes-stay past [] some legal = refl
-initial_nodes-stay past (Took item ∷ more) some legal = initial_nodes-stay past more some legal.1
-initial_nodes-stay past (Opened stamp ∷ more) some legal = initial_nodes-stay past more some legal.1
-initial_nodes-stay past (Started nodes ∷ more) some legal =
-    absurd (let none : initial_nodes (more ++ past) ≡ 0 = ap initial_nodes legal.0 in
-    let same = initial_nodes-stay past more some legal.1 in omega (arith, some, none, same))
-initial_nodes-stay past (Closed id ∷ more) some legal = initial_nodes-stay past more some legal.1
-initial_nodes-stay past (Vacuumed at ∷ more) some legal = initial_nodes-stay past more some legal.1
-initial_nodes-stay past (PartVacuumed at dropped ∷ more) some legal = initial_nodes-stay past more some legal.1
-initial_nodes-stay past (Joined node start ∷ more) some legal = initial_nodes-stay past more some legal.3
+    chained-represents older newer made increment past [] more h g of low is
 
 -- the increment of a later state fits an older checkpoint, unless its stamp is above that one's floor
 pub fits-unless_above : (older newer : StoreView) (increment : IncrementView) (past more : List Step)
@@ -438,19 +440,9 @@ fits-unless_above older newer increment past more h is g of is' (faults.Parts fa
 fits-unless_above older newer increment past more h is g of is' (faults.Parts fault) (inr (sound, none)) =
     absurd (sound-has_no_reason increment.state fault is' none)
 fits-unless_above older newer increment past more h is g of is' faults.NotLater reason =
-    let state : increment.state ≡ with_rows newer increment.state.rows = of.copy.same in
-    let links : length increment.state.links ≡ length newer.links =
-    ap (λ (view : StoreView). length view.links) state in
-    let at : increment.state.horizon ≡ newer.horizon = ap (λ (view : StoreView). view.horizon) state in
-    let grown = numbered-grows past more in
-    let rose = horizon-grows past more g.legal in
     let some : 0 < initial_nodes past = rw (← h.initial_nodes) is.store.sound.nodes.some in
-    absurd (reason.2 (record {
-      initial_nodes = h.initial_nodes ∙ sym (initial_nodes-stay past more some g.legal) ∙ sym g.initial_nodes
-          ∙ sym (ap (λ (view : StoreView). view.initial_nodes) state);
-      links = (let before = h.links.many in let after = g.links.many in omega (arith, before, grown, after, links));
-      horizon = (let before = h.horizon in let after = g.horizon in omega (arith, before, after, rose, at));
-    }))
+    absurd (reason.2 (subst (MayBeLater older) (sym of.copy.same)
+    (later-goes_on older newer increment.state.rows past more h g some)))
 fits-unless_above older newer increment past more h is g of is' (faults.AboveFloor f) reason =
     let same : floor_in older ≡ floor past = floor-in older past h in
     omega (arith, same, reason.1, reason.2)

@@ -1,6 +1,6 @@
 -- A past in which vacuums dropped nothing agrees with the past of the vacuums in all but the number of stored rows, and
 -- is legal where that is.
-use Rattle.std.proofs.Common.{◌≡◌, ℕ, ◌+◌, ◌≤◌, List, [], ◌∷◌, ◌++◌, refl, ap, sym, ◌∙◌}
+use Rattle.std.proofs.Common.{◌≡◌, ℕ, ◌≤◌, List, [], ◌∷◌, ◌++◌, refl, ap, sym, ◌∙◌}
 use Rattle.std.proofs.Common.{subst, arith}
 use Rattle.hlc_node.specs.declared.item.Item.{Item}
 use Rattle.hlc_core.specs.Past.{Step, Started, Took, Opened, Closed, Vacuumed, PartVacuumed, Joined}
@@ -142,3 +142,14 @@ drops-last_changes (Closed id ∷ more) past changes are = drops-last_changes mo
 drops-last_changes (Vacuumed at ∷ more) past changes are = drops-last_changes more past changes are
 drops-last_changes (PartVacuumed at dropped ∷ more) past changes are = drops-last_changes more past changes are
 drops-last_changes (Joined node start ∷ more) past changes are = drops-last_changes more past changes are
+
+pub drops-append : (more past : List Step) → without_drops (more ++ past) ≡ without_drops more ++ without_drops past
+drops-append [] past = refl
+drops-append (Took item ∷ more) past = ap (λ (p : List Step). Took item ∷ p) (drops-append more past)
+drops-append (Opened stamp ∷ more) past = ap (λ (p : List Step). Opened stamp ∷ p) (drops-append more past)
+drops-append (Started nodes ∷ more) past = ap (λ (p : List Step). Started nodes ∷ p) (drops-append more past)
+drops-append (Closed id ∷ more) past = ap (λ (p : List Step). Closed id ∷ p) (drops-append more past)
+drops-append (Vacuumed at ∷ more) past = ap (λ (p : List Step). PartVacuumed at 0 ∷ p) (drops-append more past)
+drops-append (PartVacuumed at dropped ∷ more) past =
+    ap (λ (p : List Step). PartVacuumed at 0 ∷ p) (drops-append more past)
+drops-append (Joined node start ∷ more) past = ap (λ (p : List Step). Joined node start ∷ p) (drops-append more past)

@@ -1,6 +1,9 @@
 -- An increment of a store: its state without the rows at or below a stamp; and what an older checkpoint becomes by it.
-use Rattle.std.specs.Prelude.{◌≡◌, ℕ, ◌<◌, ◌≤◌, ◌⊎◌, List, [], ◌∷◌, ◌++◌, All, length}
+use Rattle.std.specs.Prelude.{◌≡◌, ℕ, ◌<◌, ◌≤◌, ◌⊎◌, List, [], ◌∷◌, ◌++◌, All, Contains, IsTrue, length}
 use Rattle.std.specs.List.Sorted.{IsPermutation}
+use Rattle.hlc_intake.specs.IntakeView.{IntakeView}
+use Rattle.hlc_heads.specs.Heads.{link_at}
+use Rattle.hlc_snapshot.specs.declared.snapshot.Snapshot.{Snapshot}
 use Rattle.hlc_table_column.specs.Rows.{rows_to}
 use Rattle.hlc_witness.specs.Certificate.{RowsAscend}
 use Rattle.hlc_core.specs.Past.{Step, Started, Took, Opened, Closed, Vacuumed, Joined, PartVacuumed}
@@ -40,11 +43,30 @@ without_drops (Vacuumed at ∷ past) = PartVacuumed at 0 ∷ without_drops past
 without_drops (Joined node start ∷ past) = Joined node start ∷ without_drops past
 without_drops (PartVacuumed at dropped ∷ past) = PartVacuumed at 0 ∷ without_drops past
 
--- the state may be a later one of the same store: as many nodes at the start, no fewer links, and no lower horizon
+-- the link may be the other one later on: neither its number nor its head fell, and a node that retired did not come
+-- back
+pub record IsLaterLink (older newer : IntakeView) : Type 0 where
+  pub next : older.next ≤ newer.next
+  pub head : older.head ≤ newer.head
+  pub retired : IsTrue older.retired → IsTrue newer.retired
+
+-- the links may be the others later on, with those of nodes that joined
+pub record AreLaterLinks (older newer : List IntakeView) : Type 0 where
+  pub many : length older ≤ length newer
+  pub each : (n : ℕ) → n < length older → IsLaterLink (link_at older n) (link_at newer n)
+
+-- the snapshot was open at the older state, or has an id that was not assigned then: it is no closed one
+abbrev pub IsOpenOrNew : StoreView → Snapshot → Type 0
+IsOpenOrNew older snapshot = snapshot.id ≤ older.last_id → Contains older.snapshots snapshot
+
+-- The state may be the other one later on: it has as many nodes at the start; no link, horizon or last id went back;
+-- and no closed snapshot is open again.
 pub record MayBeLater (older newer : StoreView) : Type 0 where
   pub initial_nodes : older.initial_nodes ≡ newer.initial_nodes
-  pub links : length older.links ≤ length newer.links
+  pub links : AreLaterLinks older.links newer.links
   pub horizon : older.horizon ≤ newer.horizon
+  pub last_id : older.last_id ≤ newer.last_id
+  pub snapshots : All (IsOpenOrNew older) newer.snapshots
 
 -- the first refusal of an increment of a store with this state, or out of memory
 abbrev pub IsRefused : StoreView → ℕ → IncrementFault → Type 0

@@ -7,11 +7,12 @@ ghost use Rattle.hlc_witness.specs.Certificate.{RowsAscend};
 ghost use Rattle.hlc_core.specs.Past.{Step, floor};
 ghost use Rattle.hlc_core.specs.Checkpoint.{IsCheckpoint};
 ghost use Rattle.hlc_core.specs.StoreView.{StoreView, Represents};
-ghost use Rattle.hlc_increment.specs.Increment.{AreFitting, IsAdvanced, IsIncrementOf, IsReason, MayBeLater};
+ghost use Rattle.hlc_increment.specs.Increment.{AreFitting, IsAdvanced, IsIncrementOf, IsReason};
 ghost use Rattle.hlc_increment.specs.Increment.{without_drops};
 ghost use Rattle.hlc_increment.specs.Faults.{advance_code, advance_word};
 
 use crate::increment::Increment;
+use crate::later::may_be_later;
 use hlc_checkpoint::sort;
 use hlc_core::{Checkpoint, RestoreFault, Row, Stamp};
 use hlc_values::NoMemory;
@@ -23,8 +24,9 @@ use std::fmt;
 pub enum AdvanceFault {
     /// The older one is no checkpoint, or the state of the increment is none.
     Parts(RestoreFault),
-    /// The increment is not of a later state of the same store: it has another number of nodes at the start, fewer
-    /// links, or a lower horizon.
+    /// The increment is not of this state later on: it has another number of nodes at the start, fewer links, a link
+    /// with a lower number or head, a node that retired and is back, a lower horizon, a lower last id, or an open
+    /// snapshot that was closed.
     NotLater,
     /// The stamp of the increment is above the floor of the older checkpoint, so writes up to it may be missing.
     AboveFloor { floor: Stamp },
@@ -93,6 +95,9 @@ impl Error for AdvanceFault {}
 /// represents the same past as that store, but that its vacuums since the older checkpoint dropped nothing. So it
 /// answers alike, and its next vacuum drops what those dropped.
 ///
+/// Nothing goes back (`back`): an increment of an earlier state is refused with `NotLater`. One of the same state is
+/// taken, also one that comes twice: it changes nothing.
+///
 /// Refused for the first reason of `AdvanceFault`; memory is needed only after the check. Both are moved, and lost if
 /// it is refused. No row is copied; the rows are sorted.
 pub fn advance(
@@ -105,6 +110,15 @@ pub fn advance(
         → Represents newer (more ++ past) → IsIncrementOf newer increment
         → IfOk result (λ made. IfOk made
         (λ whole. Represents whole (without_drops more ++ past))) }
+    ensures chained { (past mid more : List Step) (newer : StoreView)
+        → Represents older (without_drops mid ++ past)
+        → Represents newer (more ++ (mid ++ past)) → IsIncrementOf newer increment
+        → IfOk result (λ made. IfOk made
+        (λ whole. Represents whole (without_drops more ++ (without_drops mid ++ past)))) }
+    ensures back { (past mid more : List Step) (earlier : StoreView)
+        → Represents older (more ++ (without_drops mid ++ past)) → Represents earlier (mid ++ past)
+        → IsIncrementOf earlier increment → IfOk result (λ made. IfOk made
+        (λ whole. Represents whole (more ++ (without_drops mid ++ past)))) }
     ensures only { (past more : List Step) (newer : StoreView) → Represents older past
         → IsCheckpoint older → Represents newer (more ++ past)
         → IsIncrementOf newer increment → IsCheckpoint increment.state
@@ -150,15 +164,6 @@ fn reason_against(older: &Checkpoint, increment: &Increment) -> Option<AdvanceFa
         return Some(AdvanceFault::RowUpToStamp);
     }
     None
-}
-
-/// Returns whether a state may be a later one of the same store.
-fn may_be_later(older: &Checkpoint, newer: &Checkpoint) -> bool
-    ensures { IsTrue result ↔ MayBeLater older.now newer.now }
-{
-    older.initial_nodes() == newer.initial_nodes()
-        && older.links().len() <= newer.links().len()
-        && older.horizon() <= newer.horizon()
 }
 
 /// Returns whether all rows are above a stamp.

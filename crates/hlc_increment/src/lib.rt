@@ -6,6 +6,7 @@ mod advancing;
 mod bytes;
 mod exact;
 mod increment;
+mod later;
 
 pub use advancing::{AdvanceFault, advance};
 pub use bytes::{DecodedIncrement, decode_increment, encode_increment};

@@ -64,6 +64,14 @@ fn joined(older: Checkpoint, increment: Increment, word: &mut u64) -> Result<Che
     ensures represents { (past more : List Step) (newer : StoreView) → Represents older past
         → Represents newer (more ++ past) → IsIncrementOf newer increment
         → IfOk result (λ made. Represents made (without_drops more ++ past)) }
+    ensures chained { (past mid more : List Step) (newer : StoreView)
+        → Represents older (without_drops mid ++ past) → Represents newer (more ++ (mid ++ past))
+        → IsIncrementOf newer increment
+        → IfOk result (λ made. Represents made (without_drops more ++ (without_drops mid ++ past))) }
+    ensures back { (past mid more : List Step) (earlier : StoreView)
+        → Represents older (more ++ (without_drops mid ++ past)) → Represents earlier (mid ++ past)
+        → IsIncrementOf earlier increment
+        → IfOk result (λ made. Represents made (more ++ (without_drops mid ++ past))) }
     ensures err { IfErr result (λ code. IsNotJoined older increment code word.new) }
 {
     *word = 0;
@@ -77,8 +85,8 @@ fn joined(older: Checkpoint, increment: Increment, word: &mut u64) -> Result<Che
 /// Makes the bytes of a newer checkpoint of those of an older one and of an increment, with the tag of the increment.
 /// Returns them; or, in this order: 106, the older bytes are no encoding, and the number of their first fault; 110, the
 /// increment is none, and the number; 107, one of both is no checkpoint, and the number of the reason; 111, the
-/// increment is not of a later state; 8, its stamp is above the floor of the older checkpoint, and that; 110, its stamp
-/// does not fit its rows and horizon; 15.
+/// increment is of an earlier state, or of another store; 8, its stamp is above the floor of the older checkpoint, and
+/// that; 110, its stamp does not fit its rows and horizon; 15.
 pub fn apply(
     alloc: Global,
     older: &[u8],
@@ -93,6 +101,18 @@ pub fn apply(
         → increment.now ≡ increment_bytes after read → IncrementFits after read
         → IsIncrementOf newer read → Represents newer (more ++ past)
         → IfOk result (λ bytes. BytesRepresent bytes.value.items after (without_drops more ++ past)) }
+    ensures chained { (before after : ℕ) (kept newer : StoreView) (read : IncrementView)
+        (past mid more : List Step) → AreOf older.now before kept
+        → Represents kept (without_drops mid ++ past) → increment.now ≡ increment_bytes after read
+        → IncrementFits after read → IsIncrementOf newer read → Represents newer (more ++ (mid ++ past))
+        → IfOk result (λ bytes. BytesRepresent bytes.value.items after
+        (without_drops more ++ (without_drops mid ++ past))) }
+    ensures back { (before after : ℕ) (kept earlier : StoreView) (read : IncrementView)
+        (past mid more : List Step) → AreOf older.now before kept
+        → Represents kept (more ++ (without_drops mid ++ past)) → increment.now ≡ increment_bytes after read
+        → IncrementFits after read → IsIncrementOf earlier read → Represents earlier (mid ++ past)
+        → IfOk result (λ bytes. BytesRepresent bytes.value.items after
+        (more ++ (without_drops mid ++ past))) }
     ensures err { IfErr result (λ code. IsNotAdvanced older.now increment.now code word.new) }
 {
     let kept = read_older(alloc, older, word)?;

@@ -7,7 +7,7 @@ use Rattle.std.specs.List.{All}
 use Rattle.std.proofs.lemmas.Bool.{cases_Bool, cond-true, cond-false, and_parts, and_from, cases_eq, eq-eqb, ne_eqb}
 use Rattle.std.proofs.lemmas.Bool.{ltb-true, lt-ltb}
 use Rattle.std.proofs.lemmas.List.{append-nil, append_assoc}
-use Rattle.std.proofs.lemmas.List.Elements.{All-push}
+use Rattle.std.proofs.lemmas.List.Elements.{All-push, All-head, All-tail}
 use Rattle.std.proofs.lemmas.Grind.{flat_map-append}
 use Rattle.hlc_node.specs.declared.item.Item.{Item as AnItem}
 use Rattle.hlc_wire.proofs.FieldLemmas.{IsBytes}
@@ -281,6 +281,22 @@ read-again past before again rest legal =
     passed-all (with_records (before ++ again) past) again rest
     (subst (λ (p : List Step). ArePassed p again) (sym e)
     (all-passed again (with_records before past) (subst IsLegal e legal)))
+
+-- a record that was read once is passed over, whatever took place since
+pub once-passed : (past more : List Step) (entry : Record) → IsLegal (with_record entry past)
+    → with_record entry (more ++ with_record entry past) ≡ more ++ with_record entry past
+once-passed past more entry legal =
+    passed-is (more ++ with_record entry past) entry
+    (passed-stays (with_record entry past) more entry (after-itself past entry legal))
+
+-- records that are passed over change nothing
+pub over-all : (past : List Step) (again rest : List Record) → All (λ entry. with_record entry past ≡ past) again
+    → with_records (again ++ rest) past ≡ with_records rest past
+over-all past [] rest all = refl
+over-all past (entry ∷ again) rest all =
+    ap (λ (p : List Step). with_records (again ++ rest) p)
+    (All-head (λ (e : Record). with_record e past ≡ past) entry again all)
+    ∙ over-all past again rest (All-tail (λ (e : Record). with_record e past ≡ past) entry again all)
 
 -- ---- a whole log
 

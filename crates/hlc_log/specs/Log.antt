@@ -35,6 +35,10 @@ step_of (Threshold at) = []
 abbrev pub with_record : Record → List Step → List Step
 with_record entry past = if came_before past entry then past else step_of entry ++ past
 
+-- the record changes nothing of this past: it came before, or is no step
+abbrev pub IsPassedOver : List Step → Record → Type 0
+IsPassedOver past entry = with_record entry past ≡ past
+
 -- the past after some records, one after another
 abbrev pub with_records : List Record → List Step → List Step
 with_records [] past = past

@@ -1,7 +1,7 @@
 //! The laws of replicas: stores that accept the items of one log.
 #![tactic(auto)]
 
-ghost use Rattle.std.specs.Prelude.{◌≡◌, ◌<◌, ◌≤◌, ◌⊎◌, ℕ, List, Contains};
+ghost use Rattle.std.specs.Prelude.{◌≡◌, ◌<◌, ◌≤◌, ◌⊎◌, ◌++◌, ℕ, List, Contains};
 ghost use Rattle.hlc_node.specs.declared.item.Item.{Item as AnItem};
 ghost use Rattle.hlc_rows.specs.Rows.{answer};
 ghost use Rattle.hlc_snapshot.specs.RegistryView.{stamps};
@@ -9,6 +9,7 @@ ghost use Rattle.hlc_core.specs.Past.{Step, IsLegal, floor, horizon, initial_nod
 ghost use Rattle.hlc_core.specs.Past.{open_snapshots, writes};
 ghost use Rattle.hlc_core.specs.Replicas.{AreReplicas, CanMeet, items_of, joins_of};
 ghost use Rattle.hlc_core.specs.StoreView.{StoreView, Represents};
+ghost use Rattle.hlc_replicas.specs.Places.{log_of};
 
 /// Replicas never diverge in what they accept. If they have as many nodes at the start and the same nodes joined at the
 /// same starts, one accepts an item exactly if the other does, provided that both accepted the same items of its node,
@@ -50,4 +51,12 @@ pub fn lagging_replicas_answer_alike()
         → (horizon past ≤ stamp) ⊎ Contains (stamps (open_snapshots past)) stamp
         → (horizon other ≤ stamp) ⊎ Contains (stamps (open_snapshots other)) stamp
         → answer kept.rows key stamp ≡ answer copy.rows key stamp }
+{}
+
+/// Stores at two places of one log can meet, whatever snapshots each opened and whenever each was vacuumed: the one
+/// that is behind can take the items and the joins that it lacks. So they answer alike
+/// (`lagging_replicas_answer_alike`).
+pub fn places_of_one_log_can_meet()
+    ensures { (past other more : List Step) → 0 < initial_nodes past → IsLegal past → IsLegal other
+        → log_of other ≡ log_of more ++ log_of past → CanMeet past other }
 {}

@@ -1,9 +1,9 @@
 -- What the events of a machine do to a run.
 use Rattle.std.proofs.Common.{◌≡◌, ℕ, ◌+◌, ◌<◌, ◌≤◌, List, [], ◌∷◌, ◌++◌, length, max, set, Some, None, Option}
 use Rattle.std.proofs.Common.{Ok, Err, Result, refl, ap, sym, ◌∙◌, subst, inl, inr, arith, length-set}
-use Rattle.std.specs.Prelude.{slice_get, IfOk}
+use Rattle.std.specs.Prelude.{slice_get, IfOk, ◌≢◌}
 use Rattle.std.specs.Option.{option_map}
-use Rattle.std.proofs.lemmas.Bool.{cases_eq, cond-true, eq-eqb}
+use Rattle.std.proofs.lemmas.Bool.{cases_eq, cond-true, cond-false, eq-eqb, ne_eqb}
 use Rattle.std.proofs.lemmas.Option.{slice_get_within}
 use Rattle.std.proofs.lemmas.List.Elements.{All-head, All-tail}
 use Rattle.hlc_clock.specs.NextStamp.{IsClockAnswer}
@@ -178,13 +178,20 @@ reports-go_on layout run m old reading new items legal h (one {machine} {items =
     (issue-goes_on layout (issued_from 0 before run) m machine new (length before) Report reading item so_far.0 so_far.1
     tt issues)
 
--- a step of a store by which no node joins
+-- a mark of another machine raises no clock of this one
+not-raised : (m last : ℕ) (o : Option (ℕ × ℕ)) → ((mark : ℕ × ℕ) → o ≡ Some mark → mark.0 ≡ m → ⊥)
+    → raised_by m o last ≡ last
+not-raised m last None apart = refl
+not-raised m last (Some mark) apart = cond-false _ _ _ (ne_eqb mark.0 m (apart mark refl))
+
+-- a step of a store by which no node of this machine joins
 pub step-keeps : (layout : Layout) (run : List Turn) (m s : ℕ) (machine : MachineView) (step : Step)
-    → IsMachineOf layout run m machine → start_of layout s step ≡ None
+    → IsMachineOf layout run m machine
+    → ((mark : ℕ × ℕ) → start_of layout s step ≡ Some mark → mark.0 ≢ m)
     → IsMachineOf layout (Stepped s step ∷ run) m machine
 step-keeps layout run m s machine step h free =
     let same : last_stamp layout m (Stepped s step ∷ run) ≡ last_stamp layout m run =
-    ap (λ o. raised_by m o (last_stamp layout m run)) free in
+    not-raised m (last_stamp layout m run) (start_of layout s step) free in
     record {
       many = h.many;
       nodes = λ t node there.

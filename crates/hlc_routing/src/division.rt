@@ -4,7 +4,7 @@ ghost use Rattle.std.specs.Ordering.{is_lt, nat_cmp};
 ghost use Rattle.std.specs.Cmp.Lexicographic.{slice_cmp};
 ghost use Rattle.hlc_routing.specs.Division.{ByKeys, ByHash, AreAscending, AreOfStore, IsDivision, stores_of};
 ghost use Rattle.hlc_routing.specs.Division.{store_of, store_between, hash_after};
-ghost use Rattle.hlc_routing.specs.declared.division.TheConstants.{MAX_STORES, HASH_START};
+ghost use Rattle.hlc_routing.specs.declared.division.TheConstants.{MAX_STORES, HASH_START, HASH_PRIME};
 
 use hlc_node::{Bytes, Write};
 use hlc_values::Listed;
@@ -17,6 +17,18 @@ pub const MAX_STORES: usize = 1024;
 pub(crate) const HASH_START: u64 = 0xcbf2_9ce4_8422_2325;
 
 pub(crate) const HASH_PRIME: u64 = 0x0000_0100_0000_01b3;
+
+/// A division has at most 1,024 stores.
+pub fn max_stores_are_1024()
+    ensures { MAX_STORES ≡ 1024 }
+{}
+
+/// The hash has the offset basis and the prime of FNV-1a of 64 bits, as in each other language. With others, keys would
+/// be looked for in other stores than they were written to.
+pub fn the_hash_is_fnv_1a()
+    ensures start { HASH_START ≡ 14695981039346656037 }
+    ensures prime { HASH_PRIME ≡ 1099511628211 }
+{}
 
 /// A division of the keys over 1 to 1,024 stores, which are numbered from 0: by ranges, or by a hash.
 ///

@@ -1,5 +1,5 @@
 //! What events at machines leave of the stores, and steps of stores of the machines.
-ghost use Rattle.std.specs.Prelude.{◌≡◌, ◌≢◌, ◌<◌, ◌≤◌, ◌∷◌, ℕ, List, None};
+ghost use Rattle.std.specs.Prelude.{◌≡◌, ◌≢◌, ◌<◌, ◌≤◌, ◌∷◌, ℕ, List, Some};
 ghost use Rattle.hlc_node.specs.declared.item.Item.{Item as AnItem};
 ghost use Rattle.hlc_core.specs.Past.{Step};
 ghost use Rattle.hlc_ranges.specs.Run.{Layout, Turn, Issued, Sent, Received, Observed, Stepped, IsLegal, start_of};
@@ -40,10 +40,11 @@ pub fn events_keep_machines()
         → IsMachineOf layout (Observed n s at stamp ∷ run) m machine }
 {}
 
-/// A machine is the run's after a step of a store too, if no node joins by it.
+/// A machine is the run's after a step of a store too, if no node of this machine joins by it.
 pub fn steps_keep_machines()
     ensures { (layout : Layout) (run : List Turn) (m s : ℕ) (machine : MachineView) (step : Step)
-        → IsMachineOf layout run m machine → start_of layout s step ≡ None
+        → IsMachineOf layout run m machine
+        → ((mark : ℕ × ℕ) → start_of layout s step ≡ Some mark → mark.0 ≢ m)
         → IsMachineOf layout (Stepped s step ∷ run) m machine }
 {}
 

@@ -12,7 +12,7 @@ mod opened;
 mod ranges;
 mod snapshot;
 
-pub use division::{Division, MAX_STORES};
+pub use division::{Division, MAX_STORES, max_stores_are_1024, the_hash_is_fnv_1a};
 pub use fault::RangesFault;
 pub use hlc_core::{Accepted, Checkpoint, Core, CoreFault, Item, Report, Stamp};
 pub use laws::{

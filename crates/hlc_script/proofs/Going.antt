@@ -10,10 +10,10 @@ use Rattle.hlc_text.proofs.PrintLemmas.{printed_then, printed_none}
 use Rattle.std.proofs.Common.{append-nil}
 use Rattle.hlc_text.specs.Text.{printed}
 use Rattle.hlc_text.specs.Lines.{lines_of, bad_line}
-use Rattle.hlc_world.specs.Schedule.{Event}
+use Rattle.hlc_world_event.specs.Events.{Event}
 use Rattle.hlc_world.specs.declared.reply.Reply.{Reply}
 use Rattle.hlc_world.specs.WorldView.{WorldView, Represents}
-use Rattle.hlc_script.specs.Line.{event_line, HasLine, HasHeader, header_line}
+use Rattle.hlc_line.specs.Line.{event_line, HasLine, HasHeader, header_line}
 use Rattle.hlc_script.specs.Reply.{reply_text}
 use Rattle.hlc_script.specs.Run.{AnswersLine, Answers, AnswersScript}
 

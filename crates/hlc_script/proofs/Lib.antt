@@ -1,4 +1,3 @@
-pub mod Lines
 pub mod Going
 pub mod Taken
 pub mod Outputs

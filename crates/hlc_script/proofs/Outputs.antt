@@ -17,16 +17,18 @@ use Rattle.hlc_core.specs.Calls.{IsListed}
 use Rattle.hlc_core.proofs.ListingLemmas.{one-listing}
 use Rattle.hlc_core.proofs.ReportLemmas.{there_is_one_report, there_is_one_count}
 use Rattle.hlc_node.specs.declared.node.NodeFault.{NodeFault}
-use Rattle.hlc_world.specs.declared.event.Event.TheVariants.{Write, Delete, Report, Retire, Join, Send, Receive}
-use Rattle.hlc_world.specs.declared.event.Event.TheVariants.{Observe, Deliver, OpenAt, OpenFloor, Read, List as ListAll}
-use Rattle.hlc_world.specs.declared.event.Event.TheVariants.{Close, Floor, Vacuum, Rows}
+use Rattle.hlc_world_event.specs.declared.event.Event.TheVariants.{Write, Delete, Report, Retire, Join, Send, Receive}
+use Rattle.hlc_world_event.specs.declared.event.Event.TheVariants.{Observe, Deliver, OpenAt, OpenFloor, Read}
+use Rattle.hlc_world_event.specs.declared.event.Event.TheVariants.{List as ListAll}
+use Rattle.hlc_world_event.specs.declared.event.Event.TheVariants.{Close, Floor, Vacuum, Rows}
 use Rattle.hlc_world.specs.declared.reply.Reply.{Reply}
 use Rattle.hlc_world.specs.declared.reply.Reply.TheVariants.{Stamped, Joined, Sent, Received, Observed, Accepted}
 use Rattle.hlc_world.specs.declared.reply.Reply.TheVariants.{Snapshot, Answer, Listing, Closed, Floor as FloorIs}
 use Rattle.hlc_world.specs.declared.reply.Reply.TheVariants.{Vacuumed, Rows as RowsAre, Refused}
 use Rattle.hlc_world.specs.declared.refusal.Refusal.{Refusal}
 use Rattle.hlc_world.specs.declared.refusal.Refusal.TheVariants.{NoMemory as no_memory}
-use Rattle.hlc_world.specs.Schedule.{Event, item_at}
+use Rattle.hlc_world.specs.Schedule.{item_at}
+use Rattle.hlc_world_event.specs.Events.{Event}
 use Rattle.hlc_world.specs.Store.{accepting, accepted, paired, core_past}
 use Rattle.hlc_world.specs.Expected.{expected_refusal, IsReceived, IsObserved, IsExpectedOfStore, IsExpectedReply}
 use Rattle.hlc_world.specs.Expected.{MayReply}
@@ -34,11 +36,11 @@ use Rattle.hlc_script.specs.declared.run.RunEnd.{RunEnd}
 use Rattle.hlc_script.specs.declared.run.RunEnd.TheVariants.{Answered, BadLine, BadHeader, NoMemory, NotLoaded}
 use Rattle.hlc_script.specs.declared.run.RunEnd.TheVariants.{WriteFault}
 use Rattle.hlc_text.specs.declared.input.InputFault.TheVariants.{NoMemory as not_enough, ReadFault, TooLong}
-use Rattle.hlc_script.specs.Line.{HasHeader, header_line}
+use Rattle.hlc_line.specs.Line.{HasHeader, header_line}
 use Rattle.hlc_script.specs.Reply.{reply_lines, reply_text}
 use Rattle.hlc_script.specs.Run.{AnswersLine, Answers, AnswersScript}
 use Rattle.hlc_script.specs.OneOutput.{ReportsNoMemory, OneOutput}
-use Rattle.hlc_script.proofs.Lines.{one_event, one_header}
+use Rattle.hlc_line.proofs.LineLemmas.{one_event, one_header}
 
 -- the two are equal, or one of them is out of memory
 abbrev OneReply : Reply → Reply → Type 0

@@ -1,4 +1,3 @@
-pub mod Line
 pub mod Reply
 pub mod Run
 pub mod OneOutput

@@ -1,17 +1,11 @@
--- A line is the line of one event, and an input has one output.
+-- An input has one output.
 use Rattle.std.specs.Prelude.{◌≡◌, ◌≢◌, ℕ, List, ◌++◌, ◌⊎◌, codes}
 use Rattle.std.specs.List.{flat_map}
 use Rattle.hlc_text.specs.Text.{printed}
-use Rattle.hlc_world.specs.Schedule.{Event}
 use Rattle.hlc_script.specs.declared.run.RunEnd.{RunEnd}
 use Rattle.hlc_script.specs.declared.run.RunEnd.TheVariants.{NotLoaded}
 use Rattle.hlc_text.specs.declared.input.InputFault.TheVariants.{ReadFault}
-use Rattle.hlc_script.specs.Line.{event_line, HasLine}
 use Rattle.hlc_script.specs.Run.{MayWrite}
-
--- two events that have the same line are equal
-abbrev pub OneEvent : Type 0
-OneEvent = (event other : Event) → HasLine event → HasLine other → event_line event ≡ event_line other → event ≡ other
 
 -- one of its lines is `refused 15`
 abbrev pub ReportsNoMemory : List ℕ → Type 0

@@ -11,7 +11,7 @@ use Rattle.hlc_text.specs.Text.{printed}
 use Rattle.hlc_text.specs.Lines.{lines_of, bad_line}
 use Rattle.hlc_text.specs.declared.input.InputFault.TheVariants.{ReadFault}
 use Rattle.hlc_text.specs.Input.{IsInput, MayFault, FaultTakes, fault_line}
-use Rattle.hlc_world.specs.Schedule.{Event}
+use Rattle.hlc_world_event.specs.Events.{Event}
 use Rattle.hlc_world.specs.declared.reply.Reply.{Reply}
 use Rattle.hlc_world.specs.declared.reply.Reply.TheVariants.{Refused}
 use Rattle.hlc_world.specs.declared.refusal.Refusal.TheVariants.{NoMemory as no_memory}
@@ -19,7 +19,7 @@ use Rattle.hlc_world.specs.Expected.{MayReply}
 use Rattle.hlc_script.specs.declared.run.RunEnd.{RunEnd}
 use Rattle.hlc_script.specs.declared.run.RunEnd.TheVariants.{Answered, BadLine, BadHeader, NoMemory, NotLoaded}
 use Rattle.hlc_script.specs.declared.run.RunEnd.TheVariants.{WriteFault}
-use Rattle.hlc_script.specs.Line.{event_line, HasLine, BearsBytes, header_line, HasHeader}
+use Rattle.hlc_line.specs.Line.{event_line, HasLine, BearsBytes, header_line, HasHeader}
 use Rattle.hlc_script.specs.Reply.{reply_text}
 
 -- A good line was answered, and the schedule is `after` then. Its event got a reply that a world may return; or memory

@@ -1,10 +1,5 @@
 //! What is true of every script.
-ghost use Rattle.hlc_script.specs.OneOutput.{OneEvent, OneOutput};
-
-/// States that a line is the line of at most one event.
-pub fn one_event_for_a_line()
-    ensures { OneEvent }
-{}
+ghost use Rattle.hlc_script.specs.OneOutput.{OneOutput};
 
 /// States that an input has one output, and one end of the run, except where a line of the output reports out of memory
 /// or a read failed.

@@ -4,12 +4,10 @@
 mod asked;
 mod exact;
 mod laws;
-mod line;
 mod reply;
 mod run;
 
 pub use asked::answer_asked;
-pub use laws::{one_event_for_a_line, one_output_for_an_input};
-pub use line::{owned_event, read_line};
+pub use laws::one_output_for_an_input;
 pub use reply::{put_refusal, put_reply};
 pub use run::{RunEnd, answer_input, run_script};

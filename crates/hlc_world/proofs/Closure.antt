@@ -11,11 +11,12 @@ use Rattle.hlc_node.specs.declared.item.Body.TheVariants.{Write as a_write, Repo
 use Rattle.hlc_snapshot.proofs.RegisterLemmas.{stamp_in-all}
 use Rattle.hlc_core.specs.Past.{floor, open_snapshots}
 use Rattle.hlc_core.proofs.PastLemmas.{open-low}
-use Rattle.hlc_world.specs.declared.event.Event.TheVariants.{Write, Delete, Report, Retire}
+use Rattle.hlc_world_event.specs.declared.event.Event.TheVariants.{Write, Delete, Report, Retire}
 use Rattle.hlc_world.specs.declared.reply.Reply.{Reply}
 use Rattle.hlc_world.specs.declared.reply.Reply.TheVariants.{Stamped}
 use Rattle.hlc_node.specs.Items.{an_item}
-use Rattle.hlc_world.specs.Schedule.{Event, item_made, stamping_of, with_item, issued}
+use Rattle.hlc_world.specs.Schedule.{item_made, stamping_of, with_item, issued}
+use Rattle.hlc_world_event.specs.Events.{Event}
 use Rattle.hlc_world.specs.Store.{core_past}
 use Rattle.hlc_world.specs.Expected.{IsLegal}
 use Rattle.hlc_world.specs.Before.{entry_at, IsStamped}

@@ -13,11 +13,12 @@ use Rattle.hlc_heads.specs.Heads.{AcceptedView}
 use Rattle.hlc_core.specs.Past.{Took, numbered, retired, count, head, of_body as body_fault, item_refusal}
 use Rattle.hlc_core.specs.StoreView.{StoreView, Represents as CoreRepresents}
 use Rattle.hlc_core.specs.Calls.{IsRefusal, IsWrite}
-use Rattle.hlc_world.specs.declared.event.Event.TheVariants.{Deliver}
+use Rattle.hlc_world_event.specs.declared.event.Event.TheVariants.{Deliver}
 use Rattle.hlc_world.specs.declared.reply.Reply.{Reply}
 use Rattle.hlc_world.specs.declared.reply.Reply.TheVariants.{Accepted, Refused}
 use Rattle.hlc_world.specs.declared.refusal.Refusal.TheVariants.{NoMemory}
-use Rattle.hlc_world.specs.Schedule.{Event, item_at}
+use Rattle.hlc_world.specs.Schedule.{item_at}
+use Rattle.hlc_world_event.specs.Events.{Event}
 use Rattle.hlc_world.specs.Store.{accepting, accepted, paired, store_history, core_past}
 use Rattle.hlc_world.specs.Expected.{of_core, core_refusal, on_link, deliver_refusal, expected_refusal, number_refusal}
 use Rattle.hlc_world.specs.Expected.{GoesByNumber, IsExpectedOfStore, StoreMayRunOut, IsLegal}

@@ -10,13 +10,14 @@ use Rattle.hlc_node.specs.declared.item.Body.TheVariants.{Write as a_write, Repo
 use Rattle.hlc_node.specs.Items.{an_item, retires}
 use Rattle.hlc_core.specs.Past.{Step, Took, retired, count}
 use Rattle.hlc_core.proofs.PastLemmas.{retired-same, retired-other, count-other}
-use Rattle.hlc_world.specs.declared.event.Event.TheVariants.{Write, Delete, Report, Retire, Join, Deliver, OpenAt}
-use Rattle.hlc_world.specs.declared.event.Event.TheVariants.{OpenFloor, Read, List as ListAll, Close, Vacuum}
+use Rattle.hlc_world_event.specs.declared.event.Event.TheVariants.{Write, Delete, Report, Retire, Join, Deliver, OpenAt}
+use Rattle.hlc_world_event.specs.declared.event.Event.TheVariants.{OpenFloor, Read, List as ListAll, Close, Vacuum}
 use Rattle.hlc_world.specs.declared.reply.Reply.{Reply}
 use Rattle.hlc_world.specs.declared.reply.Reply.TheVariants.{Stamped, Joined, Accepted, Snapshot, Answer, Listing}
 use Rattle.hlc_world.specs.declared.reply.Reply.TheVariants.{Closed, Vacuumed}
 use Rattle.hlc_world.specs.declared.refusal.Refusal.{Refusal}
-use Rattle.hlc_world.specs.Schedule.{Event, with_item, ends, issued, has_retired}
+use Rattle.hlc_world.specs.Schedule.{with_item, ends, issued, has_retired}
+use Rattle.hlc_world_event.specs.Events.{Event}
 use Rattle.hlc_world.specs.Store.{store_history, core_past}
 use Rattle.hlc_world.specs.Expected.{on_node, deliver_refusal, MayReply, IsLegal}
 use Rattle.hlc_world.proofs.Nodes.{with_item-same, with_item-other, ends-same, ends-other}

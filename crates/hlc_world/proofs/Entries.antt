@@ -1,7 +1,7 @@
 -- The entries of a schedule by their turns.
 use Rattle.std.proofs.Common.{◌≡◌, ℕ, ◌<◌, ◌⊎◌, List, [], ◌∷◌, length, Some, sym, ◌∙◌, inl, inr, arith}
 use Rattle.std.proofs.lemmas.Bool.{cond-true, cond-false, eq-eqb, ne_eqb, cases_eq}
-use Rattle.hlc_world.specs.Schedule.{Event}
+use Rattle.hlc_world_event.specs.Events.{Event}
 use Rattle.hlc_world.specs.declared.reply.Reply.{Reply}
 use Rattle.hlc_world.specs.Before.{entry_at}
 use Rattle.hlc_world.proofs.Lists.{some-injective}

@@ -7,7 +7,7 @@ use Rattle.hlc_core.specs.declared.reply.CoreReply.{CoreReply}
 use Rattle.hlc_core.specs.History.{RepresentsHistory}
 use Rattle.hlc_core.specs.Headline.{IsMoment as IsStoreMoment}
 use Rattle.hlc_core.proofs.FaithfulLemmas.{histories_are_faithful}
-use Rattle.hlc_world.specs.Schedule.{Event}
+use Rattle.hlc_world_event.specs.Events.{Event}
 use Rattle.hlc_world.specs.declared.reply.Reply.{Reply}
 use Rattle.hlc_world.specs.Store.{share, with_entry, store_history}
 use Rattle.hlc_world.specs.Expected.{IsLegal}

@@ -11,12 +11,13 @@ use Rattle.hlc_node.specs.declared.item.Item.{Item}
 use Rattle.hlc_core.specs.Past.{Step, Took, Opened, Closed as ClosedOf, Vacuumed as VacuumedOf, Joined as JoinedOf}
 use Rattle.hlc_core.specs.Past.{retired, count, head, floor}
 use Rattle.hlc_core.proofs.PastLemmas.{floor-le, count-other}
-use Rattle.hlc_world.specs.declared.event.Event.TheVariants.{Write, Delete, Report, Retire, Join, Deliver, OpenAt}
-use Rattle.hlc_world.specs.declared.event.Event.TheVariants.{OpenFloor, Read, List as ListAll, Close, Vacuum}
+use Rattle.hlc_world_event.specs.declared.event.Event.TheVariants.{Write, Delete, Report, Retire, Join, Deliver, OpenAt}
+use Rattle.hlc_world_event.specs.declared.event.Event.TheVariants.{OpenFloor, Read, List as ListAll, Close, Vacuum}
 use Rattle.hlc_world.specs.declared.reply.Reply.{Reply}
 use Rattle.hlc_world.specs.declared.reply.Reply.TheVariants.{Stamped, Joined, Accepted, Snapshot, Answer, Listing}
 use Rattle.hlc_world.specs.declared.reply.Reply.TheVariants.{Closed, Vacuumed}
-use Rattle.hlc_world.specs.Schedule.{Event, with_item, issued}
+use Rattle.hlc_world.specs.Schedule.{with_item, issued}
+use Rattle.hlc_world_event.specs.Events.{Event}
 use Rattle.hlc_world.specs.Store.{store_history, core_past}
 use Rattle.hlc_world.specs.Expected.{MayReply, IsLegal, deliver_refusal}
 use Rattle.hlc_world.specs.Floor.{IsComplete, IsBelowClocks}

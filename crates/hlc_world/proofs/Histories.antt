@@ -16,12 +16,14 @@ use Rattle.hlc_core.specs.Past.{IsLegal as IsLegalPast}
 use Rattle.hlc_core.proofs.PastLemmas.{open-room, vacuum-none, horizon-low}
 use Rattle.hlc_core.specs.Calls.{list_refusal}
 use Rattle.hlc_core.specs.History.{step_of, with_step, past_of, IsExpected, IsLegalHistory, IsLeft}
-use Rattle.hlc_world.specs.declared.event.Event.TheVariants.{Deliver, OpenAt, OpenFloor, Read, List as ListAll, Close}
-use Rattle.hlc_world.specs.declared.event.Event.TheVariants.{Join, Vacuum}
+use Rattle.hlc_world_event.specs.declared.event.Event.TheVariants.{Deliver, OpenAt, OpenFloor, Read, List as ListAll}
+use Rattle.hlc_world_event.specs.declared.event.Event.TheVariants.{Close}
+use Rattle.hlc_world_event.specs.declared.event.Event.TheVariants.{Join, Vacuum}
 use Rattle.hlc_world.specs.declared.reply.Reply.{Reply}
 use Rattle.hlc_world.specs.declared.reply.Reply.TheVariants.{Accepted, Joined, Snapshot, Answer, Listing, Closed}
 use Rattle.hlc_world.specs.declared.reply.Reply.TheVariants.{Vacuumed}
-use Rattle.hlc_world.specs.Schedule.{Event, item_at}
+use Rattle.hlc_world.specs.Schedule.{item_at}
+use Rattle.hlc_world_event.specs.Events.{Event}
 use Rattle.hlc_world.specs.Store.{accepting, accepted, paired, with_entry, store_history, core_past}
 use Rattle.hlc_world.specs.Expected.{deliver_refusal, IsExpectedOfStore, MayReply, IsLegal}
 use Rattle.hlc_world.proofs.Orderly.{no-core, on_link-none}

@@ -9,13 +9,14 @@ use Rattle.hlc_events.specs.declared.fault.CoreFault.{CoreFault}
 use Rattle.hlc_core.specs.Past.{Joined as JoinedOf, numbered, floor, join_refusal}
 use Rattle.hlc_core.specs.StoreView.{StoreView, Represents as CoreRepresents}
 use Rattle.hlc_core.specs.Calls.{IsRefusal}
-use Rattle.hlc_world.specs.declared.event.Event.TheVariants.{Join}
+use Rattle.hlc_world_event.specs.declared.event.Event.TheVariants.{Join}
 use Rattle.hlc_world.specs.declared.reply.Reply.{Reply}
 use Rattle.hlc_world.specs.declared.reply.Reply.TheVariants.{Joined, Refused}
 use Rattle.hlc_heads.specs.declared.heads.JoinFault.TheVariants.{TooManyNodes}
 use Rattle.hlc_events.specs.declared.fault.CoreFault.TheVariants.{Join as joining}
 use Rattle.hlc_world.specs.declared.refusal.Refusal.TheVariants.{Store, NoMemory}
-use Rattle.hlc_world.specs.Schedule.{Event, item_made, with_item, ends, stamp_or, issued, has_retired, last_stamp}
+use Rattle.hlc_world.specs.Schedule.{item_made, with_item, ends, stamp_or, issued, has_retired, last_stamp}
+use Rattle.hlc_world_event.specs.Events.{Event}
 use Rattle.hlc_world.specs.Store.{core_past}
 use Rattle.hlc_world.specs.Expected.{of_core, core_refusal}
 use Rattle.hlc_world.specs.WorldView.{IssuerView, WorldView, Represents}

@@ -19,14 +19,15 @@ use Rattle.hlc_core.specs.History.{past_of}
 use Rattle.hlc_core.specs.StoreView.{StoreView, Represents as CoreRepresents}
 use Rattle.hlc_world.specs.declared.content.Content.{Content}
 use Rattle.hlc_world.specs.declared.content.Content.TheVariants as contents
-use Rattle.hlc_world.specs.declared.event.Event.TheVariants.{Send, Receive, Observe}
+use Rattle.hlc_world_event.specs.declared.event.Event.TheVariants.{Send, Receive, Observe}
 use Rattle.hlc_world.specs.declared.reply.Reply.{Reply}
 use Rattle.hlc_world.specs.declared.reply.Reply.TheVariants.{Stamped, Sent, Received, Observed, Refused}
 use Rattle.hlc_world.specs.declared.refusal.Refusal.{Refusal}
 use Rattle.hlc_node.specs.declared.node.NodeFault.TheVariants.{Retired}
 use Rattle.hlc_world.specs.declared.refusal.Refusal.TheVariants.{Node as at_node, NoMemory}
 use Rattle.hlc_world.specs.Schedule.{item_made, message_made, mark_of, with_item, ends, stamp_or, with_message}
-use Rattle.hlc_world.specs.Schedule.{Event, body_of, issuing, issued, has_retired, last_stamp, sent, message_at}
+use Rattle.hlc_world.specs.Schedule.{body_of, issuing, issued, has_retired, last_stamp, sent, message_at}
+use Rattle.hlc_world_event.specs.Events.{Event}
 use Rattle.hlc_world.specs.Schedule.{node_of}
 use Rattle.hlc_world.specs.Store.{asked, returned, paired, with_entry, store_history, core_past}
 use Rattle.hlc_world.specs.Expected.{issue_refusal, stamp_refusal, receive_refusal, observe_refusal, on_link}

@@ -12,8 +12,8 @@ use Rattle.hlc_core.specs.History.{step_of, with_step, past_of}
 use Rattle.hlc_core.specs.Past.{Step, Started, Took, Opened, Closed as ClosedOf, Vacuumed as VacuumedOf}
 use Rattle.hlc_core.specs.Past.{PartVacuumed as PartVacuumedOf}
 use Rattle.hlc_core.specs.Past.{Joined as JoinedOf, last_id, open_snapshots, stamp_of}
-use Rattle.hlc_world.specs.Schedule.{Event}
-use Rattle.hlc_world.specs.declared.event.Event.TheVariants.{OpenAt, OpenFloor, Observe}
+use Rattle.hlc_world_event.specs.Events.{Event}
+use Rattle.hlc_world_event.specs.declared.event.Event.TheVariants.{OpenAt, OpenFloor, Observe}
 use Rattle.hlc_world.specs.declared.reply.Reply.{Reply}
 use Rattle.hlc_world.specs.declared.reply.Reply.TheVariants.{Snapshot, Observed}
 use Rattle.hlc_world.specs.Store.{share, with_entry, store_history, core_past}

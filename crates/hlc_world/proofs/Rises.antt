@@ -19,9 +19,10 @@ use Rattle.hlc_core.specs.Past.{join_refusal, of_room, open_refusal}
 use Rattle.hlc_snapshot.specs.declared.fault.SnapshotFault.{SnapshotFault}
 use Rattle.hlc_snapshot.specs.declared.fault.SnapshotFault.TheVariants as snapshot_fault
 use Rattle.hlc_snapshot.specs.RegistryView.{room_refusal as room_in}
-use Rattle.hlc_world.specs.declared.event.Event.TheVariants.{Write, Delete, Report, Retire, Join, Send, Receive}
-use Rattle.hlc_world.specs.declared.event.Event.TheVariants.{Observe, Deliver, OpenAt, OpenFloor, Read, List as ListAll}
-use Rattle.hlc_world.specs.declared.event.Event.TheVariants.{Close, Floor, Vacuum, Rows}
+use Rattle.hlc_world_event.specs.declared.event.Event.TheVariants.{Write, Delete, Report, Retire, Join, Send, Receive}
+use Rattle.hlc_world_event.specs.declared.event.Event.TheVariants.{Observe, Deliver, OpenAt, OpenFloor, Read}
+use Rattle.hlc_world_event.specs.declared.event.Event.TheVariants.{List as ListAll}
+use Rattle.hlc_world_event.specs.declared.event.Event.TheVariants.{Close, Floor, Vacuum, Rows}
 use Rattle.hlc_world.specs.declared.reply.Reply.{Reply}
 use Rattle.hlc_world.specs.declared.reply.Reply.TheVariants.{Refused}
 use Rattle.hlc_world.specs.declared.refusal.Refusal.{Refusal}
@@ -29,7 +30,8 @@ use Rattle.hlc_intake.specs.declared.intake.LinkFault.TheVariants as link_fault
 use Rattle.hlc_heads.specs.declared.heads.JoinFault.TheVariants.{TooManyNodes}
 use Rattle.hlc_events.specs.declared.fault.CoreFault.TheVariants.{Link, Join as joining, AboveFloor, BelowHorizon}
 use Rattle.hlc_world.specs.declared.refusal.Refusal.TheVariants.{NoNode, Node as at_node, Store, NoMemory}
-use Rattle.hlc_world.specs.Schedule.{Event, has_retired, item_at, last_stamp, message_at, node_of}
+use Rattle.hlc_world.specs.Schedule.{has_retired, item_at, last_stamp, message_at, node_of}
+use Rattle.hlc_world_event.specs.Events.{Event}
 use Rattle.hlc_world.specs.Store.{core_past}
 use Rattle.hlc_world.specs.Expected.{issue_refusal, stamp_refusal, receive_refusal, observe_refusal, core_refusal}
 use Rattle.hlc_world.specs.Expected.{on_link}

@@ -1,7 +1,8 @@
 -- One more event of a run comes after all earlier ones.
 use Rattle.std.proofs.Common.{◌≡◌, List, [], ◌∷◌, ◌++◌, length, refl, arith}
 use Rattle.hlc_world.specs.declared.reply.Reply.{Reply}
-use Rattle.hlc_world.specs.Schedule.{Event, after}
+use Rattle.hlc_world.specs.Schedule.{after}
+use Rattle.hlc_world_event.specs.Events.{Event}
 
 pub after-push : (events : List Event) (replies : List Reply) (s : List (Event × Reply)) (event : Event) (reply : Reply)
     → length events ≡ length replies

@@ -19,14 +19,16 @@ use Rattle.hlc_core.specs.Past.{Step, numbered, count, retired, floor, stamp_of}
 use Rattle.hlc_core.specs.Stored.{IsStoredCount}
 use Rattle.hlc_core.specs.History.{expected_refusal as expected_of_store, IsExpectedReply as IsExpectedStoreReply}
 use Rattle.hlc_core.specs.History.{MayRunOutOfMemory as CoreMayRunOut}
-use Rattle.hlc_world.specs.declared.event.Event.TheVariants.{Write, Delete, Report, Retire, Send, Receive, Observe}
-use Rattle.hlc_world.specs.declared.event.Event.TheVariants.{Deliver, Read, List as ListAll, Floor, Rows}
+use Rattle.hlc_world_event.specs.declared.event.Event.TheVariants.{Write, Delete, Report, Retire, Send, Receive}
+use Rattle.hlc_world_event.specs.declared.event.Event.TheVariants.{Observe}
+use Rattle.hlc_world_event.specs.declared.event.Event.TheVariants.{Deliver, Read, List as ListAll, Floor, Rows}
 use Rattle.hlc_world.specs.declared.reply.Reply.{Reply}
 use Rattle.hlc_world.specs.declared.reply.Reply.TheVariants.{Stamped, Sent, Received, Observed, Floor as FloorIs}
 use Rattle.hlc_world.specs.declared.reply.Reply.TheVariants.{Rows as RowsAre, Refused}
 use Rattle.hlc_world.specs.declared.refusal.Refusal.{Refusal}
 use Rattle.hlc_world.specs.declared.refusal.Refusal.TheVariants.{NoNode, Node, NoMessage, NoItem, Store, NoMemory}
-use Rattle.hlc_world.specs.Schedule.{Event, issued, has_retired, item_at, last_stamp, sent, message_at, node_of}
+use Rattle.hlc_world.specs.Schedule.{issued, has_retired, item_at, last_stamp, sent, message_at, node_of}
+use Rattle.hlc_world_event.specs.Events.{Event}
 use Rattle.hlc_world.specs.Store.{asked, share, core_past}
 
 -- the core's fault as a refusal; an unknown node and out of memory are the world's own refusals

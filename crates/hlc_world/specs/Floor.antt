@@ -3,7 +3,8 @@ use Rattle.std.specs.Prelude.{◌≡◌, ℕ, ◌<◌, ◌≤◌, List, Contains
 use Rattle.hlc_node.specs.declared.item.Item.{Item}
 use Rattle.hlc_core.specs.Past.{Took, numbered, retired, floor, stamp_of}
 use Rattle.hlc_world.specs.declared.reply.Reply.{Reply}
-use Rattle.hlc_world.specs.Schedule.{Event, item_made, issued, last_stamp}
+use Rattle.hlc_world.specs.Schedule.{item_made, issued, last_stamp}
+use Rattle.hlc_world_event.specs.Events.{Event}
 use Rattle.hlc_world.specs.Store.{core_past}
 use Rattle.hlc_world.specs.Before.{entry_at, HappenedBefore}
 

@@ -9,15 +9,11 @@ use Rattle.hlc_node.specs.declared.item.Message.{Message}
 use Rattle.hlc_node.specs.Node.{NodeView}
 use Rattle.hlc_world.specs.declared.content.Content.{Content}
 use Rattle.hlc_world.specs.declared.content.Content.TheVariants as content
-use Rattle.hlc_world.specs.declared.event.Event.{Event as EventOf}
-use Rattle.hlc_world.specs.declared.event.Event.TheVariants.{Write, Delete, Report, Retire, Join, Send, Receive}
-use Rattle.hlc_world.specs.declared.event.Event.TheVariants.{Observe}
+use Rattle.hlc_world_event.specs.Events.{Event}
+use Rattle.hlc_world_event.specs.declared.event.Event.TheVariants.{Write, Delete, Report, Retire, Join, Send, Receive}
+use Rattle.hlc_world_event.specs.declared.event.Event.TheVariants.{Observe}
 use Rattle.hlc_world.specs.declared.reply.Reply.{Reply}
 use Rattle.hlc_world.specs.declared.reply.Reply.TheVariants.{Stamped, Joined, Sent, Received, Observed}
-
--- an event whose keys and values are lists of bytes
-abbrev pub Event : Type 0
-Event = EventOf (List ℕ)
 
 -- the body of an item with this content
 abbrev pub body_of : Content → Body

@@ -8,12 +8,14 @@ use Rattle.hlc_core.specs.declared.reply.CoreReply.{CoreReply}
 use Rattle.hlc_core.specs.declared.reply.CoreReply.TheVariants as core_reply
 use Rattle.hlc_core.specs.Past.{Step}
 use Rattle.hlc_core.specs.History.{past_of}
-use Rattle.hlc_world.specs.declared.event.Event.TheVariants.{Deliver, OpenAt, OpenFloor, Read, List as ListAll, Close}
-use Rattle.hlc_world.specs.declared.event.Event.TheVariants.{Join, Vacuum}
+use Rattle.hlc_world_event.specs.declared.event.Event.TheVariants.{Deliver, OpenAt, OpenFloor, Read, List as ListAll}
+use Rattle.hlc_world_event.specs.declared.event.Event.TheVariants.{Close}
+use Rattle.hlc_world_event.specs.declared.event.Event.TheVariants.{Join, Vacuum}
 use Rattle.hlc_world.specs.declared.reply.Reply.{Reply}
 use Rattle.hlc_world.specs.declared.reply.Reply.TheVariants.{Accepted, Joined, Snapshot, Answer, Listing, Closed}
 use Rattle.hlc_world.specs.declared.reply.Reply.TheVariants.{Vacuumed}
-use Rattle.hlc_world.specs.Schedule.{Event, item_at}
+use Rattle.hlc_world.specs.Schedule.{item_at}
+use Rattle.hlc_world_event.specs.Events.{Event}
 
 -- the request to accept an item, if the item was found
 abbrev pub accepting : Option Item → Option CoreEvent

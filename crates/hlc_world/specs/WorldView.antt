@@ -11,7 +11,8 @@ use Rattle.hlc_core.specs.Calls.{new_refusal}
 use Rattle.hlc_world.specs.declared.reply.Reply.{Reply}
 use Rattle.hlc_world.specs.declared.refusal.Refusal.{Refusal}
 use Rattle.hlc_world.specs.declared.refusal.Refusal.TheVariants.{NoMemory}
-use Rattle.hlc_world.specs.Schedule.{Event, issued, sent, node_of}
+use Rattle.hlc_world.specs.Schedule.{issued, sent, node_of}
+use Rattle.hlc_world_event.specs.Events.{Event}
 use Rattle.hlc_world.specs.Store.{core_past}
 use Rattle.hlc_world.specs.Expected.{issue_refusal, of_core, IsLegal}
 

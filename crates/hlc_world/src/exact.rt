@@ -8,22 +8,10 @@ ghost use Rattle.std.proofs.lemmas.Grind.{common_steps};
 ghost use Rattle.std.specs.Cmp.Lexicographic.{pointwise_decides};
 ghost use Rattle.std.specs.Prelude.{IsTrue, ◌≡◌, ◌↔◌, List};
 
-use crate::event::Event;
 use crate::refusal::Refusal;
 use crate::reply::Reply;
 use hlc_core::{Listing, Report};
-use hlc_node::Bytes;
 use hlc_values::Exact;
-
-impl Exact for Event<Bytes> {
-    // Equal events are one event, so that way only asks whether each is equal to itself.
-    ghost equal = { λ x y. (
-      Prim.search (rules, common_steps),
-      λ same. subst (λ z. IsTrue (⟦<Event<Bytes> as PartialEq>⟧.eq x z)) same (Prim.search (rules, common_steps)),
-    ) };
-
-    ghost copied = { λ value copy same. same };
-}
 
 impl Exact for Refusal {
     ghost equal = { Prim.search (rules, common_steps) };

@@ -1,6 +1,6 @@
 //! What is true of every schedule that a world can represent.
 ghost use Rattle.std.specs.Prelude.{◌<◌, ℕ, List};
-ghost use Rattle.hlc_world.specs.Schedule.{Event as AnEvent};
+ghost use Rattle.hlc_world_event.specs.Events.{Event as AnEvent};
 ghost use Rattle.hlc_world.specs.declared.reply.Reply.{Reply as AReply};
 ghost use Rattle.hlc_world.specs.Expected.{IsLegal, GoesByNumber};
 ghost use Rattle.hlc_world.specs.Before.{HappenedBefore, IsStamped};

@@ -2,7 +2,6 @@
 #![tactic(auto)]
 
 mod content;
-mod event;
 mod exact;
 mod issuer;
 mod laws;
@@ -10,10 +9,10 @@ mod refusal;
 mod reply;
 mod world;
 
-pub use event::Event;
 pub use hlc_clock::Stamp;
 pub use hlc_core::{Listing, NoMemory, Pair, Points, Report, Witness, Witnesses};
 pub use hlc_node::Bytes;
+pub use hlc_world_event::Event;
 pub use laws::{
     items_go_by_number, no_clock_is_below_the_floor, open_snapshots_are_closed,
     stamps_follow_events, the_floor_is_complete, worlds_are_faithful,

@@ -5,7 +5,8 @@ ghost use Rattle.hlc_intake.specs.declared.intake.LinkFault.TheVariants.{StampNo
 ghost use Rattle.hlc_core.specs.Past.{Step, Took, item_refusal};
 ghost use Rattle.hlc_core.specs.StoreView.{Represents as CoreRepresents};
 ghost use Rattle.hlc_core.specs.Calls.{IsRefusal, IsWrite};
-ghost use Rattle.hlc_world.specs.Schedule.{Event as AnEvent, issuing, after};
+ghost use Rattle.hlc_world.specs.Schedule.{issuing, after};
+ghost use Rattle.hlc_world_event.specs.Events.{Event as AnEvent};
 ghost use Rattle.hlc_world.specs.Before.{HappenedBefore, IsStamped};
 ghost use Rattle.hlc_world.specs.Expected.{MayReply, IsQuestion, IsRefused, GoesByNumber};
 ghost use Rattle.hlc_world.specs.Floor.{IsComplete, IsBelowClocks, IsClosed};
@@ -14,7 +15,6 @@ ghost use Rattle.hlc_world.specs.WorldView.{Represents, Makes, fresh_issuers};
 ghost use Rattle.hlc_world.specs.declared.reply.Reply.{Reply as AReply};
 
 use crate::content::Content;
-use crate::event::Event;
 use crate::issuer::Issuer;
 use crate::refusal::Refusal;
 use crate::reply::Reply;
@@ -22,6 +22,7 @@ use hlc_clock::Stamp;
 use hlc_core::{Core, CoreFault, JoinFault, NoMemory};
 use hlc_heads::MAX_NODES;
 use hlc_node::{Bytes, Item, NodeFault};
+use hlc_world_event::Event;
 use std::alloc::Global;
 use std::marker::Model;
 

@@ -3,10 +3,12 @@ use Rattle.std.proofs.Common.{◌≡◌, ℕ, ◌⊎◌, List, [], ◌∷◌, le
 use Rattle.std.proofs.Common.{refl, arith}
 use Rattle.std.proofs.lemmas.Bool.{cond-true, eq-eqb}
 use Rattle.hlc_core.specs.Past.{Step, stamp_of}
-use Rattle.hlc_world.specs.declared.event.Event.TheVariants.{Write, Delete, Report, Retire, Send, Receive, Observe}
+use Rattle.hlc_world_event.specs.declared.event.Event.TheVariants.{Write, Delete, Report, Retire, Send, Receive}
+use Rattle.hlc_world_event.specs.declared.event.Event.TheVariants.{Observe}
 use Rattle.hlc_world.specs.declared.reply.Reply.{Reply}
 use Rattle.hlc_world.specs.declared.reply.Reply.TheVariants.{Stamped, Sent, Received, Observed}
-use Rattle.hlc_world.specs.Schedule.{Event, stamping_of as stamped_by}
+use Rattle.hlc_world.specs.Schedule.{stamping_of as stamped_by}
+use Rattle.hlc_world_event.specs.Events.{Event}
 use Rattle.hlc_world.specs.Store.{share, core_past}
 use Rattle.hlc_world.specs.Before.{IsStamped}
 use Rattle.hlc_world.proofs.ScheduleLemmas.{some-injective}

@@ -19,14 +19,16 @@ use Rattle.hlc_core.specs.Past.{Step, Took, Opened as OpenedAt, Closed as Closed
 use Rattle.hlc_core.specs.Past.{Joined as JoinedAt, numbered, floor, open_snapshots, stamp_of, IsLegal as IsLegalPast}
 use Rattle.hlc_core.proofs.PastLemmas.{open-low}
 use Rattle.hlc_core.specs.History.{past_of as past_by}
-use Rattle.hlc_world.specs.declared.event.Event.TheVariants.{Write, Delete, Report, Retire, Join, Send, Receive}
-use Rattle.hlc_world.specs.declared.event.Event.TheVariants.{Observe, Deliver, OpenAt, OpenFloor, Read, List as ListAll}
-use Rattle.hlc_world.specs.declared.event.Event.TheVariants.{Close, Vacuum}
+use Rattle.hlc_world_event.specs.declared.event.Event.TheVariants.{Write, Delete, Report, Retire, Join, Send, Receive}
+use Rattle.hlc_world_event.specs.declared.event.Event.TheVariants.{Observe, Deliver, OpenAt, OpenFloor, Read}
+use Rattle.hlc_world_event.specs.declared.event.Event.TheVariants.{List as ListAll}
+use Rattle.hlc_world_event.specs.declared.event.Event.TheVariants.{Close, Vacuum}
 use Rattle.hlc_world.specs.declared.reply.Reply.{Reply}
 use Rattle.hlc_world.specs.declared.reply.Reply.TheVariants.{Stamped, Joined, Sent, Received, Observed, Accepted}
 use Rattle.hlc_world.specs.declared.reply.Reply.TheVariants.{Snapshot, Answer, Listing, Closed, Vacuumed}
 use Rattle.hlc_world.specs.declared.refusal.Refusal.{Refusal}
-use Rattle.hlc_world.specs.Schedule.{Event, with_item, ends, stamp_or, has_retired, node_of, sent, message_at}
+use Rattle.hlc_world.specs.Schedule.{with_item, ends, stamp_or, has_retired, node_of, sent, message_at}
+use Rattle.hlc_world_event.specs.Events.{Event}
 use Rattle.hlc_world.specs.Schedule.{issued as issued_by, last_stamp as clock_of}
 use Rattle.hlc_world.specs.Store.{accepting, accepted, paired, with_entry, store_history, core_past}
 use Rattle.hlc_world.specs.Expected.{on_node, deliver_refusal, IsReceived, IsObserved, MayReply, IsLegal}

@@ -6,12 +6,14 @@ use Rattle.hlc_node.specs.declared.item.Item.{Item}
 use Rattle.hlc_snapshot.proofs.RegisterLemmas.{stamp_in-push_cases, stamp_in-without_itself, stamp_in-without_other}
 use Rattle.hlc_core.specs.Past.{Opened as OpenedAt, Closed as ClosedOf, last_id, open_snapshots, stamp_of}
 use Rattle.hlc_core.specs.History.{past_of as past_by}
-use Rattle.hlc_world.specs.declared.event.Event.TheVariants.{Join, Deliver, OpenAt, OpenFloor, Read, List as ListAll}
-use Rattle.hlc_world.specs.declared.event.Event.TheVariants.{Close, Vacuum}
+use Rattle.hlc_world_event.specs.declared.event.Event.TheVariants.{Join, Deliver, OpenAt, OpenFloor, Read}
+use Rattle.hlc_world_event.specs.declared.event.Event.TheVariants.{List as ListAll}
+use Rattle.hlc_world_event.specs.declared.event.Event.TheVariants.{Close, Vacuum}
 use Rattle.hlc_world.specs.declared.reply.Reply.{Reply}
 use Rattle.hlc_world.specs.declared.reply.Reply.TheVariants.{Joined, Accepted, Snapshot, Answer, Listing, Closed}
 use Rattle.hlc_world.specs.declared.reply.Reply.TheVariants.{Vacuumed}
-use Rattle.hlc_world.specs.Schedule.{Event, item_at}
+use Rattle.hlc_world.specs.Schedule.{item_at}
+use Rattle.hlc_world_event.specs.Events.{Event}
 use Rattle.hlc_world.specs.Store.{accepting, accepted, paired, with_entry, store_history, core_past}
 use Rattle.hlc_world.specs.Expected.{MayReply, IsLegal}
 use Rattle.hlc_world.specs.Before.{IsOpenedAt}

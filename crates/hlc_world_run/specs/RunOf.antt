@@ -7,10 +7,11 @@ use Rattle.hlc_events.specs.declared.event.CoreEvent.{CoreEvent}
 use Rattle.hlc_core.specs.declared.reply.CoreReply.{CoreReply}
 use Rattle.hlc_core.specs.Past.{Step, stamp_of}
 use Rattle.hlc_core.specs.History.{step_of}
-use Rattle.hlc_world.specs.declared.event.Event.TheVariants.{Write, Delete, Report, Retire, Send, Receive, Observe}
+use Rattle.hlc_world_event.specs.declared.event.Event.TheVariants.{Write, Delete, Report, Retire, Send, Receive}
+use Rattle.hlc_world_event.specs.declared.event.Event.TheVariants.{Observe}
 use Rattle.hlc_world.specs.declared.reply.Reply.{Reply}
 use Rattle.hlc_world.specs.declared.reply.Reply.TheVariants.{Stamped, Sent, Received, Observed}
-use Rattle.hlc_world.specs.Schedule.{Event}
+use Rattle.hlc_world_event.specs.Events.{Event}
 use Rattle.hlc_world.specs.Store.{share, core_past}
 use Rattle.hlc_ranges.specs.Run.{Layout, Turn, Issued, Sent as Sends, Received as Receives, Observed as Observes}
 use Rattle.hlc_ranges.specs.Run.{Stepped}

@@ -2,7 +2,8 @@
 #![tactic(auto)]
 
 ghost use Rattle.std.specs.Prelude.{◌≡◌, ℕ, List, reverse};
-ghost use Rattle.hlc_world.specs.Schedule.{Event as AnEvent, issued, last_stamp};
+ghost use Rattle.hlc_world.specs.Schedule.{issued, last_stamp};
+ghost use Rattle.hlc_world_event.specs.Events.{Event as AnEvent};
 ghost use Rattle.hlc_world.specs.Store.{core_past};
 ghost use Rattle.hlc_world.specs.declared.reply.Reply.{Reply as AReply};
 ghost use Rattle.hlc_world.specs.Expected.{IsLegal};

@@ -10,7 +10,7 @@ ghost use Rattle.hlc_rows.specs.Rows.{IsRowSet};
 ghost use Rattle.hlc_rows.specs.declared.row.Row.{Row as ARow};
 ghost use Rattle.hlc_witness.specs.Fewest.{Alike};
 ghost use Rattle.hlc_snapshot.specs.RegistryView.{stamp_in};
-ghost use Rattle.hlc_world.specs.Schedule.{Event as AnEvent};
+ghost use Rattle.hlc_world_event.specs.Events.{Event as AnEvent};
 ghost use Rattle.hlc_world.specs.declared.reply.Reply.{Reply as AReply};
 ghost use Rattle.hlc_world.specs.WorldView.{Represents};
 

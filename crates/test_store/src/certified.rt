@@ -6,12 +6,12 @@ ghost use Rattle.hlc_certificate.specs.CertificateText.{certificate_text};
 ghost use Rattle.hlc_certificate.specs.ReadBack.{IsAnsweredFewest};
 ghost use Rattle.hlc_core.specs.Past.{Step};
 ghost use Rattle.hlc_core.specs.StoreView.{Represents};
-ghost use Rattle.hlc_world.specs.Schedule.{Event as AnEvent};
-ghost use Rattle.hlc_script.specs.Line.{HasLine, event_line};
+ghost use Rattle.hlc_world_event.specs.Events.{Event as AnEvent};
+ghost use Rattle.hlc_line.specs.Line.{HasLine, event_line};
 
 use hlc_certificate::{printed_certificates_show_fewest, put_certificate};
 use hlc_core::{Core, NoMemory, Row, Stamp, Witness};
-use hlc_script::read_line;
+use hlc_line::read_line;
 use hlc_text::number::number;
 use hlc_text::printer::Printer;
 use hlc_text::watched::Watched;

@@ -278,6 +278,22 @@ fn replies_leave_in_blocks(rt: HostRuntime) -> Result<(), Fail> {
     Ok(())
 }
 
+/// Values that are far shorter than a block, and longer than what every line has room for. 1,000 replies of 107 bytes
+/// are three blocks and a rest.
+#[test]
+fn middling_values_leave_in_blocks(rt: HostRuntime) -> Result<(), Fail> {
+    let mut text = Vec::from_slice(rt.alloc(), b"nodes 1\nwrite 0 5 a ")?;
+    for _ in 0..100 {
+        text.push(b'x')?;
+    }
+    text.extend_from_slice(b"\ndeliver 0 0\nopen floor\n")?;
+    for _ in 0..1000 {
+        text.extend_from_slice(b"read 1 a\n")?;
+    }
+    leaves_in_blocks(&rt, text.as_slice(), 4, 4);
+    Ok(())
+}
+
 /// Values longer than a block, between short replies.
 #[test]
 fn long_values_leave_in_blocks(rt: HostRuntime) -> Result<(), Fail> {

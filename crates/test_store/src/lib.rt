@@ -13,6 +13,8 @@ mod certified;
 #[cfg(test)]
 mod changes;
 #[cfg(test)]
+mod divisions;
+#[cfg(test)]
 mod encoded;
 #[cfg(test)]
 mod failures;

@@ -12,7 +12,7 @@ import life
 import log
 from coordinator import MOST_NODES
 from etcd import delete
-from hlcstore import Node, split, stamp, threshold_record
+from hlcstore import Node, Stamp, split, stamp, threshold_record
 
 HOUR = 3_600_000  # milliseconds
 
@@ -47,7 +47,7 @@ class CoordinatorCases:
         self.retire(self.coordinator)
         with self.assertRaisesRegex(life.Never, "the coordinator's node retired"):
             self.start_coordinator()
-        self.assertRaises(log.Retired, self.coordinator.append_plan, threshold_record(1), threshold=1)
+        self.assertRaises(log.Retired, self.coordinator.append_plan, threshold_record(stamp(1)), threshold=1)
         self.assertEqual(self.links(), [(2, True)])
 
     def test_one_that_was_killed_is_followed_by_another(self):
@@ -100,7 +100,7 @@ class CoordinatorCases:
             with self.subTest(places=places):
                 number = self.join(b"w%d" % places)
                 writer = log.Link(self.new_etcd(), number)
-                node = Node(number, writer.claim(None)["last"])
+                node = Node(number, Stamp.from_number(writer.claim(None)["last"]))
                 item = bytes(node.retire(split(node.last)[0]))
                 state = {"next": 1, "last": node.last, "retired": True}
                 fenced = self.assertRaises(log.Fenced) if places else contextlib.nullcontext()
@@ -156,7 +156,7 @@ class CoordinatorCases:
     def test_a_fenced_coordinator_fences_no_writer(self):
         number = self.join(b"w1")
         writer = log.Link(self.new_etcd(), number)
-        node = Node(number, writer.claim(None)["last"])
+        node = Node(number, Stamp.from_number(writer.claim(None)["last"]))
         self.coordinator.etcd.before = [self.start_coordinator]
         self.coordinator.retire_lost(b"w1")
         item = bytes(node.report(split(node.last)[0]))

@@ -132,8 +132,8 @@ class Lines(unittest.TestCase):
         """The next one would find it in the middle of a request."""
         for by_rpc in {False, etcd.BY_RPC}:
             client = etcd.Etcd(["127.0.0.1:1"])
-            client.by_rpc = by_rpc
-            with mock.patch("etcd.PATIENCE", -1), self.assertRaises((OSError, etcd.Unavailable)):
+            client.by_rpc, client.patience = by_rpc, -1
+            with self.assertRaises((OSError, etcd.Unavailable)):
                 client.get(b"key")
             self.assertIsNone(client.connection or client.channel)
 

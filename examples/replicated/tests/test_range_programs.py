@@ -12,7 +12,8 @@ import machine
 import part
 import ranges
 import serve
-from etcd import Stopped, delete
+from checkpoints import KEEP
+from etcd import Etcd, Stopped, delete
 
 
 class Nodes(RangeCase):
@@ -240,6 +241,21 @@ class Clusters(RangeCase):
         self.coordinator.report_all()
         self.assertEqual(self.compare(self.caught_up()), {b"a": b"a", b"z": b"z"})
 
+    def test_members_that_do_not_answer(self):
+        """Nobody is there, or no etcd. The range goes on, and the next coordinator has nothing to finish."""
+        self.write(b"a")
+        for address in "127.0.0.1:1", serve.start(self.caught_up()).address:
+            for request in b"split/6d", b"move/61":
+                with mock.patch("coordinator.Etcd", Etcd), mock.patch("logs.warning"):
+                    refusal = json.loads(self.ask(request, {"members": [address]}))["refused"]
+                self.assertRegex(refusal, f"^no etcd answers at {address}: ")
+                self.assertIsNone(self.value(log.SEAL))
+        self.coordinator = self.start_coordinator()
+        self.write(b"z")
+        self.report()
+        self.assertEqual(self.compare(self.caught_up()), {b"a": b"a", b"z": b"z"})
+        self.assertEqual(self.live(), [(0, b"", b"")])
+
     def test_a_node_retires_in_two_clusters(self):
         self.split(b"m", members=[OTHER])
         self.write(b"a", b"z")
@@ -300,6 +316,14 @@ class AtAReplica(RangeCase):
         replica.look_at_map(self.new_etcd())
         self.assertEqual(sorted(replica.parts), [1, 2])
         self.assertEqual(list((self.folder / "r1").glob("*.checkpoint")), [])
+
+    def test_its_state_has_the_oldest_checkpoint_of_all_ranges(self):
+        self.split(b"m")
+        replica = self.caught_up()
+        for number, revision in (1, 20), (2, 30):
+            for more in range(KEEP):
+                replica.parts[number].checkpoints.save(revision + more, b"saved")
+        self.assertEqual(replica.state()["checkpoint"], 20)
 
     def test_a_range_moves_to_another_replica(self):
         """The old one has it until the new one has it too."""

@@ -249,12 +249,19 @@ class Splits(RangeCase):
         for request, words in (
             (b"split/", None), (b"split/xy", None), (b"merge/6d", None), (b"place/7", []), (b"place/x", []),
             (b"place/0", {}), (b"split/6d", []), (b"split/6d", {"members": "a:1"}), (b"move/6d", {"members": ["a"]}),
+            (b"split/6d", {"members": 0}), (b"split/6d", {"members": False}),
         ):  # fmt: skip
             with self.subTest(request=request, words=words), mock.patch("logs.warning"):
-                self.assertIn("refused", json.loads(self.ask(request, words)))
+                self.assertTrue(json.loads(self.ask(request, words))["refused"])
         self.assertEqual(self.live(), [(0, b"", b"")])
         self.put(b"ask/fly/6d")
         self.coordinator.answer()
+
+    def test_a_request_that_is_nested_too_deeply(self):
+        self.put(b"ask/split/6d", b"[" * 100_000)
+        with mock.patch("logs.warning"):
+            self.coordinator.answer()
+        self.assertTrue(json.loads(self.value(b"ask/split/6d"))["refused"])
 
 
 class Merges(RangeCase):
@@ -307,6 +314,7 @@ class Merges(RangeCase):
         self.put(b"replica/r2", log.to_json(words))
         part = self.new_replica("r1")
         part.map.read(self.new_etcd())
+        self.enterContext(mock.patch("part.Part.follow"))
         part.have(part.map.ranges[3])
         while part.parts[3].store is None:
             pass

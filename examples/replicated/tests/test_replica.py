@@ -8,8 +8,10 @@ from unittest import mock
 from support import MemoryCase
 
 import hlcstore
+import life
 import log
 import serve
+from etcd import Stopped
 
 
 class Between:
@@ -55,9 +57,9 @@ class Applying(MemoryCase):
         self.replica = self.new_replica()
         self.store = self.replica.store = NotedStore(self.replica)
         self.replica.between = Between(lambda: self.store.entries == self.replica.revision)
-        first, start = bytes(hlcstore.Node(0).report(5)), 5 << 16
-        second = hlcstore.threshold_record(3) + hlcstore.join_record(1, start)
-        third = hlcstore.threshold_record(2) + bytes(hlcstore.Node(1, start).report(6))
+        first, start = bytes(hlcstore.Node(0).report(5)), hlcstore.Stamp(5)
+        second = hlcstore.threshold_record(hlcstore.Stamp(0, 3)) + hlcstore.join_record(1, start)
+        third = hlcstore.threshold_record(hlcstore.Stamp(0, 2)) + bytes(hlcstore.Node(1, start).report(6))
         self.entries = [log.Entry(number, records) for number, records in enumerate((first, second, third), 1)]
 
     def test_an_entry_and_its_revision_come_at_once(self):
@@ -130,23 +132,52 @@ class Beginning(MemoryCase):
     def test_a_damaged_checkpoint_is_removed(self):
         old = self.replay()
         old.save()
-        (old.checkpoints.folder / "ffffffffffffffff.checkpoint").write_bytes(b"damaged")
+        (old.checkpoints.folder / "ffffffffffffffff.checkpoint").write_bytes(old.newest()[:-1])
         new = self.new_replica()
         new.begin_from_disk()
         self.assertEqual(new.revision, old.revision)
         self.assertEqual(len(new.checkpoints.paths()), 1)
 
+    def test_a_checkpoint_of_another_version_stays(self):
+        old = self.replay()
+        old.save()
+        path = old.checkpoints.folder / "ffffffffffffffff.checkpoint"
+        path.write_bytes(b"\0\0\0\2" + old.newest()[4:])
+        with self.assertRaisesRegex(life.Never, f"^{path} is of another version"):
+            self.new_replica().begin_from_disk()
+        self.assertEqual(len(old.checkpoints.paths()), 2)
+
     def test_it_begins_from_another_where_the_log_was_cut(self):
         other = self.replay()
         other.save()
-        words = {"name": "r2", "address": serve.start(other.replica).address, "checkpoint": other.revision}
-        self.put(b"replica/r2", log.to_json(words))
+        for name, address in ("r0", "a..b:1"), ("r2", serve.start(other.replica).address):  # the first is no address
+            words = {"name": name, "address": address, "checkpoint": other.revision}
+            self.put(b"replica/" + name.encode(), log.to_json(words))
         log.cut(self.new_etcd(), self.coordinator.link, other.revision)
         late = self.new_replica()
         with self.assertRaises(log.Cut):
             log.page(self.new_etcd(), late.revision)
         late.begin_from_another(self.new_etcd())
         self.assertEqual((late.revision, late.store.floor), (other.revision, other.store.floor))
+
+    def test_it_publishes_while_a_checkpoint_is_made(self):
+        """That may take longer than its lease."""
+        ended, published = threading.Event(), threading.Semaphore(0)
+
+        def pause(_):
+            if ended.wait(0.01):
+                raise Stopped
+
+        self.enterContext(mock.patch("time.sleep", pause))
+        replica = self.replay().replica
+        replica.seconds, replica.publish, replica.save_all = 0, lambda *_: published.release(), ended.wait
+        life.essential(replica.keep_up, "address")
+        seen = [published.acquire(timeout=5) for _ in range(3)]
+        ended.set()
+        for thread in threading.enumerate():
+            if thread.name.startswith("keep_"):
+                thread.join()
+        self.assertEqual(seen, [True] * 3)
 
     def test_it_publishes_its_oldest_checkpoint(self):
         replica, etcd = self.replay(), self.new_etcd()

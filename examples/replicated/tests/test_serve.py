@@ -52,7 +52,7 @@ class Answers:
     def test_reads(self):
         value, key = VALUE.hex(), b"key".hex()
         self.assertEqual(self.ask("/read?key=key&key=none"), (200, {"stamp": REPORTED, "values": [value, None]}))
-        self.assertEqual(self.ask(f"/read?key=key&stamp={WRITTEN - 1}")[1]["values"], [None])
+        self.assertEqual(self.ask(f"/read?key=key&stamp={WRITTEN - 1:d}")[1]["values"], [None])
         self.assertEqual(self.ask(f"/read?key=&key=%FF&stamp={WRITTEN:d}")[1]["values"], [None, None])
         self.assertEqual(self.ask("/range?from=a&to=z"), (200, {"stamp": REPORTED, "pairs": [[key, value]]}))
         self.assertEqual(self.ask("/range?from=z&to=a")[1]["pairs"], [])

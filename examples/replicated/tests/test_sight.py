@@ -119,7 +119,8 @@ class Looking(MemoryCase):
         last = coordinator.node.last
         self.assertEqual(seen.heads, {0: Head(1, last, False), 1: Head(0, last, False)})
         self.assertEqual(seen.names, {0: "coordinator", 1: "w1"})
-        self.assertEqual((seen.replicas, seen.requests), ([{"name": "r1", "floor": 5}], ["lost/w9"]))
+        words = {"name": "r1", "address": "", "floor": 5, "checkpoint": 0}
+        self.assertEqual((seen.replicas, seen.requests), ([words], ["lost/w9"]))
 
     def test_it_changes_nothing(self):
         self.start_coordinator()

@@ -1,36 +1,8 @@
-/* The module hlcstore._file: the calls of hlcstore_file.h, for the classes of hlcstore/file.py.
- *
- * Threads. Each call lets go of the interpreter, since it may wait for another call or for the disk. Meanwhile it has a
- * share of the file's lock, which closing takes alone: so a call finds the file open until it ends, or closed. */
-#include "hlcstore_file.h"
+/* The module hlcstore._file: the calls of hlcstore_file.h, for the classes of hlcstore/file.py. */
+#include "file.h"
 #include <stdlib.h>
-#include "native.h"
 
-typedef struct {
-    PyObject_HEAD
-    hlc_file *file; /* NULL where it is closed */
-    pthread_rwlock_t lock;
-    bool has_lock;
-    PyTypeObject *stamp; /* the class of stamps, which is here since a subclass does not lead to the module */
-} File;
-
-/* Makes a call with `file`, and puts its answer into `code`. A closed file answers HLC_CLOSED. */
-#define WITH_FILE(self, code, call) \
-    do { \
-        File *with = (File *)(self); \
-        PyThreadState *thread = PyEval_SaveThread(); \
-        pthread_rwlock_rdlock(&with->lock); \
-        hlc_file *file = with->file; \
-        code = file ? (call) : HLC_CLOSED; \
-        pthread_rwlock_unlock(&with->lock); \
-        PyEval_RestoreThread(thread); \
-    } while (0)
-
-/* Makes a reading call of hlcstore.h with `store`, a copy of the handle of the file's store, in the same way. */
-#define WITH_STORE(self, code, call) WITH_FILE(self, code, (hlc_file_read_begin(file, store), ended(file, (call))))
-
-/* Ends the reading of a file, after a call that answered this. */
-static uint32_t ended(hlc_file *file, uint32_t code)
+uint32_t ended(hlc_file *file, uint32_t code)
 {
     hlc_file_read_end(file);
     return code;
@@ -50,13 +22,12 @@ static int take_reading(PyObject *from, void *to)
     return 1;
 }
 
-/* A number, or the exception of a refusal. */
-static PyObject *number_or_refusal(uint32_t code, uint64_t number)
+PyObject *number_or_refusal(uint32_t code, uint64_t number)
 {
     return code == HLC_OK ? number_object(number) : refuse(code, number);
 }
 
-static PyObject *stamp_of(PyObject *self, uint64_t stamp) { return stamp_object(((File *)self)->stamp, stamp); }
+PyObject *stamp_of(PyObject *self, uint64_t stamp) { return stamp_object(((File *)self)->stamp, stamp); }
 
 /* A stamp, or the exception of a refusal. */
 static PyObject *stamp_or_refusal(PyObject *self, uint32_t code, uint64_t stamp)
@@ -113,6 +84,7 @@ static bool take_options(PyObject *args, PyObject *words, PyObject **path, hlc_f
 /* Makes what a new file has of its own. Returns false with an exception. */
 static bool prepare(File *self)
 {
+    self->process = getpid();
     self->has_lock = make_lock(&self->lock) == 0;
     if (!self->has_lock) PyErr_NoMemory();
     else self->stamp = stamp_class();
@@ -133,15 +105,18 @@ static PyObject *file_new(PyTypeObject *type, PyObject *args, PyObject *words)
     return (PyObject *)self;
 }
 
-/* Waits for the calls that are under way. A file that is closed already stays closed. */
+bool is_in_child(const File *self) { return self->process != getpid(); }
+
+/* Waits for the calls that are under way, and lets later ones wait, since who finds the file closed may open it again.
+ * A file that is closed already stays closed. */
 static uint32_t close_it(File *self)
 {
+    if (is_in_child(self)) return HLC_OK;
     PyThreadState *thread = PyEval_SaveThread();
     pthread_rwlock_wrlock(&self->lock);
-    hlc_file *file = self->file;
+    uint32_t code = hlc_file_close(self->file);
     self->file = NULL;
     pthread_rwlock_unlock(&self->lock);
-    uint32_t code = hlc_file_close(file);
     PyEval_RestoreThread(thread);
     return code;
 }
@@ -304,13 +279,14 @@ EVENT(file_send, hlc_file_send)
 static PyObject *file_receive(PyObject *self, PyObject *args, PyObject *words)
 {
     static char *names[] = { "seen", "node", "reading", NULL };
+    StampArgument seen = { .type = ((File *)self)->stamp };
     uint16_t node = 0;
-    uint64_t seen, reading = HLC_FILE_NOW, word = 0;
+    uint64_t reading = HLC_FILE_NOW, word = 0;
     uint32_t code;
-    if (!PyArg_ParseTupleAndKeywords(args, words, "O&|$O&O&:receive", names, take_u64, &seen, take_u16, &node,
+    if (!PyArg_ParseTupleAndKeywords(args, words, "O&|$O&O&:receive", names, take_stamp, &seen, take_u16, &node,
                                      take_reading, &reading))
         return NULL;
-    WITH_FILE(self, code, hlc_file_receive(file, node, seen, reading, &word));
+    WITH_FILE(self, code, hlc_file_receive(file, node, seen.number, reading, &word));
     return stamp_or_refusal(self, code, word);
 }
 
@@ -461,13 +437,13 @@ static PyObject *file_versions(PyObject *self, PyObject *args, PyObject *words)
 {
     static char *names[] = { "key", "above", "to", NULL };
     Bytes key = { 0 };
-    uint64_t above = 0, to = UINT64_MAX;
+    StampArgument above = { .type = ((File *)self)->stamp }, to = { above.type, UINT64_MAX };
     uint8_t *rows = NULL;
     size_t many = 0;
-    if (!PyArg_ParseTupleAndKeywords(args, words, "O&|O&O&:versions", names, take_bytes, &key, take_u64, &above,
-                                     take_u64, &to))
+    if (!PyArg_ParseTupleAndKeywords(args, words, "O&|O&O&:versions", names, take_bytes, &key, take_stamp_or_none,
+                                     &above, take_stamp_or_none, &to))
         return NULL;
-    uint32_t code = list_versions(self, &key, above, to, &rows, &many);
+    uint32_t code = list_versions(self, &key, above.number, to.number, &rows, &many);
     PyObject *list = code == HLC_OK ? list_of(rows, many, version_at) : refuse(code, 0);
     free(rows);
     drop_bytes(&key);
@@ -478,197 +454,24 @@ static PyObject *file_versions(PyObject *self, PyObject *args, PyObject *words)
 
 typedef uint32_t (*Vacuum)(hlc_file *, uint64_t, uint64_t *, uint64_t *, uint64_t *, uint64_t *);
 
-static PyObject *vacuum(PyObject *self, Vacuum call, PyObject *from)
+static PyObject *vacuum(PyObject *self, Vacuum call, uint64_t to)
 {
-    uint64_t to, made[4] = { 0 };
+    uint64_t made[4] = { 0 };
     uint32_t code;
-    if (!take_u64(from, &to)) return NULL;
     WITH_FILE(self, code, call(file, to, &made[0], &made[1], &made[2], &made[3]));
     return code == HLC_OK ? result_of("Vacuum", made, 4, NULL) : refuse(code, made[0]);
 }
 
-static PyObject *file_vacuum_to(PyObject *self, PyObject *stamp) { return vacuum(self, hlc_file_vacuum_to, stamp); }
-
-static PyObject *file_vacuum_older(PyObject *self, PyObject *milliseconds)
+static PyObject *file_vacuum_to(PyObject *self, PyObject *from)
 {
-    return vacuum(self, hlc_file_vacuum_older, milliseconds);
+    StampArgument to = { .type = ((File *)self)->stamp };
+    return take_stamp(from, &to) ? vacuum(self, hlc_file_vacuum_to, to.number) : NULL;
 }
 
-/* ---- Snapshots ---- */
-
-static uint32_t close_snapshot(PyObject *self, uint64_t id)
+static PyObject *file_vacuum_older(PyObject *self, PyObject *from)
 {
-    uint64_t stamp;
-    uint32_t code;
-    WITH_FILE(self, code, hlc_file_close_snapshot(file, id, &stamp));
-    return code;
-}
-
-/* The id and the stamp of a snapshot that was opened. Where they cannot be returned, it is closed. */
-static PyObject *opened(PyObject *self, uint64_t id, uint64_t stamp)
-{
-    PyObject *parts = Py_BuildValue("(KN)", (unsigned long long)id, stamp_of(self, stamp));
-    if (!parts) close_snapshot(self, id);
-    return parts;
-}
-
-/* Returns its id and its stamp. */
-static PyObject *file_open_snapshot(PyObject *self, PyObject *at)
-{
-    uint64_t id = 0, stamp = 0;
-    uint32_t code;
-    if (at == Py_None) WITH_FILE(self, code, hlc_file_open_snapshot_at_floor(file, &id, &stamp));
-    else if (take_u64(at, &stamp)) WITH_FILE(self, code, hlc_file_open_snapshot(file, stamp, &id));
-    else return NULL;
-    return code == HLC_OK ? opened(self, id, stamp) : refuse(code, id);
-}
-
-/* A snapshot that is closed already, by itself or with the file, stays closed. */
-static PyObject *file_close_snapshot(PyObject *self, PyObject *from)
-{
-    uint64_t id;
-    if (!take_u64(from, &id)) return NULL;
-    uint32_t code = close_snapshot(self, id);
-    if (code != HLC_OK && code != HLC_NO_SNAPSHOT && code != HLC_CLOSED) return refuse(code, 0);
-    Py_RETURN_NONE;
-}
-
-static uint32_t read_key(PyObject *self, uint64_t id, const Bytes *key, uint8_t *out, size_t room, size_t *len)
-{
-    uint32_t code;
-    WITH_FILE(self, code, hlc_file_read(file, id, key->at, key->len, out, room, len));
-    return code;
-}
-
-/* A value that does not fit on the stack. What a snapshot answers never changes, so the second call has the same. */
-static PyObject *read_long(PyObject *self, uint64_t id, const Bytes *key, size_t len)
-{
-    PyObject *value = PyBytes_FromStringAndSize(NULL, (Py_ssize_t)len);
-    if (!value) return NULL;
-    uint32_t code = read_key(self, id, key, (uint8_t *)PyBytes_AsString(value), len, &len);
-    if (code == HLC_OK) return value;
-    Py_DECREF(value);
-    return refuse(code, 0);
-}
-
-/* Returns a key's value, or None. */
-static PyObject *file_read(PyObject *self, PyObject *args)
-{
-    uint8_t out[1024];
-    uint64_t id;
-    size_t len = 0;
-    Bytes key = { 0 };
-    PyObject *value = NULL;
-    if (!PyArg_ParseTuple(args, "O&O&:_read", take_u64, &id, take_bytes, &key)) return NULL;
-    uint32_t code = read_key(self, id, &key, out, sizeof out, &len);
-    if (code == HLC_OK)
-        value = len <= sizeof out ? PyBytes_FromStringAndSize((const char *)out, (Py_ssize_t)len)
-                                  : read_long(self, id, &key, len);
-    drop_bytes(&key);
-    if (code == HLC_NO_VALUE) Py_RETURN_NONE;
-    return code == HLC_OK ? value : refuse(code, 0);
-}
-
-static PyObject *file_count(PyObject *self, PyObject *args)
-{
-    uint64_t id, many = 0;
-    Bytes start = { 0 }, end = { 0 };
-    uint32_t code;
-    if (!PyArg_ParseTuple(args, "O&O&O&:_count", take_u64, &id, take_bytes, &start, take_bytes, &end)) return NULL;
-    WITH_FILE(self, code, hlc_file_count(file, id, start.at, start.len, end.at, end.len, &many));
-    drop_bytes(&start);
-    drop_bytes(&end);
-    return number_or_refusal(code, many);
-}
-
-static PyObject *take_pair(const uint8_t **at)
-{
-    const char *parts[2];
-    Py_ssize_t lengths[2];
-    for (int i = 0; i < 2; i++) {
-        lengths[i] = (Py_ssize_t)number_at(*at, LENGTH);
-        parts[i] = (const char *)*at + LENGTH;
-        *at += LENGTH + (size_t)lengths[i];
-    }
-    return Py_BuildValue("(y#y#)", parts[0], lengths[0], parts[1], lengths[1]);
-}
-
-static PyObject *take_change(const uint8_t **at)
-{
-    Py_ssize_t len = (Py_ssize_t)number_at(*at, LENGTH);
-    const char *key = (const char *)*at + LENGTH;
-    *at += LENGTH + (size_t)len;
-    PyObject *value = answer_object(at);
-    return value ? Py_BuildValue("(y#N)", key, len, value) : NULL;
-}
-
-/* The entries of a page, and whether there are more; or the exception of a refusal. */
-static PyObject *page_object(uint32_t code, const uint8_t *at, size_t many, Reader read)
-{
-    if (code != HLC_OK && code != HLC_MORE) return refuse(code, 0);
-    PyObject *entries = list_of(at, many, read);
-    return entries ? Py_BuildValue("(NO)", entries, code == HLC_MORE ? Py_True : Py_False) : NULL;
-}
-
-/* Returns the pairs of a range that fit into this many bytes, and whether there are more. */
-static PyObject *file_scan(PyObject *self, PyObject *args)
-{
-    uint64_t id;
-    Bytes start = { 0 }, end = { 0 };
-    int is_reverse;
-    size_t room, len = 0, many = 0;
-    uint32_t code;
-    if (!PyArg_ParseTuple(args, "O&O&O&pn:_scan", take_u64, &id, take_bytes, &start, take_bytes, &end, &is_reverse,
-                          &room))
-        return NULL;
-    uint8_t *out = malloc(room);
-    if (out)
-        WITH_FILE(self, code, (is_reverse ? hlc_file_scan_back : hlc_file_scan)(
-            file, id, start.at, start.len, end.at, end.len, out, room, &len, &many));
-    else code = HLC_NO_MEMORY;
-    drop_bytes(&start);
-    drop_bytes(&end);
-    PyObject *page = page_object(code, out, many, take_pair);
-    free(out);
-    return page;
-}
-
-/* The same of the changes from one snapshot to another. */
-static PyObject *file_changes(PyObject *self, PyObject *args)
-{
-    uint64_t before, after;
-    Bytes start = { 0 }, end = { 0 };
-    size_t room, len = 0, many = 0;
-    uint32_t code;
-    hlc_store mine, *store = &mine;
-    if (!PyArg_ParseTuple(args, "O&O&O&O&n:_changes", take_u64, &before, take_u64, &after, take_bytes, &start,
-                          take_bytes, &end, &room))
-        return NULL;
-    uint8_t *out = malloc(room);
-    if (out)
-        WITH_STORE(self, code, hlc_snapshot_changes(store, before, after, start.at, start.len, end.at, end.len, out,
-                                                    room, &len, &many));
-    else code = HLC_NO_MEMORY;
-    drop_bytes(&start);
-    drop_bytes(&end);
-    PyObject *page = page_object(code, out, many, take_change);
-    free(out);
-    return page;
-}
-
-static PyObject *file_digest(PyObject *self, PyObject *args)
-{
-    uint64_t id;
-    Bytes start = { 0 }, end = { 0 };
-    uint8_t out[32];
-    size_t len = 0;
-    uint32_t code;
-    hlc_store mine, *store = &mine;
-    if (!PyArg_ParseTuple(args, "O&O&O&:_digest", take_u64, &id, take_bytes, &start, take_bytes, &end)) return NULL;
-    WITH_STORE(self, code, hlc_snapshot_digest(store, id, start.at, start.len, end.at, end.len, out, sizeof out, &len));
-    drop_bytes(&start);
-    drop_bytes(&end);
-    return code == HLC_OK ? PyBytes_FromStringAndSize((const char *)out, (Py_ssize_t)len) : refuse(code, 0);
+    uint64_t milliseconds;
+    return take_u64(from, &milliseconds) ? vacuum(self, hlc_file_vacuum_older, milliseconds) : NULL;
 }
 
 /* ---- The class and the module ---- */
@@ -676,13 +479,14 @@ static PyObject *file_digest(PyObject *self, PyObject *args)
 static PyMethodDef file_methods[] = {
     { "close", file_close, METH_NOARGS,
       "close($self, /)\n--\n\n"
-      "Close the file, after the calls that are under way. Its snapshots and its later calls raise Closed.\n\n"
+      "Close the file, after the calls that are under way. Its snapshots and its later calls raise Closed, as soon as\n"
+      "it is closed; a second call returns then, too.\n\n"
       "What was promised as SYNCED or GROUP is on disk already. An exception says that what was WRITTEN may not be;\n"
       "the file is closed all the same." },
     METHOD("append", file_append,
            "append($self, /, pairs, *, node=0, reading=None, promise=0)\n--\n\n"
-           "Append pairs of a key and its value, or None for a deletion, as one batch: all of them or none.\n\n"
-           "Return the stamp of the last one, at which a snapshot has all of them."),
+           "Append pairs of a key and its value, or None for a deletion: after a crash all are in the file or none.\n\n"
+           "Each has its own stamp. Return that of the last one, at which a snapshot has all of them."),
     METHOD("write_batch", file_write_batch,
            "write_batch($self, /, pairs, *, node=0, reading=None, promise=0)\n--\n\n"
            "Write pairs of a key and its value, or None for a deletion, as one item: all of them at one stamp.\n\n"
@@ -722,12 +526,12 @@ static PyMethodDef file_methods[] = {
     { "floor_node", file_floor_node, METH_NOARGS,
       "floor_node($self, /)\n--\n\nReturn the number of the first node that holds the floor back." },
     METHOD("versions", file_versions,
-           "versions($self, /, key, above=0, to=18446744073709551615)\n--\n\n"
+           "versions($self, /, key, above=None, to=None)\n--\n\n"
            "Return the stored rows of a key above one stamp and at or below another, the newest first, as\n"
            "hlcstore.Store.versions does."),
     { "_vacuum_to", file_vacuum_to, METH_O, NULL },
     { "_vacuum_older", file_vacuum_older, METH_O, NULL },
-    { "_open_snapshot", file_open_snapshot, METH_O, NULL },
+    { "_open_snapshot", file_open_snapshot, METH_VARARGS, NULL },
     { "_close_snapshot", file_close_snapshot, METH_O, NULL },
     { "_read", file_read, METH_VARARGS, NULL },
     { "_count", file_count, METH_VARARGS, NULL },

@@ -67,7 +67,7 @@ from ._native import (
     version,
 )
 from ._results import Applied, Certified, Checked, Link, Sizes, Vacuum, VacuumPart, Version
-from ._stamp import Stamp
+from ._stamp import Stamp, required
 
 __all__ = [
     "AboveFloor",
@@ -138,7 +138,7 @@ def stamp(physical: int, counter: int = 0) -> Stamp:
     return Stamp(physical, counter)
 
 
-def split(stamp: int) -> tuple[int, int]:
+def split(stamp: Stamp) -> tuple[int, int]:
     """Return the physical part and the counter of a stamp."""
-    whole = Stamp.from_number(stamp)
+    whole = required(stamp)
     return whole.physical, whole.counter

@@ -1,12 +1,14 @@
 """Stamps: hybrid logical timestamps, which are numbers with two parts."""
 
 from collections.abc import Iterable
+from datetime import datetime, timedelta, timezone
 from operator import index as _index
-from typing import TYPE_CHECKING, Literal, Self, SupportsBytes, SupportsIndex
+from typing import TYPE_CHECKING, Literal, Self, SupportsBytes, SupportsIndex, overload
 
 if TYPE_CHECKING:
     from _typeshed import ReadableBuffer as _ReadableBuffer
 
+_EPOCH, _MILLISECOND = datetime(1970, 1, 1, tzinfo=timezone.utc), timedelta(milliseconds=1)
 _PARTS = "a stamp is two decimal numbers with a full stop between them, as 5.0"
 
 
@@ -18,12 +20,15 @@ class Stamp(int):
     >>> print(Stamp(5), int(Stamp(5)), Stamp.parse("5.1"))
     5.0 327680 5.1
 
-    It is also the number physical * 65536 + counter, and all calls take that number in its place. What arithmetic
-    returns is a number. A format is that of the number, unless it is empty: !s before it makes it that of the text.
+    It is also the number physical * 65536 + counter. Calls that take a stamp take no other number: `from_number` makes
+    one of it, and `at` one of a time. A stamp plus or minus a number is a stamp; other arithmetic returns numbers. A
+    format is that of the number, unless it is empty: !s before it makes it that of the text.
 
     >>> stamp = Stamp(5)
     >>> f"{stamp} {stamp:d} {stamp:>8} {stamp!s:>8}"
     '5.0 327680   327680      5.0'
+    >>> print(stamp + 1, stamp - 1, stamp - Stamp(3))
+    5.1 4.65535 131072
     """
 
     __slots__ = ()
@@ -73,6 +78,20 @@ class Stamp(int):
             raise ValueError(_PARTS)
         return stamp
 
+    @classmethod
+    def at(cls, time: datetime) -> Self:
+        """Return the least stamp of a time, which must have a time zone: its milliseconds since 1970 UTC, and the
+        counter 0. A finer part of the time is cut off. A time before 1970 is an OverflowError."""
+        if not isinstance(time, datetime) or time.utcoffset() is None:
+            raise TypeError(f"a datetime with a time zone is required, not {time!r}")
+        return cls((time - _EPOCH) // _MILLISECOND)
+
+    @property
+    def time(self) -> datetime:
+        """The physical part as the time of this many milliseconds since 1970 UTC. After the year 9999 it is an
+        OverflowError."""
+        return _EPOCH + self.physical * _MILLISECOND
+
     @property
     def physical(self) -> int:
         """The physical part, in the unit of the readings of the nodes."""
@@ -89,12 +108,40 @@ class Stamp(int):
     def __repr__(self) -> str:
         return f"Stamp({self.physical}, {self.counter})"
 
-    def __getnewargs__(self) -> tuple[int, int]:
-        return self.physical, self.counter
+    def __reduce__(self) -> tuple[type[Self], tuple[int, int]]:
+        return type(self), (self.physical, self.counter)
+
+    # With another stamp the result is no stamp, though that is a number too.
+    @overload
+    def __add__(self, other: "Stamp", /) -> int: ...  # type: ignore
+    @overload
+    def __add__(self, other: int, /) -> Self: ...
+    def __add__(self, other: int, /) -> int:
+        return self._result(super().__add__(other), other)
+
+    def __radd__(self, other: int, /) -> Self:
+        return self.__add__(other)
+
+    @overload
+    def __sub__(self, other: "Stamp", /) -> int: ...  # type: ignore
+    @overload
+    def __sub__(self, other: int, /) -> Self: ...
+    def __sub__(self, other: int, /) -> int:
+        return self._result(super().__sub__(other), other)
+
+    def _result(self, number: int, other: int) -> int:
+        return number if isinstance(other, Stamp) or number is NotImplemented else self.from_number(number)
 
 
 # In tracebacks and pickles it has the name by which a program knows it.
 Stamp.__module__ = "hlcstore"
+
+
+def required(stamp: Stamp) -> Stamp:
+    """Return a stamp, and refuse any other number, as the extensions do."""
+    if isinstance(stamp, Stamp):
+        return stamp
+    raise TypeError(f"a Stamp is required, not {type(stamp)}: Stamp(reading) or Stamp.at(time) makes one")
 
 
 def stamp_of(number: int) -> Stamp:

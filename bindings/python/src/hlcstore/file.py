@@ -20,6 +20,7 @@ from types import TracebackType
 from typing import TYPE_CHECKING, Self, TypeVar, final, overload
 
 from ._errors import REFUSALS, Closed, Error, NoSnapshot, NoValue
+from ._owner import Owner
 from ._results import Status, Vacuum
 from ._stamp import Stamp
 
@@ -187,7 +188,7 @@ _FIRST_ROOM, _ROOM = 4096, 1 << 17
 
 
 @final
-class Snapshot:
+class Snapshot(Owner):
     """An open snapshot, which answers like a mapping from keys to values, as `hlcstore.Snapshot` does.
 
     It closes itself, and it closes with its file.
@@ -195,9 +196,12 @@ class Snapshot:
 
     __slots__ = ("_file", "_id", "_stamp")
 
-    def __init__(self, file: "File", at: int | None = None) -> None:
+    _id: int
+    _stamp: Stamp
+
+    def __init__(self, file: "File", at: Stamp | None = None) -> None:
         self._file = file
-        self._id, self._stamp = file._open_snapshot(at)
+        file._open_snapshot(self, at)
 
     @property
     def id(self) -> int:
@@ -320,9 +324,11 @@ class Snapshot:
 
 
 @final
-class Batch:
-    """Writes and deletions that a with statement appends at its end, all or none; and none where it is left by an
-    exception. One thread at a time uses a batch."""
+class Batch(Owner):
+    """Writes and deletions that a with statement appends at its end; and none where it is left by an exception.
+
+    After a crash all of it is in the file or none. Each write has its own stamp, so that a snapshot between two of them
+    shows a part: for one stamp use `File.write_batch`. One thread at a time uses a batch."""
 
     stamp: Stamp | None
     """The stamp of the last of them, at which a snapshot has all; None before the end, and of an empty batch."""
@@ -382,9 +388,11 @@ class File(_file.File):
         reading: int | None = None,
         promise: int = Promise.DEFAULT,
     ) -> Stamp:
-        """Append writes, as pairs of a key and its value, and deletions, with None as the value: all or none.
+        """Append writes, as pairs of a key and its value, and deletions, with None as the value: after a crash all of
+        them are in the file or none. An empty batch does nothing.
 
-        Return the stamp of the last one, at which a snapshot has all of them. An empty batch does nothing.
+        Each write has its own stamp. Return that of the last one, at which a snapshot has all of them; one between two
+        of them shows a part. For one stamp use `write_batch`.
         """
         listed = pairs.items() if isinstance(pairs, collections.abc.Mapping) else pairs
         return super().append(listed, node=node, reading=reading, promise=promise)
@@ -405,14 +413,14 @@ class File(_file.File):
         return super().write_batch(listed, node=node, reading=reading, promise=promise)
 
     def batch(self, *, node: int = 0, reading: int | None = None, promise: int = Promise.DEFAULT) -> Batch:
-        """Return an empty batch for a with statement, which appends it at its end."""
+        """Return an empty batch for a with statement, which appends it at its end, as `append` does."""
         return Batch(self, node, reading, promise)
 
-    def snapshot(self, at: int | None = None) -> Snapshot:
+    def snapshot(self, at: Stamp | None = None) -> Snapshot:
         """Open a snapshot at a stamp from the horizon to the floor, or at the floor."""
         return Snapshot(self, at)
 
-    def vacuum(self, to: int | None = None, *, older_than: timedelta | None = None) -> Vacuum:
+    def vacuum(self, to: Stamp | None = None, *, older_than: timedelta | None = None) -> Vacuum:
         """Drop the rows up to a stamp that neither it nor an open snapshot below it needs, and return what is left.
 
         The stamp is `to`; or that of the system's clock so long ago, or the floor where that is lower. Without both it

@@ -23,21 +23,23 @@ import heapq
 import threading
 from bisect import bisect_right
 from collections.abc import Callable, Iterable, Iterator, Sequence
-from contextlib import ExitStack
+from contextlib import ExitStack, contextmanager
 from itertools import chain
 from operator import index, itemgetter
 from types import TracebackType
 from typing import TYPE_CHECKING, Concatenate, ParamSpec, Self, TypeAlias, TypeVar, final, overload
 
-from ._errors import AboveFloor, BelowHorizon, Error, Retired, TooManyNodes
+from ._errors import AboveFloor, BelowHorizon, Error, NoNode, Retired, TooManyNodes
 from ._native import Batch, Item, Node, Snapshot, Store
+from ._owner import Owner
 from ._results import Link, Vacuum
-from ._stamp import Stamp, stamp_of
+from ._stamp import Stamp, required
 
 if TYPE_CHECKING:
     from _typeshed import ReadableBuffer as _ReadableBuffer
 
     _Writes: TypeAlias = Batch | Iterable[tuple[_ReadableBuffer, _ReadableBuffer | None]]
+    _Saved: TypeAlias = tuple[Stamp, int] | None  # the last stamp and the next number of a node, unless it retired
 
 __all__ = ["BadDivision", "Division", "Machine", "NotOneCut", "Ranges", "RangesError", "RangesSnapshot", "WrongStore"]
 
@@ -45,8 +47,9 @@ _Default = TypeVar("_Default")
 _Arguments = ParamSpec("_Arguments")
 
 _MOST_STORES = 1024
-# The node numbers of a store; the keys of a part of a vacuum; and how often a snapshot that vacuums overtake is opened.
-_MOST_NODES, _KEYS_OF_PART, _MOST_OPENINGS = 1024, 256, 8
+# The node numbers of a store; the keys of a part of a vacuum; and how often a snapshot is opened, or a checkpoint made,
+# that vacuums overtake.
+_MOST_NODES, _KEYS_OF_PART, _MOST_TRIES = 1024, 256, 8
 _MAX_STAMP = (1 << 64) - 1
 
 
@@ -133,7 +136,9 @@ class Division:
         return stores.pop()
 
     def __reduce__(self) -> tuple[Callable[..., "Division"], tuple[object]]:
-        return (Division.by_hash, (self._hashed,)) if self._hashed else (Division.by_keys, (self._boundaries,))
+        if self._hashed:
+            return Division.by_hash, (self._hashed,)
+        return Division.by_keys, (self._boundaries,)
 
     def __eq__(self, other: object) -> bool:
         if not isinstance(other, Division):
@@ -150,7 +155,7 @@ class Division:
 
 
 @final
-class Machine:
+class Machine(Owner):
     """A writer to several stores: one clock, and in each store a node with numbers of its own.
 
     Its node of a store is raised to the clock before it acts, so the stamps of the machine rise, whatever stores its
@@ -166,7 +171,7 @@ class Machine:
     def _begin(self, division: Division, id: int, nodes: list[Node | None], last: Stamp) -> None:
         self._lock = threading.Lock()
         self._division, self._id, self._last = division, id, last
-        self._nodes = nodes  # in each store; None where it retired
+        self._nodes = nodes  # in each store; None where it retired before it was restored
 
     @classmethod
     def _of(cls, division: Division, id: int, nodes: list[Node | None], last: Stamp) -> "Machine":
@@ -187,7 +192,7 @@ class Machine:
     @property
     def retired(self) -> bool:
         """Whether it retired in all stores."""
-        return all(node is None for node in self._nodes)
+        return not self._present()
 
     def write(self, reading: int, key: "_ReadableBuffer", value: "_ReadableBuffer") -> tuple[int, Item]:
         """Issue a write at this reading. Return the number of the key's store, and the item for it."""
@@ -220,26 +225,24 @@ class Machine:
         """Issue the machine's last item at this reading for each store, all or none, except where its node retired
         before it was restored. Return each store with its item."""
         with self._lock:
-            items = self._issue_all(Node.retire, reading)
-            self._nodes = [None] * len(self._nodes)
-            return items
+            return self._issue_all(Node.retire, reading)
 
     def send(self, reading: int, /) -> Stamp:
         """Send a message at this reading. Return its stamp, which goes to the receiver."""
         with self._lock:
-            self._last = self._acting(self._present()).send(reading)
+            self._last = self._acting(self._present_all()[0]).send(reading)
             return self._last
 
-    def receive(self, seen: int, reading: int) -> Stamp:
+    def receive(self, seen: Stamp, reading: int) -> Stamp:
         """Receive a message with this stamp at this reading, which is no stamp. Return the stamp of the event, which is
         above that stamp and above the machine's last one."""
         if isinstance(reading, Stamp):
             raise TypeError("the reading must not be a stamp: it comes after the stamp")
         with self._lock:
-            self._last = self._acting(self._present()).receive(seen, reading)
+            self._last = self._acting(self._present_all()[0]).receive(seen, reading)
             return self._last
 
-    def observe(self, seen: int, reading: int) -> Stamp:
+    def observe(self, seen: Stamp, reading: int) -> Stamp:
         """Do what `receive` does, after the machine read at a cut with this stamp: what it writes later is above it."""
         return self.receive(seen, reading)
 
@@ -254,9 +257,16 @@ class Machine:
         node.raise_to(self._last)
         return node
 
-    def _present(self) -> int:
-        """Return a store in which the node has not retired, if there is one."""
-        return next((store for store, node in enumerate(self._nodes) if node is not None), 0)
+    def _present(self) -> list[int]:
+        """Return the stores from which it did not retire."""
+        return [store for store, node in enumerate(self._nodes) if node is not None and not node.retired]
+
+    def _present_all(self) -> list[int]:
+        """Return these stores, of which a machine that acts has one at least."""
+        present = self._present()
+        if not present:
+            raise Retired
+        return present
 
     def _issue(
         self,
@@ -270,31 +280,28 @@ class Machine:
         return item
 
     def _issue_all(self, issue: Callable[[Node, int], Item], reading: int) -> list[tuple[int, Item]]:
-        if self.retired:
-            raise Retired
-        before, last = [self._saved(store) for store in range(len(self._nodes))], self._last
+        before, last = [(store, self._saved(store)) for store in self._present_all()], self._last
         try:
-            present = [store for store, node in enumerate(self._nodes) if node is not None]
-            return [(store, self._issue(store, issue, reading)) for store in present]
+            return [(store, self._issue(store, issue, reading)) for store, _ in before]
         except BaseException:
-            for store, (last_of_node, next_of_node) in enumerate(before):
-                self._put_back(store, last_of_node, next_of_node)
+            for store, saved in before:
+                self._put_back(store, saved)
             self._last = last
             raise
 
-    def _saved(self, store: int) -> tuple[int, int]:
+    def _saved(self, store: int) -> "_Saved":
         """Return what `_put_back` takes."""
         node = self._nodes[store]
-        return (0, 0) if node is None else (node.last, node.next)
+        return None if node is None or node.retired else (node.last, node.next)
 
-    def _put_back(self, store: int, last: int, next: int) -> None:
+    def _put_back(self, store: int, saved: "_Saved") -> None:
         """Make a node what it was before it issued items of which nothing knows."""
-        if self._nodes[store] is not None:
-            self._nodes[store] = Node.restore(self._id, last, next)
+        if saved is not None:
+            self._nodes[store] = Node.restore(self._id, *saved)
 
 
 @final
-class RangesSnapshot:
+class RangesSnapshot(Owner):
     """A snapshot of all stores at a cut, which answers like a mapping from keys to values, as `hlcstore.Snapshot` does.
 
     Of each key it has the newest write of all that were issued at or below its stamp. It has a snapshot open in each
@@ -358,7 +365,7 @@ class RangesSnapshot:
         """Iterate over such keys, in byte order over all stores. In reverse the last key comes first."""
         parts = self._between(start, end)
         lists = (part.keys(start, end, reverse=reverse) for part in (reversed(parts) if reverse else parts))
-        return heapq.merge(*lists, reverse=reverse) if self._division._hashed else chain.from_iterable(lists)
+        return iter(heapq.merge(*lists, reverse=reverse) if self._division._hashed else chain.from_iterable(lists))
 
     def items(
         self, start: "_ReadableBuffer" = b"", end: "_ReadableBuffer" = b"", *, reverse: bool = False
@@ -368,7 +375,7 @@ class RangesSnapshot:
         parts = self._between(start, end)
         lists = (part.items(start, end, reverse=reverse) for part in (reversed(parts) if reverse else parts))
         if self._division._hashed:
-            return heapq.merge(*lists, key=itemgetter(0), reverse=reverse)
+            return iter(heapq.merge(*lists, key=itemgetter(0), reverse=reverse))
         return chain.from_iterable(lists)
 
     def values(
@@ -386,7 +393,7 @@ class RangesSnapshot:
 
 
 @final
-class Ranges:
+class Ranges(Owner):
     """Several stores that share the keys, and are read at one cut. Each writer is a `Machine`.
 
     Its machines have the numbers from 0 on, of which as many as the second argument says, 1 to 64, are there from the
@@ -487,7 +494,7 @@ class Ranges:
 
     def write(self, machine: Machine, reading: int, key: "_ReadableBuffer", value: "_ReadableBuffer") -> Stamp:
         """Let a machine write at this reading, accept the item, and return its stamp. After a refusal the machine is as
-        it was, too."""
+        it was, too; after what a signal's handler raises, it has issued the item if the store has accepted it."""
         with machine._lock:
             return self._put(machine, self.store_of(key), Node.write, reading, key, value)
 
@@ -531,29 +538,28 @@ class Ranges:
             item = machine._issue(store, issue, *args, **kwargs)
             with self._locks[store]:
                 self._stores[store].accept(item)
-        except BaseException:
-            machine._put_back(store, *before)
-            machine._last = last
+        except BaseException as raised:
+            # What is no refusal, as an exception of a signal's handler, may come after the store accepted the item.
+            if isinstance(raised, Error) or not self._has_next(store, machine, before):
+                machine._put_back(store, before)
+                machine._last = last
             raise
         return item.stamp
 
+    def _has_next(self, store: int, machine: Machine, before: "_Saved") -> bool:
+        """Whether a store accepted the item that a machine's node issued when it was as it was before."""
+        return before is not None and self._stores[store].link(machine.id).next > before[1]
+
     def _put_all(self, machine: Machine, issue: Callable[[Node, int], Item], reading: int) -> None:
-        if machine.retired:
-            raise Retired
-        for store, node in enumerate(machine._nodes):
-            if node is not None:
-                self._put(machine, store, issue, reading)
-                if node.retired:
-                    machine._nodes[store] = None
+        for store in machine._present_all():
+            self._put(machine, store, issue, reading)
 
     def join(self) -> Machine:
         """Let a machine join, and return it: its node has one number in all stores, and its clock starts at the
         greatest floor. Meanwhile no store accepts items. Where it is refused, no store has the node; only after
         `NoMemory` the first stores may have it. Then they keep the cut back, and the next join goes on with that node.
         """
-        with ExitStack() as held:
-            for lock in self._locks:
-                held.enter_context(lock)
+        with self._all_locked():
             id = min(store.nodes for store in self._stores)
             start = max(store.floor for store in self._stores)
             if id >= _MOST_NODES:
@@ -562,9 +568,17 @@ class Ranges:
             for store in self._stores:
                 has_joined = store.nodes > id
                 nodes.append(Node(id, store.link(id).head) if has_joined else store.join_at(start))
-            return Machine._of(self._division, id, nodes, start)
+        return Machine._of(self._division, id, nodes, start)
 
-    def machine(self, id: int, last: int = 0) -> Machine:
+    @contextmanager
+    def _all_locked(self) -> Iterator[None]:
+        """Keep items and machines out of all stores."""
+        with ExitStack() as held:
+            for lock in self._locks:
+                held.enter_context(lock)
+            yield
+
+    def machine(self, id: int, last: Stamp | None = None) -> Machine:
         """Return a machine as it was before a restart, of what the stores accepted from its nodes: they go on with the
         numbers behind that. A machine that retired in all stores is refused with `Retired`.
 
@@ -574,10 +588,10 @@ class Ranges:
         if all(link.retired for link in links):
             raise Retired
         nodes = [None if link.retired else Node.restore(id, link.head, link.next) for link in links]
-        clock = max(index(last), *(link.head for link in links))
-        return Machine._of(self._division, id, nodes, Stamp.from_number(clock))
+        clock = max(Stamp(0) if last is None else required(last), *(link.head for link in links))
+        return Machine._of(self._division, id, nodes, clock)
 
-    def snapshot(self, stamp: int | None = None) -> RangesSnapshot:
+    def snapshot(self, stamp: Stamp | None = None) -> RangesSnapshot:
         """Open a snapshot of all stores at a stamp, from the horizon of each to the cut; or at the cut.
 
         Above the cut it is refused with `AboveFloor`, whose word is the cut. Where a store refuses it, no store has it
@@ -585,46 +599,73 @@ class Ranges:
         if stamp is None:
             return self._snapshot_at_one_of(lambda: self.cut)
         cut = self.cut
-        if stamp > cut:
+        if required(stamp) > cut:
             raise AboveFloor(cut)
         return self._open_all(stamp)
 
     def _snapshot_at_one_of(self, cuts: Callable[[], Stamp]) -> RangesSnapshot:
         """Open a snapshot at a cut, or where a vacuum comes first, at a later one."""
-        for _ in range(_MOST_OPENINGS - 1):
+        for _ in range(_MOST_TRIES - 1):
             try:
                 return self._open_all(cuts())
             except BelowHorizon:
                 pass
         return self._open_all(cuts())
 
-    def _open_all(self, cut: int) -> RangesSnapshot:
+    def _open_all(self, cut: Stamp) -> RangesSnapshot:
         """Open a snapshot at a cut in all stores, or in none."""
         with ExitStack() as opened:
             parts = [opened.enter_context(store.snapshot(cut)) for store in self._stores]
             opened.pop_all()
         return RangesSnapshot(self._division, parts[0].stamp, parts)
 
-    def vacuum_to(self, stamp: int, /) -> Vacuum:
+    def vacuum_to(self, stamp: Stamp, /) -> Vacuum:
         """Drop in each store all rows up to a stamp, or the cut where that is less, except the fewest that give the
         same answers, as `Store.vacuum_to` does. Return the sums of all stores. It keeps the calls on one store at a
         time waiting, for 256 keys.
 
         Where a store was vacuumed to a greater stamp it is refused with `BelowHorizon`, and before its first part
         nothing is changed."""
-        to = min(self.cut, stamp)
-        for store in self._stores:
-            store.check_vacuum(to)
+        to = min(self.cut, required(stamp))
+        self._check_vacuum(to)
         kept = cost = dropped = 0
         for store in self._stores:
             after: bytes | None = b""
             while after is not None:
                 part = store.vacuum_part(to, after, _KEYS_OF_PART)
                 kept, cost, dropped, after = kept + part.kept, cost + part.cost, dropped + part.dropped, part.next
-        return Vacuum(stamp_of(to), kept, cost, dropped)
+        return Vacuum(to, kept, cost, dropped)
 
     def checkpoint(self) -> list[bytes]:
         """Return the whole state of each store, as `Store.checkpoint` does, with the cut as its tag. Writers go on
-        between the stores: a later one may have later items. So what is restored has at least that cut."""
-        cut = self.cut
-        return [store.checkpoint(cut) for store in self._stores]
+        between the stores: a later one may have later items. So what is restored has at least that cut, and a snapshot
+        opens there. Where a machine joins meanwhile, or a vacuum goes above the cut, all are made anew.
+
+        Where vacuums come first eight times, it is refused with `BelowHorizon`; where a join that found no memory left
+        stores without the node, with `NoNode`: join first."""
+        tries = 0
+        while True:
+            nodes, cut = self._same_nodes(), self.cut
+            saved = [store.checkpoint(cut) for store in self._stores]
+            if self._same_nodes() != nodes:
+                continue
+            tries += 1
+            try:
+                self._check_vacuum(cut)
+                return saved
+            except BelowHorizon:
+                if tries == _MOST_TRIES:
+                    raise
+
+    def _same_nodes(self) -> int:
+        """Return how many nodes each store has, while no machine joins."""
+        with self._all_locked():
+            nodes = {store.nodes for store in self._stores}
+        if len(nodes) > 1:
+            raise NoNode
+        return nodes.pop()
+
+    def _check_vacuum(self, stamp: Stamp) -> None:
+        """Refuse a stamp up to the cut, if it is below the horizon of a store."""
+        for store in self._stores:
+            store.check_vacuum(stamp)

@@ -25,6 +25,18 @@ int take_u16(PyObject *from, void *to)
 
 int take_u64(PyObject *from, void *to) { return take_number(from, UINT64_MAX, to); }
 
+/* Any other number is refused: one of milliseconds would be a stamp too, long before that time. */
+int take_stamp(PyObject *from, void *to)
+{
+    StampArgument *stamp = to;
+    if (PyObject_TypeCheck(from, stamp->type)) return take_number(from, UINT64_MAX, &stamp->number);
+    PyErr_Format(PyExc_TypeError, "a Stamp is required, not %R: Stamp(reading) or Stamp.at(time) makes one",
+                 Py_TYPE(from));
+    return 0;
+}
+
+int take_stamp_or_none(PyObject *from, void *to) { return from == Py_None || take_stamp(from, to); }
+
 /* A bytes object of an object with bytes: the same one, or a copy. */
 static PyObject *as_bytes_object(PyObject *from)
 {

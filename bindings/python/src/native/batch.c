@@ -235,11 +235,14 @@ static PyObject *batch_exit(PyObject *self, PyObject *args)
     Py_RETURN_NONE;
 }
 
+/* The writes of a copy: where objects are made, garbage is collected, and a finalizer may write to the batch. */
 static PyObject *batch_writes(PyObject *self, void *none)
 {
-    const Batch *batch = (const Batch *)self;
+    Content copy = { 0 };
+    PyObject *pairs = copy_writes((Batch *)self, &copy) ? pairs_of_writes(copy.writes.at, copy.count) : NULL;
     (void)none;
-    return pairs_of_writes(batch->at, batch->count);
+    drop_content(&copy);
+    return pairs;
 }
 
 static PyObject *batch_repr(PyObject *self)

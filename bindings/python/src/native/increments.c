@@ -6,13 +6,14 @@ PyObject *store_increment(PyObject *self, PyObject *args, PyObject *words)
     static char *names[] = { "since", "tag", NULL };
     Store *store = (Store *)self;
     hlc_output output = HLC_NO_OUTPUT;
-    uint64_t since, horizon, tag = 0;
+    StampArgument since = { .type = classes_of(self)->stamp };
+    uint64_t horizon, tag = 0;
     size_t len;
-    if (!PyArg_ParseTupleAndKeywords(args, words, "O&|O&:increment", names, take_u64, &since, take_u64, &tag))
+    if (!PyArg_ParseTupleAndKeywords(args, words, "O&|O&:increment", names, take_stamp, &since, take_u64, &tag))
         return NULL;
     PyThreadState *thread = lock_to_ask(store, LONG);
     hlc_store mine = store->handle;
-    uint32_t code = hlc_increment_make(&mine, since, tag, &output, &len, &horizon);
+    uint32_t code = hlc_increment_make(&mine, since.number, tag, &output, &len, &horizon);
     unlock(store, thread);
     return code == HLC_OK ? output_object(&output, len) : refuse(code, horizon);
 }

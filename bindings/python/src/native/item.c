@@ -12,10 +12,13 @@ static char **const ARGUMENT_NAMES[] = { WRITE_NAMES, DELETE_NAMES, REPORT_NAMES
 static bool take_batch(Classes *classes, Content *content, PyObject *args, PyObject *words)
 {
     static char *names[] = { "node", "number", "stamp", "writes", NULL };
+    StampArgument stamp = { .type = classes->stamp };
     PyObject *writes;
-    return PyArg_ParseTupleAndKeywords(args, words, "O&O&O&O", names, take_u16, &content->node, take_u64,
-                                       &content->number, take_u64, &content->stamp, &writes)
-           && take_writes(classes, writes, content);
+    if (!PyArg_ParseTupleAndKeywords(args, words, "O&O&O&O", names, take_u16, &content->node, take_u64,
+                                     &content->number, take_stamp, &stamp, &writes))
+        return false;
+    content->stamp = stamp.number;
+    return take_writes(classes, writes, content);
 }
 
 bool take_content(Classes *classes, Content *content, Kind kind, PyObject *args, PyObject *words)
@@ -23,10 +26,14 @@ bool take_content(Classes *classes, Content *content, Kind kind, PyObject *args,
     memset(content, 0, sizeof *content);
     content->kind = kind;
     if (kind == BATCH) return take_batch(classes, content, args, words);
+    StampArgument stamp = { .type = classes->stamp };
     /* A format that is shorter ignores the last arguments. */
-    return PyArg_ParseTupleAndKeywords(args, words, FORMATS[kind], ARGUMENT_NAMES[kind], take_u16, &content->node,
-                                       take_u64, &content->number, take_u64, &content->stamp, take_bytes,
-                                       &content->key, take_bytes, &content->value);
+    if (!PyArg_ParseTupleAndKeywords(args, words, FORMATS[kind], ARGUMENT_NAMES[kind], take_u16, &content->node,
+                                     take_u64, &content->number, take_stamp, &stamp, take_bytes, &content->key,
+                                     take_bytes, &content->value))
+        return false;
+    content->stamp = stamp.number;
+    return true;
 }
 
 void drop_content(Content *content)
@@ -130,14 +137,14 @@ static Py_hash_t item_hash(PyObject *self)
 }
 
 static const char *const REPR_FORMATS[] = {
-    "Item.write(%d, %llu, %llu, %R, %R)",
-    "Item.delete(%d, %llu, %llu, %R)",
-    "Item.report(%d, %llu, %llu)",
-    "Item.retire(%d, %llu, %llu)",
+    "Item.write(%d, %llu, %R, %R, %R)",
+    "Item.delete(%d, %llu, %R, %R)",
+    "Item.report(%d, %llu, %R)",
+    "Item.retire(%d, %llu, %R)",
 };
 
 /* A format that is shorter ignores the last values. */
-static const char *const REDUCE_FORMATS[] = { "N(HKKOO)", "N(HKKO)", "N(HKK)", "N(HKK)" };
+static const char *const REDUCE_FORMATS[] = { "N(HKNOO)", "N(HKNO)", "N(HKN)", "N(HKN)" };
 
 /* The writes of an item, whatever kind it is. */
 static PyObject *item_writes(PyObject *self, void *none)
@@ -152,13 +159,18 @@ static PyObject *item_writes(PyObject *self, void *none)
     }
 }
 
-static PyObject *batch_item_repr(PyObject *self)
+static PyObject *item_stamp(PyObject *self, void *none)
+{
+    (void)none;
+    return stamp_object(classes_of(self)->stamp, ((Item *)self)->content.stamp);
+}
+
+static PyObject *batch_item_repr(PyObject *self, PyObject *stamp)
 {
     const Content *item = &((Item *)self)->content;
     PyObject *writes = item_writes(self, NULL);
-    PyObject *text = writes ? PyUnicode_FromFormat("Item.batch(%d, %llu, %llu, %R)", item->node,
-                                                   (unsigned long long)item->number, (unsigned long long)item->stamp,
-                                                   writes)
+    PyObject *text = writes ? PyUnicode_FromFormat("Item.batch(%d, %llu, %R, %R)", item->node,
+                                                   (unsigned long long)item->number, stamp, writes)
                             : NULL;
     Py_XDECREF(writes);
     return text;
@@ -167,9 +179,14 @@ static PyObject *batch_item_repr(PyObject *self)
 static PyObject *item_repr(PyObject *self)
 {
     const Content *item = &((Item *)self)->content;
-    if (item->kind == BATCH) return batch_item_repr(self);
-    return PyUnicode_FromFormat(REPR_FORMATS[item->kind], item->node, (unsigned long long)item->number,
-                                (unsigned long long)item->stamp, item->key.owner, item->value.owner);
+    PyObject *stamp = item_stamp(self, NULL), *text = NULL;
+    if (stamp)
+        text = item->kind == BATCH ? batch_item_repr(self, stamp)
+                                   : PyUnicode_FromFormat(REPR_FORMATS[item->kind], item->node,
+                                                          (unsigned long long)item->number, stamp, item->key.owner,
+                                                          item->value.owner);
+    Py_XDECREF(stamp);
+    return text;
 }
 
 static PyObject *item_kind(PyObject *self, void *none)
@@ -184,8 +201,8 @@ static PyObject *reduced_batch(PyObject *self, PyObject *maker)
     const Content *item = &((Item *)self)->content;
     PyObject *writes = item_writes(self, NULL);
     if (writes)
-        return Py_BuildValue("N(HKKN)", maker, item->node, (unsigned long long)item->number,
-                             (unsigned long long)item->stamp, writes);
+        return Py_BuildValue("N(HKNN)", maker, item->node, (unsigned long long)item->number, item_stamp(self, NULL),
+                             writes);
     Py_DECREF(maker);
     return NULL;
 }
@@ -198,7 +215,7 @@ static PyObject *item_reduce(PyObject *self, PyObject *none)
     (void)none;
     if (maker && item->kind == BATCH) return reduced_batch(self, maker);
     return maker ? Py_BuildValue(REDUCE_FORMATS[item->kind], maker, item->node, (unsigned long long)item->number,
-                                 (unsigned long long)item->stamp, item->key.owner, item->value.owner)
+                                 item_stamp(self, NULL), item->key.owner, item->value.owner)
                  : NULL;
 }
 
@@ -231,12 +248,6 @@ static PyMemberDef item_members[] = {
     { "value", T_OBJECT, offsetof(Item, content.value.owner), READONLY, "The value of a write, or None." },
     { 0 },
 };
-
-static PyObject *item_stamp(PyObject *self, void *none)
-{
-    (void)none;
-    return stamp_object(classes_of(self)->stamp, ((Item *)self)->content.stamp);
-}
 
 static PyGetSetDef item_fields[] = {
     { "stamp", item_stamp, NULL, "Its stamp.", NULL },

@@ -69,6 +69,16 @@ int take_u16(PyObject *from, void *to);
 int take_u64(PyObject *from, void *to);
 int take_bytes(PyObject *from, void *to);
 
+/* A stamp that a call takes. Its type, the class of stamps, is there before. */
+typedef struct {
+    PyTypeObject *type;
+    uint64_t number;
+} StampArgument;
+
+/* Converters too. None leaves the number as it is. */
+int take_stamp(PyObject *from, void *to);
+int take_stamp_or_none(PyObject *from, void *to);
+
 PyObject *number_object(uint64_t number);
 
 /* How many bytes a length has before the bytes that it counts. */

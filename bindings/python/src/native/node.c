@@ -1,14 +1,18 @@
 /* A node. Its calls are short and keep the interpreter, so threads make them one at a time. */
 #include "native.h"
 
+/* The class of stamps, of the module that made the class of nodes. */
+static PyTypeObject *stamp_of_module(PyTypeObject *type) { return ((Classes *)PyType_GetModuleState(type))->stamp; }
+
 static PyObject *node_new(PyTypeObject *type, PyObject *args, PyObject *words)
 {
     static char *names[] = { "id", "start", NULL };
     uint16_t id;
-    uint64_t start = 0;
-    if (!PyArg_ParseTupleAndKeywords(args, words, "O&|O&:Node", names, take_u16, &id, take_u64, &start)) return NULL;
+    StampArgument start = { .type = stamp_of_module(type) };
+    if (!PyArg_ParseTupleAndKeywords(args, words, "O&|O&:Node", names, take_u16, &id, take_stamp_or_none, &start))
+        return NULL;
     Node *node = allocate(type);
-    if (node) node->node = hlc_node_open(id, start);
+    if (node) node->node = hlc_node_open(id, start.number);
     return (PyObject *)node;
 }
 
@@ -16,13 +20,14 @@ static PyObject *node_restore(PyObject *type, PyObject *args, PyObject *words)
 {
     static char *names[] = { "id", "last", "next", NULL };
     uint16_t id;
-    uint64_t last, next;
-    if (!PyArg_ParseTupleAndKeywords(args, words, "O&O&O&:restore", names, take_u16, &id, take_u64, &last, take_u64,
+    StampArgument last = { .type = stamp_of_module((PyTypeObject *)type) };
+    uint64_t next;
+    if (!PyArg_ParseTupleAndKeywords(args, words, "O&O&O&:restore", names, take_u16, &id, take_stamp, &last, take_u64,
                                      &next))
         return NULL;
     Node *node = allocate((PyTypeObject *)type);
     if (!node) return NULL;
-    uint32_t code = hlc_node_restore(id, last, next, &node->node);
+    uint32_t code = hlc_node_restore(id, last.number, next, &node->node);
     if (code == HLC_OK) return (PyObject *)node;
     Py_DECREF((PyObject *)node);
     return refuse(code, 0);
@@ -130,18 +135,19 @@ static PyObject *node_send(PyObject *self, PyObject *from)
 static PyObject *node_receive(PyObject *self, PyObject *args, PyObject *words)
 {
     static char *names[] = { "seen", "reading", NULL };
-    uint64_t seen, reading, word;
-    if (!PyArg_ParseTupleAndKeywords(args, words, "O&O&:receive", names, take_u64, &seen, take_u64, &reading))
+    StampArgument seen = { .type = classes_of(self)->stamp };
+    uint64_t reading, word;
+    if (!PyArg_ParseTupleAndKeywords(args, words, "O&O&:receive", names, take_stamp, &seen, take_u64, &reading))
         return NULL;
-    uint32_t code = hlc_node_receive(&((Node *)self)->node, seen, reading, &word);
+    uint32_t code = hlc_node_receive(&((Node *)self)->node, seen.number, reading, &word);
     return code == HLC_OK ? stamp_object(classes_of(self)->stamp, word) : refuse(code, word);
 }
 
 static PyObject *node_raise_to(PyObject *self, PyObject *from)
 {
-    uint64_t stamp;
-    if (!take_u64(from, &stamp)) return NULL;
-    hlc_node_raise(&((Node *)self)->node, stamp);
+    StampArgument stamp = { .type = classes_of(self)->stamp };
+    if (!take_stamp(from, &stamp)) return NULL;
+    hlc_node_raise(&((Node *)self)->node, stamp.number);
     Py_RETURN_NONE;
 }
 
@@ -200,7 +206,7 @@ static PyGetSetDef node_fields[] = {
 
 static PyType_Slot node_slots[] = {
     { Py_tp_doc,
-      "Node(id, start=0)\n--\n\n"
+      "Node(id, start=None)\n--\n\n"
       "A node: a writer with a clock of its own. Its clock starts at a stamp: 0, or where Store.join let it start." },
     { Py_tp_new, node_new },
     { Py_tp_dealloc, release_object },

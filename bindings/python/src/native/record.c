@@ -1,6 +1,8 @@
 /* The records of a log that are no items, as bytes. */
 #include "native.h"
 
+static PyTypeObject *stamp_of_module(PyObject *module) { return ((Classes *)PyModule_GetState(module))->stamp; }
+
 static PyObject *record_object(uint32_t code, const uint8_t *out, size_t len)
 {
     return code == HLC_OK ? PyBytes_FromStringAndSize((const char *)out, (Py_ssize_t)len) : refuse(code, 0);
@@ -12,11 +14,10 @@ static PyObject *join_record(PyObject *module, PyObject *args, PyObject *words)
     uint8_t out[16];
     size_t len;
     uint16_t node;
-    uint64_t start;
-    (void)module;
-    if (!PyArg_ParseTupleAndKeywords(args, words, "O&O&:join_record", names, take_u16, &node, take_u64, &start))
+    StampArgument start = { .type = stamp_of_module(module) };
+    if (!PyArg_ParseTupleAndKeywords(args, words, "O&O&:join_record", names, take_u16, &node, take_stamp, &start))
         return NULL;
-    uint32_t code = hlc_record_encode_join(node, start, out, sizeof out, &len);
+    uint32_t code = hlc_record_encode_join(node, start.number, out, sizeof out, &len);
     return record_object(code, out, len);
 }
 
@@ -24,10 +25,9 @@ static PyObject *threshold_record(PyObject *module, PyObject *from)
 {
     uint8_t out[16];
     size_t len;
-    uint64_t stamp;
-    (void)module;
-    if (!take_u64(from, &stamp)) return NULL;
-    uint32_t code = hlc_record_encode_threshold(stamp, out, sizeof out, &len);
+    StampArgument stamp = { .type = stamp_of_module(module) };
+    if (!take_stamp(from, &stamp)) return NULL;
+    uint32_t code = hlc_record_encode_threshold(stamp.number, out, sizeof out, &len);
     return record_object(code, out, len);
 }
 

@@ -19,18 +19,19 @@ PyObject *store_snapshot(PyObject *self, PyObject *args, PyObject *words)
     static char *names[] = { "stamp", NULL };
     Store *store = (Store *)self;
     PyObject *from = Py_None;
-    uint64_t stamp = 0, id;
+    StampArgument at = { .type = classes_of(self)->stamp };
+    uint64_t id;
     if (!PyArg_ParseTupleAndKeywords(args, words, "|O:snapshot", names, &from)) return NULL;
-    if (from != Py_None && !take_u64(from, &stamp)) return NULL;
+    if (!take_stamp_or_none(from, &at)) return NULL;
     Snapshot *snapshot = snapshot_object(self);
     if (!snapshot) return NULL;
     PyThreadState *thread = lock_to_change(store, SHORT);
-    uint32_t code = from == Py_None ? hlc_snapshot_open_at_floor(&store->handle, &id, &stamp)
-                                    : hlc_snapshot_open(&store->handle, stamp, &id);
+    uint32_t code = from == Py_None ? hlc_snapshot_open_at_floor(&store->handle, &id, &at.number)
+                                    : hlc_snapshot_open(&store->handle, at.number, &id);
     unlock(store, thread);
     snapshot->is_owner = code == HLC_OK;
     snapshot->id = id;
-    snapshot->stamp = stamp;
+    snapshot->stamp = at.number;
     if (code == HLC_OK) return (PyObject *)snapshot;
     Py_DECREF((PyObject *)snapshot);
     return refuse(code, id);

@@ -382,8 +382,8 @@ static PyObject *store_join(PyObject *self, PyObject *none)
 
 static PyObject *store_join_at(PyObject *self, PyObject *from)
 {
-    uint64_t start;
-    return take_u64(from, &start) ? join(self, &start) : NULL;
+    StampArgument start = { .type = classes_of(self)->stamp };
+    return take_stamp(from, &start) ? join(self, &start.number) : NULL;
 }
 
 static PyObject *store_link(PyObject *self, PyObject *from)
@@ -391,7 +391,7 @@ static PyObject *store_link(PyObject *self, PyObject *from)
     Store *store = (Store *)self;
     uint16_t node;
     uint64_t numbers[2];
-    bool retired;
+    bool retired = false;
     if (!take_u16(from, &node)) return NULL;
     PyThreadState *thread = lock_to_ask(store, SHORT);
     hlc_store mine = store->handle;
@@ -545,10 +545,10 @@ static PyMethodDef store_methods[] = {
     { "floor_node", store_floor_node, METH_NOARGS,
       "floor_node($self, /)\n--\n\nReturn the number of the first node that holds the floor back." },
     METHOD("versions", store_versions,
-           "versions($self, /, key, above=0, to=18446744073709551615)\n--\n\n"
+           "versions($self, /, key, above=None, to=None)\n--\n\n"
            "Return the stored rows of a key above one stamp and at or below another, the newest first.\n\n"
-           "From the horizon on these are all accepted writes of the key; below it, those that vacuums kept. The cost\n"
-           "is the square of the number of the key's rows."),
+           "Above the horizon these are all accepted writes of the key; at and below it, those that vacuums kept. The\n"
+           "cost is the square of the number of the key's rows."),
     METHOD("snapshot", store_snapshot,
            "snapshot($self, /, stamp=None)\n--\n\nOpen a snapshot at a stamp, or at the floor."),
     { "snapshot_by_id", store_snapshot_by_id, METH_O,

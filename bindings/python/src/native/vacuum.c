@@ -28,8 +28,8 @@ PyObject *store_vacuum(PyObject *self, PyObject *none)
 
 PyObject *store_vacuum_to(PyObject *self, PyObject *from)
 {
-    uint64_t stamp;
-    return take_u64(from, &stamp) ? vacuum((Store *)self, &stamp) : NULL;
+    StampArgument stamp = { .type = classes_of(self)->stamp };
+    return take_stamp(from, &stamp) ? vacuum((Store *)self, &stamp.number) : NULL;
 }
 
 /* The longest key. */
@@ -47,7 +47,7 @@ static PyObject *vacuum_part(Store *store, const Part *part)
     uint64_t numbers[NUMBERS];
     uint8_t key[KEY_ROOM];
     size_t len;
-    bool more;
+    bool more = false;
     PyThreadState *thread = lock_to_change(store, LONG);
     uint32_t code = hlc_store_vacuum_part(&store->handle, part->stamp, part->after.at, part->after.len, part->limit,
                                           &numbers[STAMP], &numbers[KEPT], &numbers[COST], &numbers[DROPPED], key,
@@ -66,11 +66,13 @@ static PyObject *vacuum_part(Store *store, const Part *part)
 PyObject *store_vacuum_part(PyObject *self, PyObject *args, PyObject *words)
 {
     static char *names[] = { "stamp", "after", "limit", NULL };
+    StampArgument stamp = { .type = classes_of(self)->stamp };
     Part part = { .limit = 1024 };
     PyObject *result;
-    if (!PyArg_ParseTupleAndKeywords(args, words, "O&|O&O&:vacuum_part", names, take_u64, &part.stamp, take_bytes,
+    if (!PyArg_ParseTupleAndKeywords(args, words, "O&|O&O&:vacuum_part", names, take_stamp, &stamp, take_bytes,
                                      &part.after, take_u64, &part.limit))
         return NULL;
+    part.stamp = stamp.number;
     result = vacuum_part((Store *)self, &part);
     drop_bytes(&part.after);
     return result;
@@ -79,11 +81,12 @@ PyObject *store_vacuum_part(PyObject *self, PyObject *args, PyObject *words)
 PyObject *store_check_vacuum(PyObject *self, PyObject *from)
 {
     Store *store = (Store *)self;
-    uint64_t stamp, word;
-    if (!take_u64(from, &stamp)) return NULL;
+    StampArgument stamp = { .type = classes_of(self)->stamp };
+    uint64_t word;
+    if (!take_stamp(from, &stamp)) return NULL;
     PyThreadState *thread = lock_to_ask(store, SHORT);
     hlc_store mine = store->handle;
-    uint32_t code = hlc_store_check_vacuum(&mine, stamp, &word);
+    uint32_t code = hlc_store_check_vacuum(&mine, stamp.number, &word);
     unlock(store, thread);
     if (code != HLC_OK) return refuse(code, word);
     Py_RETURN_NONE;
@@ -93,12 +96,13 @@ PyObject *store_certificate(PyObject *self, PyObject *from)
 {
     Store *store = (Store *)self;
     hlc_output output = HLC_NO_OUTPUT;
-    uint64_t stamp, word, numbers[2];
+    StampArgument stamp = { .type = classes_of(self)->stamp };
+    uint64_t word, numbers[2];
     size_t len;
-    if (!take_u64(from, &stamp)) return NULL;
+    if (!take_stamp(from, &stamp)) return NULL;
     PyThreadState *thread = lock_to_ask(store, LONG);
     hlc_store mine = store->handle;
-    uint32_t code = hlc_certificate_make(&mine, stamp, &word, &numbers[0], &numbers[1], &output, &len);
+    uint32_t code = hlc_certificate_make(&mine, stamp.number, &word, &numbers[0], &numbers[1], &output, &len);
     unlock(store, thread);
     if (code != HLC_OK) return refuse(code, word);
     PyObject *text = output_object(&output, len), *result = text ? result_of("Certified", numbers, 2, text) : NULL;

@@ -50,10 +50,13 @@ static bool fetch(Store *store, Versions *versions)
 PyObject *store_versions(PyObject *self, PyObject *args, PyObject *words)
 {
     static char *names[] = { "key", "above", "to", NULL };
-    Versions versions = { .to = UINT64_MAX };
-    if (!PyArg_ParseTupleAndKeywords(args, words, "O&|O&O&:versions", names, take_bytes, &versions.key, take_u64,
-                                     &versions.above, take_u64, &versions.to))
+    StampArgument above = { .type = classes_of(self)->stamp }, to = { above.type, UINT64_MAX };
+    Versions versions = { 0 };
+    if (!PyArg_ParseTupleAndKeywords(args, words, "O&|O&O&:versions", names, take_bytes, &versions.key,
+                                     take_stamp_or_none, &above, take_stamp_or_none, &to))
         return NULL;
+    versions.above = above.number;
+    versions.to = to.number;
     PyObject *list = fetch((Store *)self, &versions) ? list_of(versions.rows, versions.many, version_at) : NULL;
     free(versions.rows);
     drop_bytes(&versions.key);

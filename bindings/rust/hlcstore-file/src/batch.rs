@@ -1,8 +1,10 @@
 use crate::Result;
 use crate::handle::BatchHandle;
 
-/// Writes and deletions that are appended to a file all or none, by [`File::append`](crate::File::append). That clears
-/// the batch, which may then be filled again.
+/// Writes and deletions for a file. [`File::write_batch`](crate::File::write_batch) gives them one stamp, so that a
+/// snapshot shows all of them or none. [`File::append`](crate::File::append) gives each a stamp of its own: after a
+/// crash all of them are in the file or none, and a snapshot between two of them shows a part. Both clear the batch,
+/// which may then be filled again.
 #[derive(Debug)]
 pub struct Batch {
     pub(crate) handle: BatchHandle,

@@ -8,6 +8,16 @@ pub type Result<T> = std::result::Result<T, Error>;
 
 /// Why a call was refused. After it nothing of the call is visible or on disk, except where [`ErrorKind`] says
 /// otherwise.
+///
+/// `?` turns an [`hlcstore::Error`] into one of these, so a function that uses both crates needs no type of its own:
+///
+/// ```
+/// fn key_of(batch: &mut hlcstore::Batch) -> hlcstore_file::Result<()> {
+///     Ok(batch.write("", "no key")?)
+/// }
+/// let refused = key_of(&mut hlcstore::Batch::new()).unwrap_err();
+/// assert_eq!(refused.kind(), hlcstore_file::ErrorKind::Store(hlcstore::ErrorKind::BadKey));
+/// ```
 #[derive(Clone, Copy, PartialEq, Eq, Hash)]
 pub struct Error {
     code: u32,

@@ -53,20 +53,21 @@ impl File {
         self.node(0).delete(key)
     }
 
-    /// Appends a batch as node 0, with the promise of the options: see [`Writer::append`].
+    /// Appends a batch as node 0, each write with a stamp of its own, with the promise of the options: see
+    /// [`Writer::append`].
     pub fn append(&self, batch: &mut Batch) -> Result<Stamp> {
         self.node(0).append(batch, Promise::Default)
     }
 
-    /// Writes a batch as one item of node 0, with the promise of the options: see [`Writer::write_batch`].
+    /// Writes a batch as node 0, all of it at one stamp, with the promise of the options: see [`Writer::write_batch`].
     pub fn write_batch(&self, batch: &mut Batch) -> Result<Stamp> {
         self.node(0).write_batch(batch, Promise::Default)
     }
 
-    /// Appends the records of other machines, one after another as bytes, all or none, and returns how many they are.
-    /// Those that came before are passed over.
+    /// Appends the records of other machines, one after another as bytes, and returns how many they are. Those that
+    /// came before are passed over.
     ///
-    /// Refusals: `BadOption`, `TooLong`; of each record those of
+    /// Refusals, after which none is appended: `BadOption`, `TooLong`; of each record those of
     /// [`Store::apply_records`](hlcstore::Store::apply_records); those of [`Writer`].
     pub fn append_records(&self, log: &[u8], promise: Promise) -> std::result::Result<usize, Stopped> {
         self.handle.append_records(log, promise)
@@ -204,8 +205,9 @@ impl Writer<'_> {
         self
     }
 
-    /// Appends a batch, each item with a stamp of its own, and clears it. Returns the stamp of the last one, at which a
-    /// snapshot has all of them. An empty batch does nothing.
+    /// Appends a batch, and clears it. After a crash all of it is in the file or none. Each write has a stamp of its
+    /// own, so a snapshot between two of them shows a part; for one stamp use [`write_batch`](Writer::write_batch).
+    /// Returns the stamp of the last one, at which a snapshot has all of them. An empty batch does nothing.
     ///
     /// Refusals: `BadOption`, and those of the type. The batch keeps what it had, except after `Later`.
     pub fn append(self, batch: &mut Batch, promise: Promise) -> Result<Stamp> {

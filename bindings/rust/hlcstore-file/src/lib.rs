@@ -23,7 +23,7 @@
 //!
 //! A [`File`] is `Send` and `Sync`: share it by a reference or by an `Arc`. Writes wait for each other and for the
 //! disk. Reads wait only while a batch is accepted, a snapshot opened or closed, or a part of a vacuum made. After a
-//! fork, the child must make no call.
+//! fork the file is the parent's: in the child it and its snapshots may be dropped, and no other call is made.
 //!
 //! # The library
 //!

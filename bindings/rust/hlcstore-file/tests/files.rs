@@ -6,7 +6,7 @@ use std::io::{self, Write};
 use std::path::PathBuf;
 use std::sync::Arc;
 use std::sync::atomic::{AtomicBool, Ordering};
-use std::time::Duration;
+use std::time::{Duration, Instant};
 use std::{env, fs, process, thread};
 
 /// A folder that is removed at the end of a test.
@@ -65,6 +65,9 @@ fn batches_are_appended_whole() -> Result<()> {
     assert_eq!(file.node(0).at(5).append(&mut batch, Promise::Group)?, Stamp::new(5, 1));
     assert!(batch.is_empty());
     assert_eq!(file.snapshot()?.iter().collect::<Result<Vec<_>>>()?, [pair("a", "1")]);
+    // Each write has a stamp of its own.
+    let between = file.snapshot_at(at(5))?.iter().collect::<Result<Vec<_>>>()?;
+    assert_eq!(between, [pair("a", "1"), pair("c", "old")]);
 
     // What is refused adds nothing, and what was added stays.
     batch.write(b"d", b"4")?;
@@ -118,10 +121,23 @@ fn all_is_there_after_opening_again() -> Result<()> {
         let status = file.status()?;
         assert_eq!((status.created, status.applied, status.place, status.checkpoint_place), (false, 1, 3, 2));
         assert_eq!((status.failure, status.writes, status.background), (None, None, None));
+        // A write takes 24 bytes beside its key and its value.
+        assert_eq!((status.log_bytes, status.clock >= at(7)), (24 + 2, true));
         assert_eq!(file.snapshot_at(at(5))?.get(b"a")?.as_deref(), Some(&b"1"[..]));
         assert_eq!(file.snapshot()?.iter().collect::<Result<Vec<_>>>()?, [pair("a", "2"), pair("b", "3")]);
         assert!(file.node(0).at(1).write(b"a", b"4")? > at(7));
     }
+    Ok(())
+}
+
+#[test]
+fn group_waits_for_more() -> Result<()> {
+    let folder = Folder::new("groups");
+    let wait = Duration::from_millis(50);
+    let file = Options::new().promise(Promise::Group).group_wait(wait).open(folder.path())?;
+    let began = Instant::now();
+    file.write(b"a", b"1")?;
+    assert!(began.elapsed() >= wait);
     Ok(())
 }
 
@@ -213,6 +229,9 @@ fn vacuums_drop_what_no_snapshot_needs() -> Result<()> {
     drop(kept);
     assert_eq!(file.vacuum_to(at(9))?.dropped, 4);
     assert_eq!(file.vacuum_older(Duration::from_secs(3600))?.stamp, at(9));
+    let now = file.write(b"city", b"now")?.physical();
+    let to = file.vacuum_older(Duration::from_secs(3600))?.stamp.physical();
+    assert!((3_540_000..=3_600_000).contains(&(now - to)), "from {now} to {to}");
     assert_eq!(file.vacuum_older(Duration::MAX).unwrap_err().kind(), ErrorKind::NoStamp);
     Ok(())
 }
@@ -295,13 +314,48 @@ fn openings_are_refused() -> Result<()> {
     assert_eq!(kind_of(Options::new(), "a\0b"), ErrorKind::CannotOpen);
     assert_eq!(kind_of(Options::new().must_exist(), "none"), ErrorKind::CannotOpen);
     assert_eq!(kind_of(Options::new().nodes(65), "none"), ErrorKind::BadOption);
-    assert_eq!(kind_of(Options::new().group_wait(Duration::MAX), "none"), ErrorKind::BadOption);
+    for longer_than_a_second in [Duration::from_micros(1_000_001), Duration::MAX] {
+        assert_eq!(kind_of(Options::new().group_wait(longer_than_a_second), "none"), ErrorKind::BadOption);
+    }
     let file = Options::new().keep_before_damage().checkpoint_bytes(u64::MAX).open(folder.path())?;
     let refused = File::open(folder.path()).unwrap_err();
     assert_eq!((refused.kind(), refused.code(), refused.word()), (ErrorKind::InUse, 200, 0));
     assert_eq!(refused.to_string(), "another process, or this one, has the file open");
     drop(file);
     File::open(folder.path()).map(drop)
+}
+
+#[test]
+fn damaged_log_is_refused_or_kept_before_the_damage() -> Result<()> {
+    let folder = Folder::new("damaged");
+    let file = File::open(folder.path())?;
+    file.node(0).at(5).write(b"a", b"first")?;
+    file.node(0).at(6).write(b"a", b"second")?;
+    file.close()?;
+    let mut bytes = fs::read(folder.path()).unwrap();
+    let second = bytes.windows(6).position(|bytes| bytes == b"second").unwrap();
+    bytes[second] ^= 1;
+    fs::write(folder.path(), bytes).unwrap();
+    let refused = File::open(folder.path()).unwrap_err();
+    assert_eq!((refused.kind(), refused.word()), (ErrorKind::DamagedLog, 2));
+    let file = Options::new().keep_before_damage().open(folder.path())?;
+    let status = file.status()?;
+    assert_eq!((status.aside, status.failure.map(Error::kind)), (1, Some(ErrorKind::DamagedLog)));
+    assert_eq!(file.floor()?, at(5));
+    Ok(())
+}
+
+#[test]
+fn checkpoints_are_made_in_the_background() -> Result<()> {
+    let folder = Folder::new("background");
+    let file = Options::new().checkpoint_bytes(4096).open(folder.path())?;
+    file.write(b"a", [b'v'; 5000])?;
+    let late = Instant::now() + Duration::from_secs(60);
+    while file.status()?.checkpoint_place == 0 {
+        assert!(Instant::now() < late);
+        thread::sleep(Duration::from_millis(1));
+    }
+    Ok(())
 }
 
 #[test]

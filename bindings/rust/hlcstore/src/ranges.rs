@@ -6,8 +6,8 @@ use crate::{
 use std::ops::DerefMut;
 use std::sync::Arc;
 
-/// How often a snapshot is opened anew where vacuums overtake it.
-const OPENINGS: usize = 8;
+/// How often a snapshot is opened, and a checkpoint made, where vacuums overtake it.
+const TRIES: usize = 8;
 /// How many keys a part of a vacuum has at most.
 const PART: usize = 256;
 
@@ -225,11 +225,10 @@ impl Ranges {
     /// Refusals, of a store: `TooManySnapshots`, `NumbersSpent`, `NoMemory`; `BelowHorizon`, if vacuums overtook it
     /// eight times, or the store was vacuumed above the cut. No store has the snapshot then.
     pub fn snapshot(&self) -> Result<RangesSnapshot> {
-        let mut tries = 1..OPENINGS;
+        let mut tries = 1..TRIES;
         loop {
             let opened = RangesSnapshot::open(self, self.cut()?);
-            let is_below = |error: &RangesError| error.refusal().map(Error::kind) == Some(ErrorKind::BelowHorizon);
-            if !opened.as_ref().is_err_and(is_below) || tries.next().is_none() {
+            if !opened.as_ref().is_err_and(is_below_horizon) || tries.next().is_none() {
                 return opened;
             }
         }
@@ -261,17 +260,30 @@ impl Ranges {
     }
 
     /// Returns a checkpoint of each store, one after another, all at one cut, which is the tag of each: they have all
-    /// that was issued at or below it, and the restored stores have this cut, or a greater one. Writers go on between,
-    /// so a later store may have later items. Where a machine joins meanwhile, all are made anew.
+    /// that was issued at or below it, and the restored stores have this cut, or a greater one, and answer there.
+    /// Writers go on between, so a later store may have later items. Where a machine joins meanwhile, or a vacuum goes
+    /// above the cut, all are made anew.
     ///
-    /// Refusal, of a store: `NoMemory`.
+    /// Refusals, of a store: `NoMemory`; `BelowHorizon`, if vacuums overtook it eight times, or the store was vacuumed
+    /// above the cut.
     pub fn checkpoint(&self) -> Result<Vec<Vec<u8>>> {
+        self.checkpoint_by(SharedStore::checkpoint)
+    }
+
+    /// Makes the checkpoints by a call for each store, with the tag.
+    fn checkpoint_by(&self, save: impl Fn(&SharedStore, u64) -> StoreResult<Vec<u8>>) -> Result<Vec<Vec<u8>>> {
+        let mut tries = 1..TRIES;
         loop {
             let nodes = self.nodes_of_each()?;
-            let cut = self.cut()?.to_bits();
-            let saved = self.each(|store| store.checkpoint(cut)).collect::<Result<_>>()?;
-            if self.nodes_of_each()? == nodes {
-                return Ok(saved);
+            let cut = self.cut()?;
+            let saved = self.each(|store| save(store, cut.to_bits())).collect::<Result<_>>()?;
+            if self.nodes_of_each()? != nodes {
+                continue;
+            }
+            // Refused where a horizon is above the cut.
+            let readable = self.each(|store| store.check_vacuum(cut)).collect::<Result<()>>();
+            if !readable.as_ref().is_err_and(is_below_horizon) || tries.next().is_none() {
+                return readable.map(|()| saved);
             }
         }
     }
@@ -372,6 +384,11 @@ impl Joining {
     }
 }
 
+/// Whether a vacuum overtook what was refused.
+fn is_below_horizon(error: &RangesError) -> bool {
+    error.refusal().map(Error::kind) == Some(ErrorKind::BelowHorizon)
+}
+
 /// Vacuums a store to a stamp by parts.
 fn vacuum_in_parts(store: &SharedStore, stamp: Stamp) -> StoreResult<Vacuumed> {
     let mut all = Vacuumed { stamp, kept: 0, bytes: 0, dropped: 0 };
@@ -384,4 +401,70 @@ fn vacuum_in_parts(store: &SharedStore, stamp: Stamp) -> StoreResult<Vacuumed> {
         after = part.next;
     }
     Ok(all)
+}
+
+#[cfg(test)]
+mod tests {
+    use super::{Ranges, TRIES};
+    use crate::ErrorKind::BelowHorizon;
+    use crate::{Division, Machine, RangesError, SharedStore, Stamp};
+    use std::cell::Cell;
+
+    /// Two stores, and a machine that wrote at reading 5, and reported at 10.
+    fn written() -> (Ranges, Machine) {
+        let ranges = Ranges::open(&Division::by_keys(&["m"]).unwrap(), 1).unwrap();
+        let mut machine = ranges.machine(0, Stamp::ZERO).unwrap();
+        ranges.write(&mut machine, 5, "apple", "red").unwrap();
+        ranges.write(&mut machine, 5, "pear", "green").unwrap();
+        ranges.report_all(&mut machine, 10).unwrap();
+        (ranges, machine)
+    }
+
+    /// Makes a checkpoint, while others do something before each store is saved, and get to know how many are. Returns
+    /// how many were, and the checkpoint.
+    fn saved_beside(ranges: &Ranges, others: impl Fn(usize)) -> (usize, Result<Vec<Vec<u8>>, RangesError>) {
+        let saved = Cell::new(0);
+        let checkpoint = ranges.checkpoint_by(|store, tag| {
+            others(saved.replace(saved.get() + 1));
+            SharedStore::checkpoint(store, tag)
+        });
+        (saved.get(), checkpoint)
+    }
+
+    #[test]
+    fn checkpoint_beside_a_join_is_made_anew() {
+        let (ranges, _) = written();
+        let (many, saved) = saved_beside(&ranges, |many| {
+            if many == 1 {
+                ranges.join().unwrap();
+            }
+        });
+        let copy = Ranges::restore(ranges.division(), &saved.unwrap()).unwrap();
+        assert_eq!((many, copy.stores()[0].nodes(), copy.stores()[1].nodes()), (4, Ok(2), Ok(2)));
+    }
+
+    #[test]
+    fn checkpoint_beside_a_vacuum_is_made_anew() {
+        let (ranges, machine) = written();
+        let (many, saved) = saved_beside(&ranges, |many| {
+            if many == 1 {
+                ranges.report_all(&mut machine.clone(), 20).unwrap();
+                ranges.vacuum_to(Stamp::MAX).unwrap();
+            }
+        });
+        let copy = Ranges::restore(ranges.division(), &saved.unwrap()).unwrap();
+        let snapshot = copy.snapshot().unwrap();
+        assert_eq!((many, snapshot.stamp(), snapshot.count(..)), (4, Stamp::new(20, 0), Ok(2)));
+    }
+
+    #[test]
+    fn checkpoint_without_a_readable_cut_is_refused() {
+        let (ranges, mut machine) = written();
+        ranges.stores()[1].vacuum().unwrap(); // to its floor, which is above the cut
+        let (many, refused) = saved_beside(&ranges, |_| ());
+        assert!(matches!(refused, Err(RangesError::Store { store: 1, error }) if error.kind() == BelowHorizon));
+        assert_eq!(many, 2 * TRIES);
+        ranges.report_all(&mut machine, 20).unwrap();
+        assert!(ranges.checkpoint().is_ok());
+    }
 }

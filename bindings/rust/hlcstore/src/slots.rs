@@ -92,7 +92,7 @@ impl<T> Slots<T> {
             return reading;
         }
         drop(reading);
-        self.read_after_writers()
+        self.read_after_writers(own_slot)
     }
 
     /// Raises the count of a slot.
@@ -102,10 +102,11 @@ impl<T> Slots<T> {
         Reading { lock: self, slot }
     }
 
+    /// Enters a slot by the gate, which no writer gets before the reader is in the slot.
     #[cold]
-    fn read_after_writers(&self) -> Reading<'_, T> {
+    fn read_after_writers(&self, slot: impl FnOnce() -> usize) -> Reading<'_, T> {
         let _gate = locked(self.gate.read());
-        self.enter(own_slot())
+        self.enter(slot())
     }
 
     pub(crate) fn write(&self) -> Writing<'_, T> {
@@ -244,11 +245,13 @@ mod tests {
     fn writer_and_reader_wait_for_each_other() {
         let lock = Slots::new(1);
         let is_over = AtomicBool::new(false);
+        let (say, said) = mpsc::channel();
         thread::scope(|scope| {
             let reading = lock.read();
-            let writer = scope.spawn(|| {
+            scope.spawn(|| {
                 let mut value = lock.write();
                 assert!(is_over.load(Ordering::SeqCst), "a writer did not wait");
+                say.send(()).unwrap();
                 thread::sleep(Duration::from_millis(50));
                 *value = 2;
             });
@@ -256,12 +259,20 @@ mod tests {
             assert_eq!(*reading, 1);
             is_over.store(true, Ordering::SeqCst);
             drop(reading);
-            while !writer.is_finished() {
-                let value = *lock.read();
-                assert!(value == 2 || !writer.is_finished());
-            }
+            assert_eq!(said.recv_timeout(LIMIT), Ok(()));
+            assert_eq!(*lock.read(), 2, "a reader did not wait");
         });
-        assert_eq!(*lock.read(), 2);
+    }
+
+    #[test]
+    fn reader_leaves_the_gate_in_a_slot() {
+        let lock = Slots::new(1);
+        let reading = lock.read_after_writers(|| {
+            assert!(lock.gate.try_write().is_err(), "a writer passes a reader that is in no slot yet");
+            SLOTS - 1
+        });
+        assert!(lock.gate.try_write().is_ok());
+        assert_eq!((*reading, lock.slots[SLOTS - 1].0.load(Ordering::SeqCst)), (1, 1));
     }
 
     #[test]

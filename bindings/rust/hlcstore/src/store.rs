@@ -239,8 +239,8 @@ impl Store {
     }
 
     /// Returns the stored rows of a key above one stamp and at or below another, the newest first: by stamp, and at one
-    /// stamp by node. From the horizon on these are all accepted writes of the key; below it, those that vacuums kept.
-    /// The cost is the square of the number of the key's rows.
+    /// stamp by node. Above the horizon these are all accepted writes of the key; at and below it, those that vacuums
+    /// kept. The cost is the square of the number of the key's rows.
     ///
     /// ```
     /// use hlcstore::{Node, Stamp, Store};

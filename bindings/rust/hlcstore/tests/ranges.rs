@@ -73,9 +73,20 @@ fn boundaries_ascend() {
 fn hashes_divide_among_1_to_1024_stores() {
     assert_eq!([0, 1025].map(Division::by_hash), [Err(RangesError::BadDivision), Err(RangesError::BadDivision)]);
     assert!([1, 1024].iter().all(|stores| Division::by_hash(*stores).unwrap().stores() == *stores));
-    // 0xaf63dc4c8601ec8c and 0x85944171f73967e8, modulo 1000.
-    let division = Division::by_hash(1000).unwrap();
-    assert_eq!(["a", "foobar"].map(|key| division.store_of(key)), [996, 968]);
+    // The hashes that the authors of the function publish.
+    let hashes: [(&[u8], u64); 5] = [
+        (b"", 0xcbf2_9ce4_8422_2325),
+        (b"a", 0xaf63_dc4c_8601_ec8c),
+        (b"b", 0xaf63_df4c_8601_f1a5),
+        (b"foobar", 0x8594_4171_f739_67e8),
+        (b"\xff\0\0\x01", 0x6961_1964_91cc_682d),
+    ];
+    for stores in [1, 2, 7, 64, 1000, 1024] {
+        let division = Division::by_hash(stores).unwrap();
+        for (key, hash) in hashes {
+            assert_eq!(division.store_of(key) as u64, hash % stores as u64);
+        }
+    }
 }
 
 #[test]

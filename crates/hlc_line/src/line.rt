@@ -2,13 +2,13 @@
 ghost use Rattle.std.specs.Prelude.{◌≡◌, ◌≢◌, ◌<◌, ◌^◌, ◌∷◌, [], codes, decimal, ℕ, List};
 ghost use Rattle.std.specs.Prelude.{IfOk, MatchOption, OnErr};
 ghost use Rattle.hlc_text.specs.Text.{Reads};
-ghost use Rattle.hlc_script.specs.Line.{event_words, event_line, HasLine, BearsBytes};
+ghost use Rattle.hlc_line.specs.Line.{event_words, event_line, HasLine, BearsBytes};
 
 use hlc_text::bytes::{Spelled, bytes};
 use hlc_text::stamp::stamp;
 use hlc_text::words::LineWords;
 use hlc_values::NoMemory;
-use hlc_world::Event;
+use hlc_world_event::Event;
 use std::alloc::Global;
 
 /// Returns the event of a line, with its bytes still in their spelling, or none where no event has this line.

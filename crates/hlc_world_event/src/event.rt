@@ -1,8 +1,8 @@
 //! The events of a world.
 ghost use Rattle.std.specs.Prelude.{◌≡◌};
 
+use hlc_bytes::Bytes;
 use hlc_clock::Stamp;
-use hlc_node::Bytes;
 use hlc_values::NoMemory;
 
 /// An event of a world. Its keys and values are bytes, or values that represent bytes.
@@ -83,7 +83,7 @@ pub enum Event<B = Bytes> {
 }
 
 impl Clone for Event<Bytes> {
-    ghost use Rattle.hlc_world.specs.Plain.{IsPlainEvent};
+    ghost use Rattle.hlc_world_event.specs.Events.{IsPlainEvent};
 
     ghost is_clone = { λ event copy. copy ≡ event };
 

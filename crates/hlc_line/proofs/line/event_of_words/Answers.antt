@@ -1,9 +1,10 @@
 -- No event has another verb.
 use Rattle.std.proofs.Common.{rules}
-use Rattle.hlc_world.specs.declared.event.Event.TheVariants.{Write, Delete, Report, Retire, Join, Send, Receive}
-use Rattle.hlc_world.specs.declared.event.Event.TheVariants.{Observe, Deliver, OpenAt, OpenFloor, Read, List as ListAll}
-use Rattle.hlc_world.specs.declared.event.Event.TheVariants.{Close, Floor, Vacuum, Rows}
-use Rattle.hlc_script.proofs.line.event_of_words.Goals as goal
+use Rattle.hlc_world_event.specs.declared.event.Event.TheVariants.{Write, Delete, Report, Retire, Join, Send, Receive}
+use Rattle.hlc_world_event.specs.declared.event.Event.TheVariants.{Observe, Deliver, OpenAt, OpenFloor, Read}
+use Rattle.hlc_world_event.specs.declared.event.Event.TheVariants.{List as ListAll}
+use Rattle.hlc_world_event.specs.declared.event.Event.TheVariants.{Close, Floor, Vacuum, Rows}
+use Rattle.hlc_line.proofs.line.event_of_words.Goals as goal
 
 pub returns-in_default : goal.returns-in_default
 returns-in_default c (Write node reading key value) has same = search rules

@@ -1,12 +1,13 @@
 -- The lines of a script, and the events that they spell.
-use Rattle.std.specs.Prelude.{ℕ, ◌<◌, ◌≤◌, ◌^◌, List, [], ◌∷◌, codes, decimal, ⊤}
+use Rattle.std.specs.Prelude.{◌≡◌, ℕ, ◌<◌, ◌≤◌, ◌^◌, List, [], ◌∷◌, codes, decimal, ⊤}
 use Rattle.hlc_clock.specs.Stamp.{stamp_text}
 use Rattle.hlc_text.specs.Text.{bytes_token, AreBytes}
 use Rattle.hlc_text.specs.Lines.{spaced}
-use Rattle.hlc_world.specs.Schedule.{Event}
-use Rattle.hlc_world.specs.declared.event.Event.TheVariants.{Write, Delete, Report, Retire, Join, Send, Receive}
-use Rattle.hlc_world.specs.declared.event.Event.TheVariants.{Observe, Deliver, OpenAt, OpenFloor, Read, List as ListAll}
-use Rattle.hlc_world.specs.declared.event.Event.TheVariants.{Close, Floor, Vacuum, Rows}
+use Rattle.hlc_world_event.specs.Events.{Event}
+use Rattle.hlc_world_event.specs.declared.event.Event.TheVariants.{Write, Delete, Report, Retire, Join, Send, Receive}
+use Rattle.hlc_world_event.specs.declared.event.Event.TheVariants.{Observe, Deliver, OpenAt, OpenFloor, Read}
+use Rattle.hlc_world_event.specs.declared.event.Event.TheVariants.{List as ListAll}
+use Rattle.hlc_world_event.specs.declared.event.Event.TheVariants.{Close, Floor, Vacuum, Rows}
 
 -- the words of an event
 abbrev pub event_words : Event → List (List ℕ)
@@ -71,3 +72,7 @@ header_line nodes = spaced (header_words nodes)
 -- a script starts with 1 to 64 nodes
 abbrev pub HasHeader : ℕ → Type 0
 HasHeader nodes = (0 < nodes) × (nodes ≤ 64)
+
+-- two events that have the same line are equal
+abbrev pub OneEvent : Type 0
+OneEvent = (event other : Event) → HasLine event → HasLine other → event_line event ≡ event_line other → event ≡ other

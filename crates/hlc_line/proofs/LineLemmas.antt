@@ -10,12 +10,12 @@ use Rattle.hlc_text.specs.Lines.{spaced}
 use Rattle.hlc_text.proofs.TokenLemmas.{IsWord, number_is_word, stamp_is_word, bytes_are_word, split_words, no_stamp}
 use Rattle.hlc_text.proofs.TokenLemmas.{one_stamp}
 use Rattle.hlc_text.proofs.SpellingLemmas.{one_token}
-use Rattle.hlc_world.specs.Schedule.{Event}
-use Rattle.hlc_world.specs.declared.event.Event.TheVariants.{Write, Delete, Report, Retire, Join, Send, Receive}
-use Rattle.hlc_world.specs.declared.event.Event.TheVariants.{Observe, Deliver, OpenAt, OpenFloor, Read, List as ListAll}
-use Rattle.hlc_world.specs.declared.event.Event.TheVariants.{Close, Floor, Vacuum, Rows}
-use Rattle.hlc_script.specs.Line.{event_words, event_line, HasLine, header_words, header_line, HasHeader}
-use Rattle.hlc_script.specs.OneOutput.{OneEvent}
+use Rattle.hlc_world_event.specs.Events.{Event}
+use Rattle.hlc_world_event.specs.declared.event.Event.TheVariants.{Write, Delete, Report, Retire, Join, Send, Receive}
+use Rattle.hlc_world_event.specs.declared.event.Event.TheVariants.{Observe, Deliver, OpenAt, OpenFloor, Read}
+use Rattle.hlc_world_event.specs.declared.event.Event.TheVariants.{List as ListAll}
+use Rattle.hlc_world_event.specs.declared.event.Event.TheVariants.{Close, Floor, Vacuum, Rows}
+use Rattle.hlc_line.specs.Line.{event_words, event_line, HasLine, header_words, header_line, HasHeader, OneEvent}
 
 node_is_word : (node : ℕ) → node < 2 ^ 16 → IsWord (decimal node)
 node_is_word node small = number_is_word node (omega arith)

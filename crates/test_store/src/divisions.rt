@@ -1,0 +1,74 @@
+//! Which store has a key by its hash; and the largest division, whose calls go through 1,024 stores.
+use crate::items::{bytes, new_store};
+use hlc_node::NodeCore;
+use hlc_routing::{Division, Machine, Ranges};
+use hlc_rows::Stamp;
+use std::process::Abort;
+use std::test::*;
+
+/// Keys with their hashes by FNV-1a of 64 bits, as its authors publish them.
+const HASHES: [(&[u8], u64); 5] = [
+    (b"", 0xcbf2_9ce4_8422_2325),
+    (b"a", 0xaf63_dc4c_8601_ec8c),
+    (b"b", 0xaf63_df4c_8601_f1a5),
+    (b"foobar", 0x8594_4171_f739_67e8),
+    (b"\xff\0\0\x01", 0x6961_1964_91cc_682d),
+];
+
+/// Divides the keys over this many stores by their hash.
+fn hashed<R: Abort>(rt: &R, stores: usize) -> Division {
+    Division::by_hash(stores).expect(rt, "a division")
+}
+
+#[test]
+fn a_hash_names_the_store_of_a_key(rt: HostRuntime) {
+    for stores in [1usize, 2, 7, 64, 1000, 1024] {
+        let division = hashed(&rt, stores);
+        for (key, hash) in HASHES {
+            assert!(&rt; division.store_of(key) == (hash % stores as u64) as usize);
+        }
+    }
+    assert!(&rt; Division::by_hash(0).is_none() && Division::by_hash(1025).is_none());
+}
+
+/// Returns as many stores as there may be, and a machine with a node in each.
+fn most_stores<H: Abort + AllocGlobal>(rt: &H) -> (Ranges, Machine) {
+    let (mut stores, mut nodes) = (Vec::new(rt.alloc()), Vec::new(rt.alloc()));
+    for _ in 0..1024 {
+        assert!(rt; stores.push(new_store(rt)).is_ok());
+        assert!(rt; nodes.push(NodeCore::new(0, Stamp::ZERO)).is_ok());
+    }
+    let ranges = Ranges::of(hashed(rt, 1024), stores).expect(rt, "stores");
+    (ranges, Machine::of(Stamp::ZERO, nodes))
+}
+
+#[test]
+fn a_cut_of_1024_stores_is_read(rt: HostRuntime) {
+    let alloc = rt.alloc();
+    let (mut ranges, mut machine) = most_stores(&rt);
+    for key in [b"b".as_slice(), b"foobar", b"a"] {
+        let written = machine.write(ranges.division(), 5, bytes(&rt, key), Some(bytes(&rt, key)));
+        let (store, item) = written.ok().expect(&rt, "an item");
+        assert!(&rt; ranges.accept(store, item).is_ok());
+    }
+    let reports = machine.report_all(alloc, 6).ok().expect(&rt, "reports");
+    for (store, item) in reports.into_iter().enumerate() {
+        assert!(&rt; ranges.accept(store, item).is_ok());
+    }
+    let snapshot = ranges.open_cut(alloc).ok().expect(&rt, "a snapshot");
+    assert!(&rt; snapshot.ids().len() == 1024);
+    let pairs = ranges
+        .list_at(alloc, &snapshot, b"", None)
+        .ok()
+        .expect(&rt, "pairs");
+    let mut keys = pairs.as_slice().iter();
+    for expected in [b"a".as_slice(), b"b", b"foobar"] {
+        assert!(&rt;
+            keys.next()
+                .is_some_and(|pair| pair.key.as_slice() == expected)
+        );
+    }
+    assert!(&rt; keys.next().is_none());
+    assert!(&rt; ranges.close_all(&snapshot).is_ok());
+    assert!(&rt; ranges.close_all(&snapshot).is_err());
+}
