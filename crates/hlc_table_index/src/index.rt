@@ -12,10 +12,10 @@ ghost use Rattle.hlc_table_index.specs.Entries.{IsEntryAt, IsGap, IsPlace};
 ghost use Rattle.hlc_table_index.specs.Entries.{entries_before, entries_from};
 ghost use Rattle.std.specs.declared.cmp.Ordering.TheVariants.{Less};
 
-use crate::filled::Filled;
 use crate::head::head_of;
 use crate::leaves::Leaves;
 use hlc_bytes::Bytes;
+use hlc_values::Filled;
 use std::alloc::{AllocFailed, Global};
 use std::cmp::Ordering;
 use std::marker::Model;

@@ -9,10 +9,9 @@ ghost use Rattle.hlc_table_index.specs.Entries.{with_value};
 ghost use Rattle.std.specs.Borrow.{Lends, sem};
 ghost use Rattle.hlc_table_index.specs.contracts.leaf.Leaf.{the_row};
 
-use crate::filled::Filled;
 use crate::head::{compare_alike, head_of, place_of_head};
 use hlc_bytes::Bytes;
-use hlc_values::NoMemory;
+use hlc_values::{Filled, NoMemory};
 use std::alloc::{AllocFailed, Global};
 use std::cmp::Ordering;
 use std::marker::Model;

@@ -11,11 +11,10 @@ ghost use Rattle.std.specs.Borrow.{Lends, sem};
 ghost use Rattle.std.specs.Prelude.{slice_get, Some};
 ghost use Rattle.hlc_table_index.specs.contracts.leaves.Leaves.{the_row};
 
-use crate::filled::Filled;
 use crate::head::{compare_alike, place_of_head};
 use crate::leaf::{Leaf, MAX_ENTRIES};
 use hlc_bytes::Bytes;
-use hlc_values::NoMemory;
+use hlc_values::{Filled, NoMemory};
 use std::alloc::{AllocFailed, Global};
 use std::cmp::Ordering;
 use std::marker::Model;
