@@ -56,9 +56,10 @@ abbrev pub greatest_head : List IntakeView → ℕ
 greatest_head [] = 0
 greatest_head (link ∷ links) = max link.head (greatest_head links)
 
--- the row is of one of the nodes, and not above its head
+-- the row is of one of the nodes, not above its head, and above 0.0, as each item is
 abbrev pub IsUnderHead : List IntakeView → Row → Type 0
-IsUnderHead links row = (row.node < length links) × (row.stamp ≤ (link_at links row.node).head)
+IsUnderHead links row =
+    (row.node < length links) × (row.stamp ≤ (link_at links row.node).head) × (0 < row.stamp)
 
 -- there are nodes, and links of them with possible progress; the top is the greatest head; the horizon is not above the
 -- floor; an item may write each row

@@ -1,5 +1,5 @@
 //! A checkpoint of a store, and the first reason why some values are not one.
-ghost use Rattle.std.specs.Prelude.{◌≡◌, IfOk, ◌↔◌, ◌≤◌, [], IsTrue, All, MatchOption};
+ghost use Rattle.std.specs.Prelude.{◌≡◌, IfOk, ◌↔◌, ◌<◌, ◌≤◌, [], IsTrue, All, MatchOption};
 ghost use Rattle.hlc_heads.specs.Heads.{floor_of};
 ghost use Rattle.hlc_checkpoint.specs.StoreView.{HasNodes, HasStamps, HasLastItem, greatest_head, marks_of};
 ghost use Rattle.hlc_checkpoint.specs.RestoreFaults.{fault_code};
@@ -398,12 +398,19 @@ fn are_under_heads(links: &[Intake], rows: &[Row]) -> bool
     true
 }
 
-/// Returns whether a row is of one of the nodes, and not above its head.
+/// Returns whether a stamp is above 0.0, and not above a head.
+fn is_issued_up_to(stamp: Stamp, head: Stamp) -> bool
+    ensures { IsTrue result ↔ ((0 < stamp) × (stamp ≤ head)) }
+{
+    stamp > Stamp::ZERO && stamp <= head
+}
+
+/// Returns whether a row is of one of the nodes, not above its head, and above 0.0.
 pub(crate) fn is_under_head(links: &[Intake], row: &Row) -> bool
     ensures { IsTrue result ↔ IsUnderHead links.now row.now }
 {
     match links.get(row.node as usize) {
-        Some(link) => row.stamp <= link.head(),
+        Some(link) => is_issued_up_to(row.stamp, link.head()),
         None => false,
     }
 }

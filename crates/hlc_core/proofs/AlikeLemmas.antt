@@ -7,8 +7,9 @@ use Rattle.hlc_node.specs.declared.item.Body.{Body}
 use Rattle.hlc_node.specs.Items.{an_item, retires}
 use Rattle.hlc_heads.proofs.LowLemmas.{low-same}
 use Rattle.hlc_snapshot.specs.RegistryView.{without}
-use Rattle.hlc_core.specs.Past.{Step, Started, Took, Opened, Closed, Joined, initial_nodes, numbered, count, head}
+use Rattle.hlc_core.specs.Past.{Step, Started, Began, Took, Opened, Closed, Joined, initial_nodes, numbered, count, head}
 use Rattle.hlc_core.specs.Past.{retired, top, floor, last_id, open_snapshots}
+use Rattle.hlc_core.specs.StoreView.{StoreView}
 
 -- No vacuum, and no part of one, changes anything of this.
 abbrev pub AreAlike : List Step → List Step → Type 0
@@ -23,6 +24,9 @@ alike-itself past = (refl, refl, λ n. (refl, refl, refl), refl, refl, refl)
 pub alike-started : (past other : List Step) (nodes : ℕ) → AreAlike past other
     → AreAlike (Started nodes ∷ past) (Started nodes ∷ other)
 alike-started past other nodes are = (refl, ap (λ k. k + nodes) are.1, are.2, are.3, are.4, are.5)
+
+pub alike-began : (past other : List Step) (kept : StoreView) → AreAlike (Began kept ∷ past) (Began kept ∷ other)
+alike-began past other kept = (refl, refl, λ n. (refl, refl, refl), refl, refl, refl)
 
 -- the bodies may differ, if both or neither end the link
 pub alike-took : (past other : List Step) (item : Item) (body : Body) → retires body ≡ retires item.body

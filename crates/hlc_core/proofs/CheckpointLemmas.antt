@@ -19,7 +19,7 @@ use Rattle.hlc_snapshot.specs.RegistryView.{RegistryView, IsRegister, opened_at,
 use Rattle.hlc_snapshot.proofs.RegisterLemmas.{closed-is_register}
 use Rattle.hlc_witness.specs.Certificate.{RowsAscend}
 use Rattle.hlc_witness.specs.Cost.{IsInLimits}
-use Rattle.hlc_core.specs.Past.{Step, initial_nodes, Started, Took, Opened, Closed, Vacuumed, PartVacuumed, Joined}
+use Rattle.hlc_core.specs.Past.{Step, initial_nodes, Started, Began, Took, Opened, Closed, Vacuumed, PartVacuumed, Joined}
 use Rattle.hlc_core.specs.Past.{numbered, count, head, retired, top, floor, horizon, last_id, open_snapshots, of_room}
 use Rattle.hlc_events.specs.Faults.{of_registry}
 use Rattle.hlc_core.specs.Past.{IsLegal, writes, greatest_accepted}
@@ -31,20 +31,22 @@ use Rattle.hlc_core.specs.Checkpoint.{IsCheckpoint, IsCopyOf, floor_in}
 use Rattle.hlc_core.proofs.PastLemmas.{inside, rises, head-same, head-other, head-joined, head-joined_other, floor-some}
 use Rattle.hlc_core.proofs.PastLemmas.{count-other, retired-other, fresh, accepted-low, retired-head}
 use Rattle.hlc_core.proofs.PastLemmas.{inside-row, below_head, writes-limits, open-low, open-below, open-above}
-use Rattle.hlc_core.proofs.PastLemmas.{open-room, horizon-low}
+use Rattle.hlc_core.proofs.PastLemmas.{open-room, horizon-low, positive}
 use Rattle.hlc_core.proofs.Moved.{represents-moved}
 use Rattle.hlc_core.proofs.Sound.{greatest-ge, greatest-le}
+use Rattle.hlc_core.proofs.BeganLemmas.{began-head, began-top, began-count, began-last}
 
 -- the nodes at the start keep their numbers
-numbered-from : (past : List Step) → initial_nodes past ≤ numbered past
-numbered-from [] = omega arith
-numbered-from (Took item ∷ past) = numbered-from past
-numbered-from (Opened stamp ∷ past) = numbered-from past
-numbered-from (Started nodes ∷ past) = omega arith
-numbered-from (Closed id ∷ past) = numbered-from past
-numbered-from (Vacuumed at ∷ past) = numbered-from past
-numbered-from (PartVacuumed at dropped ∷ past) = numbered-from past
-numbered-from (Joined node start ∷ past) = (let h = numbered-from past in omega (arith, h))
+numbered-from : (past : List Step) → IsLegal past → initial_nodes past ≤ numbered past
+numbered-from [] legal = omega arith
+numbered-from (Took item ∷ past) legal = numbered-from past legal.1
+numbered-from (Opened stamp ∷ past) legal = numbered-from past legal.1
+numbered-from (Started nodes ∷ past) legal = omega arith
+numbered-from (Began kept ∷ past) legal = legal.2.store.sound.nodes.linked
+numbered-from (Closed id ∷ past) legal = numbered-from past legal.1
+numbered-from (Vacuumed at ∷ past) legal = numbered-from past legal.1
+numbered-from (PartVacuumed at dropped ∷ past) legal = numbered-from past legal.1
+numbered-from (Joined node start ∷ past) legal = (let h = numbered-from past legal.3 in omega (arith, h))
 
 -- and no more numbers are assigned than there are
 numbered-few : (past : List Step) → initial_nodes past ≤ MAX_INITIAL_NODES → IsLegal past
@@ -56,6 +58,7 @@ numbered-few (Started nodes ∷ past) few legal =
     (let none : numbered past ≡ 0 = ap numbered legal.0 in omega (arith, few))
 numbered-few (Closed id ∷ past) few legal = numbered-few past few legal.1
 numbered-few (Vacuumed at ∷ past) few legal = numbered-few past few legal.1
+numbered-few (Began kept ∷ past) few legal = legal.2.store.sound.nodes.bounded
 numbered-few (PartVacuumed at dropped ∷ past) few legal = numbered-few past few legal.1
 numbered-few (Joined node start ∷ past) few legal =
     elim (cases_lt (numbered past) MAX_NODES) [
@@ -71,6 +74,7 @@ heads-low (Opened stamp ∷ past) legal n = heads-low past legal.1 n
 heads-low (Started nodes ∷ past) legal n = heads-low past legal.1 n
 heads-low (Closed id ∷ past) legal n = heads-low past legal.1 n
 heads-low (Vacuumed at ∷ past) legal n = heads-low past legal.1 n
+heads-low (Began kept ∷ past) legal n = began-head kept n legal.2
 heads-low (PartVacuumed at dropped ∷ past) legal n = heads-low past legal.1 n
 heads-low (Joined node start ∷ past) legal n =
     let old : head n past ≤ top past = heads-low past legal.3 n in
@@ -98,6 +102,7 @@ top-at (Started nodes ∷ past) some legal =
     rw legal.0 (0, omega (arith, some), refl)
 top-at (Closed id ∷ past) some legal = top-at past some legal.1
 top-at (Vacuumed at ∷ past) some legal = top-at past some legal.1
+top-at (Began kept ∷ past) some legal = began-top kept legal.2
 top-at (PartVacuumed at dropped ∷ past) some legal = top-at past some legal.1
 top-at (Joined node start ∷ past) some legal =
     let old = top-at past some legal.3 in
@@ -151,7 +156,7 @@ floor-retired past some legal has_retired =
           let e : head one.0 past ≡ top past = one.2 in
           let low : head one.0 past ≤ greatest_accepted past =
           retired-head past one.0 legal (has_retired one.0 one.1) in
-          let up : greatest_accepted past ≤ top past = accepted-low past in
+          let up : greatest_accepted past ≤ top past = accepted-low past legal in
           let at : floor past ≡ top past = all'.1 in omega arith
     ]
 
@@ -192,6 +197,7 @@ register-of [] legal =
     }
 register-of (Took item ∷ past) legal = register-of past legal.1
 register-of (Vacuumed at ∷ past) legal = register-of past legal.1
+register-of (Began kept ∷ past) legal = legal.2.store.register
 register-of (PartVacuumed at dropped ∷ past) legal = register-of past legal.1
 register-of (Joined node start ∷ past) legal = register-of past legal.3
 register-of (Started nodes ∷ past) legal = register-of past legal.1
@@ -211,6 +217,7 @@ count-low (Opened stamp ∷ past) legal n = count-low past legal.1 n
 count-low (Started nodes ∷ past) legal n = count-low past legal.1 n
 count-low (Closed id ∷ past) legal n = count-low past legal.1 n
 count-low (Vacuumed at ∷ past) legal n = count-low past legal.1 n
+count-low (Began kept ∷ past) legal n = began-count kept n legal.2
 count-low (PartVacuumed at dropped ∷ past) legal n = count-low past legal.1 n
 count-low (Joined node start ∷ past) legal n =
     let old : count n past ≤ head n past = count-low past legal.3 n in
@@ -236,24 +243,26 @@ count-low (Took item ∷ past) legal n =
     ]
 
 -- and a node that has retired has an item
-count-retired : (past : List Step) (n : ℕ) → retired n past ≡ true → 0 < count n past
-count-retired [] n has_retired = absurd cc
-count-retired (Opened stamp ∷ past) n has_retired = count-retired past n has_retired
-count-retired (Started nodes ∷ past) n has_retired = count-retired past n has_retired
-count-retired (Closed id ∷ past) n has_retired = count-retired past n has_retired
-count-retired (Vacuumed at ∷ past) n has_retired = count-retired past n has_retired
-count-retired (PartVacuumed at dropped ∷ past) n has_retired = count-retired past n has_retired
-count-retired (Joined node start ∷ past) n has_retired = count-retired past n has_retired
-count-retired (Took item ∷ past) n has_retired =
+count-retired : (past : List Step) (n : ℕ) → IsLegal past → retired n past ≡ true → 0 < count n past
+count-retired [] n legal has_retired = absurd cc
+count-retired (Opened stamp ∷ past) n legal has_retired = count-retired past n legal.1 has_retired
+count-retired (Started nodes ∷ past) n legal has_retired = count-retired past n legal.1 has_retired
+count-retired (Began kept ∷ past) n legal has_retired = (began-last kept n legal.2 has_retired).1
+count-retired (Closed id ∷ past) n legal has_retired = count-retired past n legal.1 has_retired
+count-retired (Vacuumed at ∷ past) n legal has_retired = count-retired past n legal.1 has_retired
+count-retired (PartVacuumed at dropped ∷ past) n legal has_retired = count-retired past n legal.1 has_retired
+count-retired (Joined node start ∷ past) n legal has_retired = count-retired past n legal.3 has_retired
+count-retired (Took item ∷ past) n legal has_retired =
     elim (cases_eq item.node n) [
       | inl same ↦
           (let f : count n (Took item ∷ past) ≡ count n past + 1 = cond-true _ _ _ (eq-eqb _ _ same) in omega arith)
       | inr other ↦
-          let old : 0 < count n past = count-retired past n (sym (retired-other n item past other) ∙ has_retired) in
+          let old : 0 < count n past =
+          count-retired past n legal.1 (sym (retired-other n item past other) ∙ has_retired) in
           let f : count n (Took item ∷ past) ≡ count n past = count-other n item past other in omega arith
     ]
 
-link-is : (kept : StoreView) (past : List Step) → Represents kept past → (k : ℕ) (d : IntakeView)
+pub link-is : (kept : StoreView) (past : List Step) → Represents kept past → (k : ℕ) (d : IntakeView)
     → k < length kept.links
     → get_or kept.links k d ≡ record { next = count k past; head = head k past; retired = retired k past }
 link-is kept past h k d lt =
@@ -278,7 +287,7 @@ pub checkpoint-sound : (kept : StoreView) (past : List Step) → Represents kept
     → kept.initial_nodes ≤ MAX_INITIAL_NODES → RowsAscend kept.rows → IsCheckpoint kept
 checkpoint-sound kept past h some few ascend =
     let many : length kept.links ≡ numbered past = h.links.many in
-    let from = numbered-from past in
+    let from = numbered-from past h.legal in
     let some' : 0 < initial_nodes past = rw (← h.initial_nodes) some in
     let bounded = numbered-few past (rw (← h.initial_nodes) few) h.legal in
     let has : HasNodes kept.initial_nodes kept.links =
@@ -306,13 +315,13 @@ checkpoint-sound kept past h some few ascend =
               let inside : row.node < length kept.links = omega (arith, node, many) in
               let same = link-head kept past h row.node no_link inside in
               let low : row.stamp ≤ head row.node past = below_head past h.legal row all' in
-              (inside, omega (arith, same, low)))
+              (inside, omega (arith, same, low), positive past h.legal row all'))
               kept.rows (All-contains_itself kept.rows);
         };
         sound = record {
           nodes = has;
           stamps = λ k d lt. subst HasStamps (sym (link-is kept past h k d lt)) (count-low past h.legal k);
-          last = λ k d lt. subst HasLastItem (sym (link-is kept past h k d lt)) (count-retired past k);
+          last = λ k d lt. subst HasLastItem (sym (link-is kept past h k d lt)) (count-retired past k h.legal);
           top =
               (let t : kept.top ≡ top past = h.top in
               let a : head most.0 past ≡ top past = most.2 in

@@ -97,9 +97,9 @@ under-advanced links node link row within up under =
           ap (head_at (slice_set links node link)) same
           ∙ ap (λ (y : IntakeView). y.head) (set-at links node link within) in
           let f : head_at links row.node ≡ head_at links node = ap (head_at links) same in
-          (omega arith, omega arith)
+          (omega arith, omega arith, under.2)
       | inr other ↦ let e : head_at (slice_set links node link) row.node ≡ head_at links row.node =
-          ap (λ (y : IntakeView). y.head) (set-other links node row.node link other) in (omega arith, omega arith)
+          ap (λ (y : IntakeView). y.head) (set-other links node row.node link other) in (omega arith, omega arith, under.2)
     ]
 
 under-joined : (links : List IntakeView) (x : IntakeView) (row : Row) → IsUnderHead links row
@@ -110,7 +110,7 @@ under-joined links x row under =
     let s : row.stamp ≤ head_at links row.node = under.1 in
     let e : head_at (links ++ x ∷ []) row.node ≡ head_at links row.node =
     ap (λ (y : IntakeView). y.head) (get_or_append_left links (x ∷ []) no_link row.node n) in
-    (omega arith, omega arith)
+    (omega arith, omega arith, under.2)
 
 under-all : (P : Row → Type 0) (rows : List Row) (node stamp : ℕ) (body : Body) → All P rows
     → ((row : Row) → row.node ≡ node → row.stamp ≡ stamp → P row) → All P (rows ++ body_rows node stamp body)
@@ -152,7 +152,7 @@ consistent-accept marks snapshots rows node link body h within here up good =
           (λ row under. under-advanced links node link row within up under) rows h.stored)
           (λ row of at.
           let f : head_at new row.node ≡ head_at new node = ap (head_at new) of in
-          (omega (arith, of), omega (arith, at)));
+          (omega (arith, of), omega (arith, at), omega (arith, at, up)));
     }
 
 -- a node joins, not below the floor

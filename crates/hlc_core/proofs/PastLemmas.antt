@@ -25,13 +25,18 @@ use Rattle.hlc_heads.proofs.LowLemmas.{low-is, low-rises, low-joins, low-stays}
 use Rattle.hlc_witness.specs.Cost.{IsInLimits, AreInLimits}
 use Rattle.hlc_core.proofs.BatchLemmas.{rows_written-are, rows_written-set, rows_written-limits}
 use Rattle.hlc_core.proofs.BatchLemmas.{row_set-append}
-use Rattle.hlc_core.specs.Past.{Step, Started, Took, Opened, Closed, Vacuumed, PartVacuumed, Joined, numbered, count}
+use Rattle.hlc_core.specs.Past.{Step, Started, Began, Took, Opened, Closed, Vacuumed, PartVacuumed, Joined, numbered, count}
 use Rattle.hlc_core.specs.Past.{head}
 use Rattle.hlc_core.specs.Past.{retired}
 use Rattle.hlc_core.specs.Past.{top, floor, horizon, vacuumed, open_snapshots, room_refusal, open_refusal, body_rows}
 use Rattle.hlc_core.specs.Past.{item_rows, writes, link_refusal, of_body, item_refusal, vacuum_refusal, IsLegal}
 use Rattle.hlc_core.specs.Past.{greatest_accepted, join_refusal, join_at_refusal}
 use Rattle.hlc_heads.specs.declared.heads.TheConstants.{MAX_NODES}
+use Rattle.hlc_intake.specs.IntakeView.{IntakeView}
+use Rattle.hlc_checkpoint.specs.Checkpoint.{floor_in}
+use Rattle.hlc_core.specs.Past.{link_in}
+use Rattle.hlc_core.proofs.BeganLemmas.{link_in-out, floor-began, began-issued, began-retired, began-row, began-under}
+use Rattle.hlc_core.proofs.BeganLemmas.{began-positive}
 
 -- what is true of an item that is not refused
 pub record IsAdmissible (has_retired : Bool) (next last : ℕ) (item : Item) : Type 0 where
@@ -127,6 +132,9 @@ fresh (Started nodes ∷ past) n legal out =
     fresh past n legal.1 (let out' : numbered past + nodes ≤ n = out in omega arith)
 fresh (Closed id ∷ past) n legal out = fresh past n legal.1 out
 fresh (Vacuumed at ∷ past) n legal out = fresh past n legal.1 out
+fresh (Began kept ∷ past) n legal out =
+    let e = link_in-out kept n out in
+    (ap (λ (link : IntakeView). link.next) e, ap (λ (link : IntakeView). link.retired) e)
 fresh (PartVacuumed at dropped ∷ past) n legal out = fresh past n legal.1 out
 fresh (Joined node start ∷ past) n legal out =
     fresh past n legal.3 (let out' : numbered past + 1 ≤ n = out in omega arith)
@@ -206,6 +214,8 @@ inside-row (Started nodes ∷ past) legal row m =
     let goal : row.node < numbered past + nodes = omega arith in goal
 inside-row (Closed id ∷ past) legal row m = inside-row past legal.1 row m
 inside-row (Vacuumed at ∷ past) legal row m = inside-row past legal.1 row m
+inside-row (Began kept ∷ past) legal row m =
+    (began-under kept row legal.2 (began-row kept past row legal.0 m)).0
 inside-row (PartVacuumed at dropped ∷ past) legal row m = inside-row past legal.1 row m
 inside-row (Joined node start ∷ past) legal row m =
     let within : row.node < numbered past = inside-row past legal.3 row m in
@@ -228,6 +238,8 @@ below_head (Opened stamp ∷ past) legal row m = below_head past legal.1 row m
 below_head (Started nodes ∷ past) legal row m = below_head past legal.1 row m
 below_head (Closed id ∷ past) legal row m = below_head past legal.1 row m
 below_head (Vacuumed at ∷ past) legal row m = below_head past legal.1 row m
+below_head (Began kept ∷ past) legal row m =
+    (began-under kept row legal.2 (began-row kept past row legal.0 m)).1
 below_head (PartVacuumed at dropped ∷ past) legal row m = below_head past legal.1 row m
 below_head (Joined node start ∷ past) legal row m =
     let old : row.stamp ≤ head row.node past = below_head past legal.3 row m in
@@ -250,6 +262,24 @@ below_head (Took item ∷ past) legal row m =
           body_rows-are item.node item.stamp item.body row here in
           let e : head row.node (Took item ∷ past) ≡ item.stamp = head-same row.node item past (sym are.0) in
           omega (arith, are.1)
+    ]
+
+-- each accepted write has a stamp above 0.0
+pub positive : (past : List Step) → IsLegal past → (row : Row) → Contains (writes past) row → 0 < row.stamp
+positive [] legal row m = absurd (Contains-none row m)
+positive (Opened stamp ∷ past) legal row m = positive past legal.1 row m
+positive (Started nodes ∷ past) legal row m = positive past legal.1 row m
+positive (Began kept ∷ past) legal row m = began-positive kept row legal.2 (began-row kept past row legal.0 m)
+positive (Closed id ∷ past) legal row m = positive past legal.1 row m
+positive (Vacuumed at ∷ past) legal row m = positive past legal.1 row m
+positive (PartVacuumed at dropped ∷ past) legal row m = positive past legal.1 row m
+positive (Joined node start ∷ past) legal row m = positive past legal.3 row m
+positive (Took item ∷ past) legal row m =
+    elim (Contains-append_cases (writes past) (item_rows item) row m) [
+      | inl old ↦ positive past legal.1 row old
+      | inr here ↦
+          (let e : row.stamp ≡ item.stamp = (body_rows-are item.node item.stamp item.body row here).1 in
+          let up : head item.node past < item.stamp = rises past item legal.0 in omega arith)
     ]
 
 -- each row of an item that was accepted is an accepted write
@@ -275,6 +305,11 @@ took-writes (Vacuumed at ∷ past) item row m r =
     elim (Contains-cons_cases (Vacuumed at) (Took item) past m) [
       | inl same ↦ absurd cc
       | inr rest ↦ took-writes past item row rest r
+    ]
+took-writes (Began kept ∷ past) item row m r =
+    elim (Contains-cons_cases (Began kept) (Took item) past m) [
+      | inl same ↦ absurd cc
+      | inr rest ↦ Contains-append_left (writes past) kept.rows row (took-writes past item row rest r)
     ]
 took-writes (PartVacuumed at dropped ∷ past) item row m r =
     elim (Contains-cons_cases (PartVacuumed at dropped) (Took item) past m) [
@@ -325,6 +360,8 @@ writes-row_set (Opened stamp ∷ past) legal = writes-row_set past legal.1
 writes-row_set (Started nodes ∷ past) legal = writes-row_set past legal.1
 writes-row_set (Closed id ∷ past) legal = writes-row_set past legal.1
 writes-row_set (Vacuumed at ∷ past) legal = writes-row_set past legal.1
+writes-row_set (Began kept ∷ past) legal =
+    subst (λ (p : List Step). IsRowSet (writes p ++ kept.rows)) (sym legal.0) legal.2.store.consistent.row_set
 writes-row_set (PartVacuumed at dropped ∷ past) legal = writes-row_set past legal.1
 writes-row_set (Joined node start ∷ past) legal = writes-row_set past legal.3
 writes-row_set (Took item ∷ past) legal =
@@ -352,6 +389,8 @@ writes-limits (Opened stamp ∷ past) legal = writes-limits past legal.1
 writes-limits (Started nodes ∷ past) legal = writes-limits past legal.1
 writes-limits (Closed id ∷ past) legal = writes-limits past legal.1
 writes-limits (Vacuumed at ∷ past) legal = writes-limits past legal.1
+writes-limits (Began kept ∷ past) legal =
+    subst (λ (p : List Step). AreInLimits (writes p ++ kept.rows)) (sym legal.0) legal.2.store.sound.limits
 writes-limits (PartVacuumed at dropped ∷ past) legal = writes-limits past legal.1
 writes-limits (Joined node start ∷ past) legal = writes-limits past legal.3
 writes-limits (Took item ∷ past) legal =
@@ -420,6 +459,9 @@ open-low (Started nodes ∷ past) legal = rw legal.0 (All-nil _)
 open-low (Closed id ∷ past) legal =
     All-filter _ (λ snapshot. snapshot.stamp ≤ floor past) _ (open-low past legal.1)
 open-low (Vacuumed at ∷ past) legal = open-low past legal.1
+open-low (Began kept ∷ past) legal =
+    subst (λ f. All (λ snapshot. snapshot.stamp ≤ f) kept.snapshots) (sym (floor-began kept past))
+    legal.2.store.consistent.opened
 open-low (PartVacuumed at dropped ∷ past) legal = open-low past legal.1
 open-low (Joined node start ∷ past) legal =
     let up : floor past ≤ floor (Joined node start ∷ past) =
@@ -479,6 +521,10 @@ horizon-low (Opened stamp ∷ past) legal = horizon-low past legal.1
 horizon-low (Started nodes ∷ past) legal = rw legal.0 (omega arith)
 horizon-low (Closed id ∷ past) legal = horizon-low past legal.1
 horizon-low (Vacuumed at ∷ past) legal = vacuum-below past at legal.0
+horizon-low (Began kept ∷ past) legal =
+    let e : floor (Began kept ∷ past) ≡ floor_in kept = floor-began kept past in
+    let low : kept.horizon ≤ floor_in kept = legal.2.store.sound.horizon in
+    let goal : kept.horizon ≤ floor (Began kept ∷ past) = omega arith in goal
 horizon-low (PartVacuumed at dropped ∷ past) legal = vacuum-below past at legal.0
 horizon-low (Joined node start ∷ past) legal =
     let low : horizon past ≤ floor past = horizon-low past legal.3 in
@@ -493,6 +539,9 @@ vacuumed-low (Opened stamp ∷ past) legal = vacuumed-low past legal.1
 vacuumed-low (Started nodes ∷ past) legal = vacuumed-low past legal.1
 vacuumed-low (Closed id ∷ past) legal = vacuumed-low past legal.1
 vacuumed-low (Vacuumed at ∷ past) legal = omega arith
+vacuumed-low (Began kept ∷ past) legal =
+    let none : vacuumed past ≡ 0 = ap vacuumed legal.0 in
+    let goal : vacuumed past ≤ kept.horizon = omega arith in goal
 vacuumed-low (PartVacuumed at dropped ∷ past) legal =
     let low : vacuumed past ≤ horizon past = vacuumed-low past legal.1 in
     let up : horizon past ≤ at = vacuum-above past at legal.0 in
@@ -513,18 +562,19 @@ open-room past stamp low high = cond-false _ _ _ (le-ltb (floor past) stamp low)
     ∙ cond-false _ _ _ (le-ltb stamp (horizon past) high)
 
 -- the greatest accepted stamp is not above the top, which also counts starts
-pub accepted-low : (past : List Step) → greatest_accepted past ≤ top past
-accepted-low [] = omega arith
-accepted-low (Took item ∷ past) =
-    let old : greatest_accepted past ≤ top past = accepted-low past in
+pub accepted-low : (past : List Step) → IsLegal past → greatest_accepted past ≤ top past
+accepted-low [] legal = omega arith
+accepted-low (Took item ∷ past) legal =
+    let old : greatest_accepted past ≤ top past = accepted-low past legal.1 in
     let goal : max (greatest_accepted past) item.stamp ≤ max (top past) item.stamp = omega arith in goal
-accepted-low (Opened stamp ∷ past) = accepted-low past
-accepted-low (Started nodes ∷ past) = accepted-low past
-accepted-low (Closed id ∷ past) = accepted-low past
-accepted-low (Vacuumed at ∷ past) = accepted-low past
-accepted-low (PartVacuumed at dropped ∷ past) = accepted-low past
-accepted-low (Joined node start ∷ past) =
-    let old : greatest_accepted past ≤ top past = accepted-low past in
+accepted-low (Opened stamp ∷ past) legal = accepted-low past legal.1
+accepted-low (Started nodes ∷ past) legal = accepted-low past legal.1
+accepted-low (Began kept ∷ past) legal = began-issued kept legal.2
+accepted-low (Closed id ∷ past) legal = accepted-low past legal.1
+accepted-low (Vacuumed at ∷ past) legal = accepted-low past legal.1
+accepted-low (PartVacuumed at dropped ∷ past) legal = accepted-low past legal.1
+accepted-low (Joined node start ∷ past) legal =
+    let old : greatest_accepted past ≤ top past = accepted-low past legal.3 in
     let goal : greatest_accepted past ≤ max (top past) start = omega arith in goal
 
 -- a node that has retired issued its head
@@ -535,6 +585,7 @@ retired-head (Opened stamp ∷ past) n legal has_retired = retired-head past n l
 retired-head (Started nodes ∷ past) n legal has_retired = retired-head past n legal.1 has_retired
 retired-head (Closed id ∷ past) n legal has_retired = retired-head past n legal.1 has_retired
 retired-head (Vacuumed at ∷ past) n legal has_retired = retired-head past n legal.1 has_retired
+retired-head (Began kept ∷ past) n legal has_retired = began-retired kept n legal.2 has_retired
 retired-head (PartVacuumed at dropped ∷ past) n legal has_retired = retired-head past n legal.1 has_retired
 retired-head (Joined node start ∷ past) n legal has_retired =
     elim (cases_eq node n) [

@@ -11,7 +11,7 @@ use Rattle.hlc_witness.specs.AllChanges.{all_changes}
 use Rattle.hlc_vacuum_draft.specs.declared.report.Report.{Report}
 use Rattle.hlc_clock.proofs.PointLemmas.{ArePoints-unique, points-ascend}
 use Rattle.hlc_witness.proofs.ChangeLemmas.{changes_are_one}
-use Rattle.hlc_core.specs.Past.{Step, Started, Took, Opened, Closed, Vacuumed, PartVacuumed, Joined, floor}
+use Rattle.hlc_core.specs.Past.{Step, Started, Began, Took, Opened, Closed, Vacuumed, PartVacuumed, Joined, floor}
 use Rattle.hlc_core.specs.Past.{open_snapshots}
 use Rattle.hlc_core.specs.Past.{writes}
 use Rattle.hlc_core.specs.Past.{IsLegal}
@@ -37,24 +37,25 @@ one-changes at past points others changes before found also are were =
     ∙ ap (all_changes (writes past)) same
     ∙ sym (changes_are_one (writes past) others before (points-ascend opened others at also) were)
 
--- and so are those of the last vacuum
+-- and those of the last vacuum are as many
 pub one-last : (past : List Step) (changes before : List Witness)
-    → AreLastChanges past changes → AreLastChanges past before → changes ≡ before
-one-last [] changes before are were = are ∙ sym were
+    → AreLastChanges past changes → AreLastChanges past before → length changes ≡ length before
+one-last [] changes before are were = ap length (are ∙ sym were)
 one-last (Took item ∷ past) changes before are were = one-last past changes before are were
 one-last (Opened stamp ∷ past) changes before are were = one-last past changes before are were
 one-last (Started nodes ∷ past) changes before are were = one-last past changes before are were
+one-last (Began kept ∷ past) changes before are were = one-last past changes before are were
 one-last (Closed id ∷ past) changes before are were = one-last past changes before are were
 one-last (Joined node start ∷ past) changes before are were = one-last past changes before are were
 one-last (PartVacuumed at dropped ∷ past) changes before are were = one-last past changes before are were
 one-last (Vacuumed at ∷ past) changes before are were =
-    one-changes at past are.0 were.0 changes before are.1 were.1 are.2 were.2
+    ap length (one-changes at past are.0 were.0 changes before are.1 were.1 are.2 were.2)
 
 -- there is one expected number of stored rows
 pub there_is_one_count : (past : List Step) (count other : ℕ)
     → IsStoredCount past count → IsStoredCount past other → count ≡ other
 there_is_one_count past count other is also =
-    let same : length is.0 ≡ length also.0 = ap length (one-last past is.0 also.0 is.1 also.1) in
+    let same : length is.0 ≡ length also.0 = one-last past is.0 also.0 is.1 also.1 in
     omega (arith, is.2, also.2)
 
 abbrev a_report : ℕ → List ℕ → ℕ → ℕ → ℕ → List Witness → Report
@@ -72,7 +73,7 @@ there_is_one_report at past report other is also =
     report.witnesses other.witnesses is.points also.points is.witnesses also.witnesses in
     let kept : report.kept ≡ other.kept = is.kept ∙ ap length witnesses ∙ sym also.kept in
     let before : length is.dropped.0 ≡ length also.dropped.0 =
-    ap length (one-last past is.dropped.0 also.dropped.0 is.dropped.1 also.dropped.1) in
+    one-last past is.dropped.0 also.dropped.0 is.dropped.1 also.dropped.1 in
     let dropped : report.dropped ≡ other.dropped = omega (arith, is.dropped.2, also.dropped.2) in
     let bytes : report.bytes ≡ other.bytes = is.bytes ∙ ap (changes_cost (writes past)) witnesses ∙ sym also.bytes in
     ap (λ x. a_report x report.points report.kept report.bytes report.dropped report.witnesses) stamp

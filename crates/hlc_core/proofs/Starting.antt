@@ -1,4 +1,4 @@
--- A new core represents the past of its start.
+-- A new core represents the past of its start, and a checkpoint that which begins with it.
 use Rattle.std.proofs.Common.{◌≡◌, ℕ, zero, suc, ◌<◌, ◌≤◌, [], ◌∷◌, length}
 use Rattle.std.proofs.Common.{false, Some, None, refl, ap}
 use Rattle.std.proofs.Common.{arith, replicate}
@@ -7,9 +7,19 @@ use Rattle.std.proofs.lemmas.Bool.{cond-false, ne_eqb, le-ltb, or_from}
 use Rattle.hlc_intake.specs.IntakeView.{IntakeView}
 use Rattle.hlc_heads.specs.Heads.{a_link}
 use Rattle.hlc_heads.specs.declared.heads.TheConstants.{MAX_INITIAL_NODES}
-use Rattle.hlc_core.specs.Past.{Started}
+use Rattle.hlc_core.specs.Past.{Started, Began}
 use Rattle.hlc_core.specs.StoreView.{StoreView, Represents}
 use Rattle.hlc_core.specs.Calls.{new_refusal}
+use Rattle.hlc_core.specs.Checkpoint.{IsCheckpoint}
+use Rattle.hlc_rows.specs.declared.row.Row.{Row}
+use Rattle.hlc_witness.specs.declared.witness.Witness.{Witness}
+use Rattle.hlc_vacuum_draft.specs.Vacuumed.{rows_to}
+use Rattle.hlc_vacuum.specs.Representing.{count_above}
+use Rattle.hlc_core.proofs.Taking.{count-more}
+use Rattle.hlc_core.proofs.BeganLemmas.{began-positive}
+use Rattle.std.proofs.lemmas.Option.{slice_get-get_or}
+use Rattle.std.proofs.lemmas.List.{length-map}
+use Rattle.std.proofs.Common.{List, ◌+◌, map}
 
 abbrev pub new_core : ℕ → StoreView
 new_core many = record {
@@ -53,6 +63,33 @@ starts many =
         from_horizon = λ key stamp le. refl;
       };
       stored = ([], refl, refl);
+      horizon = refl;
+    }
+
+-- a checkpoint represents the past that begins with it
+pub begins : (kept : StoreView) → IsCheckpoint kept → Represents kept (Began kept ∷ [])
+begins kept is =
+    let count : count_above 0 kept.rows ≡ length kept.rows =
+    count-more 0 kept.rows (λ row m. began-positive kept row is m) in
+    record {
+      legal = (refl, tt, is);
+      initial_nodes = refl;
+      links = record {
+        many = refl;
+        each = λ n lt. slice_get-get_or kept.links n (a_link 0 0 false) lt;
+      };
+      top = refl;
+      snapshots = refl;
+      last_id = refl;
+      rows = record {
+        row_set = is.store.consistent.row_set;
+        all_row_set = is.store.consistent.row_set;
+        within = λ row m. m;
+        above = λ row m up. m;
+        at_open = λ key stamp m. refl;
+        from_horizon = λ key stamp le. refl;
+      };
+      stored = ([], refl, omega arith);
       horizon = refl;
     }
 

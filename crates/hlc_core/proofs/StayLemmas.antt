@@ -2,7 +2,10 @@
 -- so an open snapshot keeps its stamp, which is not above the floor, and with it its answers.
 use Rattle.std.proofs.Common.{◌≡◌, ℕ, ◌+◌, ◌<◌, ◌≤◌, List, [], ◌∷◌, ◌++◌, Some, None, refl, ap, sym, ◌∙◌, inl, inr}
 use Rattle.std.proofs.Common.{arith, append-nil, subst}
-use Rattle.std.specs.Prelude.{nat_le, Contains}
+use Rattle.std.specs.Prelude.{nat_le, Contains, All}
+use Rattle.std.proofs.lemmas.List.Elements.{All-head, All-tail}
+use Rattle.hlc_snapshot.specs.declared.snapshot.Snapshot.{Snapshot}
+use Rattle.hlc_snapshot.specs.RegistryView.{stamp_in}
 use Rattle.std.proofs.lemmas.Bool.{cond-false, lt-leb, cases_eq}
 use Rattle.std.proofs.lemmas.List.Elements.{filter-append}
 use Rattle.hlc_values.proofs.MemberLemmas.{Contains-first, Contains-rest}
@@ -10,13 +13,14 @@ use Rattle.hlc_rows.specs.declared.row.Row.{Row}
 use Rattle.hlc_node.specs.declared.item.Body.{Body}
 use Rattle.hlc_rows.specs.Rows.{answer, IsRowSet}
 use Rattle.hlc_snapshot.specs.RegistryView.{RegistryView, Follows, at_once, opening, closing}
-use Rattle.hlc_snapshot.proofs.RegisterLemmas.{open_before, stamp_in-push_cases, stamp_in-all}
+use Rattle.hlc_snapshot.proofs.RegisterLemmas.{open_before, stamp_in-push_cases, stamp_in-all, stamp_in-miss}
 use Rattle.hlc_snapshot.proofs.RegisterLemmas.{stamp_in-without_itself, stamp_in-without_other}
 use Rattle.hlc_vacuum_draft.specs.Vacuumed.{rows_to}
 use Rattle.hlc_vacuum_draft.proofs.PartLemmas.{answer-rows_to}
-use Rattle.hlc_core.specs.Past.{Step, Started, Took, Opened, Closed, Vacuumed, PartVacuumed, Joined, floor, last_id}
+use Rattle.hlc_core.specs.Past.{Step, Started, Began, Took, Opened, Closed, Vacuumed, PartVacuumed, Joined, floor, last_id}
 use Rattle.hlc_core.specs.Past.{open_snapshots}
 use Rattle.hlc_core.specs.Past.{stamp_of, writes, body_rows, IsLegal}
+use Rattle.hlc_core.proofs.BeganLemmas.{began-positive}
 use Rattle.hlc_core.proofs.PastLemmas.{writes-row_set, above_floor, floor-grows, floor-joins, open-low, body_rows-are}
 
 -- what took place before a legal past's last steps is legal
@@ -27,11 +31,12 @@ legal-before past (Opened stamp ∷ more) legal = legal-before past more legal.1
 legal-before past (Started nodes ∷ more) legal = legal-before past more legal.1
 legal-before past (Closed id ∷ more) legal = legal-before past more legal.1
 legal-before past (Vacuumed at ∷ more) legal = legal-before past more legal.1
+legal-before past (Began kept ∷ more) legal = legal-before past more legal.1
 legal-before past (PartVacuumed at dropped ∷ more) legal = legal-before past more legal.1
 legal-before past (Joined node start ∷ more) legal = legal-before past more legal.3
 
 -- if all is nothing, so is what came first
-nothing-before : (more past : List Step) → more ++ past ≡ [] → past ≡ []
+pub nothing-before : (more past : List Step) → more ++ past ≡ [] → past ≡ []
 nothing-before [] past none = none
 nothing-before (step ∷ more) past none = absurd (cc)
 
@@ -48,6 +53,8 @@ floor-never_falls past (Started nodes ∷ more) legal =
     subst (λ p. floor p ≤ floor (Started nodes ∷ (more ++ past))) (sym (nothing-before more past legal.0)) (omega arith)
 floor-never_falls past (Closed id ∷ more) legal = floor-never_falls past more legal.1
 floor-never_falls past (Vacuumed at ∷ more) legal = floor-never_falls past more legal.1
+floor-never_falls past (Began kept ∷ more) legal =
+    subst (λ p. floor p ≤ floor (Began kept ∷ (more ++ past))) (sym (nothing-before more past legal.0)) (omega arith)
 floor-never_falls past (PartVacuumed at dropped ∷ more) legal = floor-never_falls past more legal.1
 floor-never_falls past (Joined node start ∷ more) legal =
     let low : floor past ≤ floor (more ++ past) = floor-never_falls past more legal.3 in
@@ -83,6 +90,17 @@ pub answers-stay : (past more : List Step) → IsLegal (more ++ past) → (key :
 answers-stay past [] legal key stamp low = refl
 answers-stay past (Opened at ∷ more) legal key stamp low = answers-stay past more legal.1 key stamp low
 answers-stay past (Started nodes ∷ more) legal key stamp low = answers-stay past more legal.1 key stamp low
+answers-stay past (Began kept ∷ more) legal key stamp low =
+    let none : past ≡ [] = nothing-before more past legal.0 in
+    let at : floor past ≡ 0 = ap floor none in
+    let out : rows_to stamp kept.rows ≡ [] = none-below stamp kept.rows
+    (λ row m. (let up : 0 < row.stamp = began-positive kept row legal.2 m in omega arith)) in
+    let same : stamp ≤ stamp = omega arith in
+    let here : answer kept.rows key stamp ≡ answer [] key stamp =
+    sym (answer-rows_to kept.rows stamp key stamp legal.2.store.consistent.row_set same)
+    ∙ ap (λ rs. answer rs key stamp) out in
+    ap (λ (p : List Step). answer (writes p ++ kept.rows) key stamp) legal.0
+    ∙ here ∙ sym (ap (λ (p : List Step). answer (writes p) key stamp) none)
 answers-stay past (Closed id ∷ more) legal key stamp low = answers-stay past more legal.1 key stamp low
 answers-stay past (Vacuumed at ∷ more) legal key stamp low = answers-stay past more legal.1 key stamp low
 answers-stay past (PartVacuumed at dropped ∷ more) legal key stamp low =
@@ -101,39 +119,59 @@ answers-stay past (Took item ∷ more) legal key stamp low =
 abbrev register : List Step → RegistryView
 register past = record { snapshots = open_snapshots past; last_id = last_id past }
 
--- later steps only open and close snapshots
-follows : (past more : List Step) → Follows (register past) (register (more ++ past))
-follows past [] = at_once
-follows past (Opened stamp ∷ more) = opening stamp (follows past more)
-follows past (Started nodes ∷ more) = follows past more
-follows past (Closed id ∷ more) = closing id (follows past more)
-follows past (Took item ∷ more) = follows past more
-follows past (Vacuumed at ∷ more) = follows past more
-follows past (PartVacuumed at dropped ∷ more) = follows past more
-follows past (Joined node start ∷ more) = follows past more
+-- later steps of a past that has begun only open and close snapshots
+follows : (past more : List Step) → (past ≡ [] → ⊥) → IsLegal (more ++ past)
+    → Follows (register past) (register (more ++ past))
+follows past [] some legal = at_once
+follows past (Opened stamp ∷ more) some legal = opening stamp (follows past more some legal.1)
+follows past (Started nodes ∷ more) some legal = follows past more some legal.1
+follows past (Began kept ∷ more) some legal = absurd (some (nothing-before more past legal.0))
+follows past (Closed id ∷ more) some legal = closing id (follows past more some legal.1)
+follows past (Took item ∷ more) some legal = follows past more some legal.1
+follows past (Vacuumed at ∷ more) some legal = follows past more some legal.1
+follows past (PartVacuumed at dropped ∷ more) some legal = follows past more some legal.1
+follows past (Joined node start ∷ more) some legal = follows past more some legal.3
+
+-- nor has one of a register
+id-bounded : (last id stamp : ℕ) (xs : List Snapshot)
+    → All (λ (snapshot : Snapshot). (0 < snapshot.id) × (snapshot.id ≤ last)) xs → stamp_in id xs ≡ Some stamp
+    → id ≤ last
+id-bounded last id stamp [] bounded is = absurd (cc)
+id-bounded last id stamp (x ∷ xs) bounded is =
+    elim (cases_eq x.id id) [
+      | inl same ↦
+          let here = All-head (λ (snapshot : Snapshot). (0 < snapshot.id) × (snapshot.id ≤ last)) x xs bounded in
+          let low : x.id ≤ last = here.1 in omega (arith, same)
+      | inr other ↦
+          id-bounded last id stamp xs
+          (All-tail (λ (snapshot : Snapshot). (0 < snapshot.id) × (snapshot.id ≤ last)) x xs bounded)
+          (sym (stamp_in-miss id x xs other) ∙ is)
+    ]
 
 -- no open snapshot has an id above the last id
-id-low : (past : List Step) (id stamp : ℕ) → stamp_of id past ≡ Some stamp → id ≤ last_id past
-id-low [] id stamp is = absurd (cc)
-id-low (Opened at ∷ past) id stamp is =
+id-low : (past : List Step) (id stamp : ℕ) → IsLegal past → stamp_of id past ≡ Some stamp → id ≤ last_id past
+id-low [] id stamp legal is = absurd (cc)
+id-low (Opened at ∷ past) id stamp legal is =
     elim (stamp_in-push_cases id stamp (record { id = last_id past + 1; stamp = at }) (open_snapshots past) is) [
-      | inl before ↦ (let low = id-low past id stamp before in omega (arith, low))
+      | inl before ↦ (let low = id-low past id stamp legal.1 before in omega (arith, low))
       | inr last ↦ (let same : last_id past + 1 ≡ id = last.0 in omega (arith, same))
     ]
-id-low (Started nodes ∷ past) id stamp is = id-low past id stamp is
-id-low (Closed other ∷ past) id stamp is =
+id-low (Started nodes ∷ past) id stamp legal is = id-low past id stamp legal.1 is
+id-low (Closed other ∷ past) id stamp legal is =
     elim (cases_eq id other) [
       | inl same ↦ absurd (let none : stamp_of id (Closed id ∷ past) ≡ None =
           stamp_in-without_itself id (open_snapshots past) in
           let e : stamp_of id (Closed id ∷ past) ≡ Some stamp =
           ap (λ k. stamp_of id (Closed k ∷ past)) same ∙ is in
           let f : None ≡ Some stamp = sym none ∙ e in cc)
-      | inr differs ↦ id-low past id stamp (sym (stamp_in-without_other other id (open_snapshots past) differs) ∙ is)
+      | inr differs ↦ id-low past id stamp legal.1 (sym (stamp_in-without_other other id (open_snapshots past) differs) ∙ is)
     ]
-id-low (Took item ∷ past) id stamp is = id-low past id stamp is
-id-low (Vacuumed at ∷ past) id stamp is = id-low past id stamp is
-id-low (PartVacuumed at dropped ∷ past) id stamp is = id-low past id stamp is
-id-low (Joined node start ∷ past) id stamp is = id-low past id stamp is
+id-low (Began kept ∷ past) id stamp legal is =
+    id-bounded kept.last_id id stamp kept.snapshots legal.2.store.register.bounded is
+id-low (Took item ∷ past) id stamp legal is = id-low past id stamp legal.1 is
+id-low (Vacuumed at ∷ past) id stamp legal is = id-low past id stamp legal.1 is
+id-low (PartVacuumed at dropped ∷ past) id stamp legal is = id-low past id stamp legal.1 is
+id-low (Joined node start ∷ past) id stamp legal is = id-low past id stamp legal.3 is
 
 -- a snapshot that is open later has the stamp and the answers that it had
 pub snapshots-stay : (past more : List Step) (id stamp again : ℕ) → IsLegal (more ++ past)
@@ -141,8 +179,11 @@ pub snapshots-stay : (past more : List Step) (id stamp again : ℕ) → IsLegal 
     → (again ≡ stamp)
     × ((key : List ℕ) → answer (writes (more ++ past)) key again ≡ answer (writes past) key stamp)
 snapshots-stay past more id stamp again legal is later =
+    let some : past ≡ [] → ⊥ = λ none. absurd (let e : None ≡ Some stamp =
+    sym (ap (λ (p : List Step). stamp_of id p) none) ∙ is in cc) in
     let before : stamp_of id past ≡ Some again =
-    open_before id again (follows past more) (id-low past id stamp is) later in
+    open_before id again (follows past more some legal)
+    (id-low past id stamp (legal-before past more legal) is) later in
     let e : Some again ≡ Some stamp = sym before ∙ is in
     let same : again ≡ stamp = cc in
     let low : stamp ≤ floor past =

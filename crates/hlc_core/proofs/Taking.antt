@@ -44,7 +44,7 @@ rows-more stored all (row ∷ more) horizon opened represent up apart =
     (append_assoc all (row ∷ []) more) rest)
 
 -- and so are the rows of an item
-rows-body : (stored all : List Row) (horizon : ℕ) (opened : List ℕ) (node stamp : ℕ) (body : Body)
+pub rows-body : (stored all : List Row) (horizon : ℕ) (opened : List ℕ) (node stamp : ℕ) (body : Body)
     → RowsRepresent stored all horizon opened → horizon < stamp → IsRowSet (all ++ body_rows node stamp body)
     → RowsRepresent (stored ++ body_rows node stamp body) (all ++ body_rows node stamp body) horizon opened
 rows-body stored all horizon opened node stamp body represent up apart =
@@ -52,7 +52,7 @@ rows-body stored all horizon opened node stamp body represent up apart =
     (λ row m. let are = body_rows-are node stamp body row m in omega (arith, are.1)) apart
 
 -- all of which count as more rows above the bound
-count-more : (bound : ℕ) (more : List Row) → ((row : Row) → Contains more row → bound < row.stamp)
+pub count-more : (bound : ℕ) (more : List Row) → ((row : Row) → Contains more row → bound < row.stamp)
     → count_above bound more ≡ length more
 count-more bound [] up = refl
 count-more bound (row ∷ more) up =

@@ -1,5 +1,10 @@
 -- What took place in a core, and what follows from it.
 use Rattle.std.specs.Prelude.{◌≡◌, ◌≢◌, ℕ, ◌+◌, ◌≤◌, List, [], ◌∷◌, ◌++◌, length, max, Bool, false, ◌==◌, not, nat_le}
+use Rattle.std.specs.Prelude.{slice_index_or}
+use Rattle.hlc_intake.specs.IntakeView.{IntakeView}
+use Rattle.hlc_heads.specs.Heads.{a_link}
+use Rattle.hlc_checkpoint.specs.StoreView.{StoreView}
+use Rattle.hlc_checkpoint.specs.Checkpoint.{IsCheckpoint}
 use Rattle.std.specs.Prelude.{nat_lt, Option, Some, None, if◌then◌else◌, ⊤}
 use Rattle.hlc_node.specs.declared.item.Item.{Item}
 use Rattle.hlc_rows.specs.declared.row.Row.{Row}
@@ -21,12 +26,13 @@ use Rattle.hlc_snapshot.specs.RegistryView.{stamp_in, without, room_refusal as r
 use Rattle.hlc_events.specs.declared.fault.CoreFault.TheVariants.{NoNode, Link, Body as bad_body, Join, AboveFloor}
 use Rattle.hlc_events.specs.declared.fault.CoreFault.TheVariants.{BelowHorizon}
 
--- an event that took place: a store was made with this many nodes; an item was accepted; a snapshot was opened at a
+-- an event that took place: a store was made with this many nodes, or restored from this state; an item was accepted; a snapshot was opened at a
 -- stamp; the snapshot with an id was closed; rows were vacuumed up to this stamp; a node with this number joined, and
 -- starts at this stamp; the horizon was moved to this stamp, and this many rows that no reader needs were dropped: part
 -- of a vacuum
 pub data Step : Type 0 where
   Started : ℕ → Step
+  Began : StoreView → Step
   Took : Item → Step
   Opened : ℕ → Step
   Closed : ℕ → Step
@@ -35,44 +41,63 @@ pub data Step : Type 0 where
   PartVacuumed : ℕ → ℕ → Step
 
 -- Below, a past is the list of the steps that took place, the last one first. The first of all is the start, with the
--- nodes that are numbered from 0; those that join have the numbers after them. Refused calls and reads are no steps.
+-- nodes that are numbered from 0, or a state; those that join have the numbers after them. Refused calls and reads are
+-- no steps.
+
+-- the link of a node in a state; one with nothing accepted of a node that it does not have
+abbrev pub link_in : StoreView → ℕ → IntakeView
+link_in kept n = slice_index_or kept.links n (a_link 0 0 false)
+
+-- the greatest head of the links that have an accepted item, 0 if there is none
+abbrev pub greatest_issued : List IntakeView → ℕ
+greatest_issued [] = 0
+greatest_issued (link ∷ links) =
+    if nat_lt 0 link.next then max link.head (greatest_issued links) else greatest_issued links
 
 -- the number of nodes at the start
 abbrev pub initial_nodes : List Step → ℕ
 initial_nodes [] = 0
 initial_nodes (Started nodes ∷ past) = nodes
+initial_nodes (Began kept ∷ past) = kept.initial_nodes
 initial_nodes (_ ∷ past) = initial_nodes past
 
--- the number of assigned node numbers: the start assigns one to each of its nodes, and a join the next one
+-- the number of assigned node numbers: the start assigns one to each of its nodes, a state has them, and a join assigns
+-- the next one
 abbrev pub numbered : List Step → ℕ
 numbered [] = 0
 numbered (Started nodes ∷ past) = numbered past + nodes
+numbered (Began kept ∷ past) = length kept.links
 numbered (Joined node start ∷ past) = numbered past + 1
 numbered (_ ∷ past) = numbered past
 
--- the number of accepted items of a node
+-- the number of accepted items of a node, with those that a state counts
 abbrev pub count : ℕ → List Step → ℕ
 count n [] = 0
 count n (Took item ∷ past) = if item.node == n then count n past + 1 else count n past
+count n (Began kept ∷ past) = (link_in kept n).next
 count n (_ ∷ past) = count n past
 
--- the stamp of the last accepted item of a node, or else of its start; 0 for a node at the start
+-- the stamp of the last accepted item of a node, or else of its start; 0 for a node at the start; at first the head that
+-- a state has
 abbrev pub head : ℕ → List Step → ℕ
 head n [] = 0
 head n (Took item ∷ past) = if item.node == n then item.stamp else head n past
 head n (Joined node start ∷ past) = if node == n then start else head n past
+head n (Began kept ∷ past) = (link_in kept n).head
 head n (_ ∷ past) = head n past
 
 -- a node has retired: its last accepted item is a Retire
 abbrev pub retired : ℕ → List Step → Bool
 retired n [] = false
 retired n (Took item ∷ past) = if item.node == n then retires item.body else retired n past
+retired n (Began kept ∷ past) = (link_in kept n).retired
 retired n (_ ∷ past) = retired n past
 
 -- the greatest stamp of an accepted item, 0 if there is none
 abbrev pub greatest_accepted : List Step → ℕ
 greatest_accepted [] = 0
 greatest_accepted (Took item ∷ past) = max (greatest_accepted past) item.stamp
+greatest_accepted (Began kept ∷ past) = greatest_issued kept.links
 greatest_accepted (_ ∷ past) = greatest_accepted past
 
 -- the greatest head of all nodes: the greatest stamp of an accepted item or of a start
@@ -80,6 +105,7 @@ abbrev pub top : List Step → ℕ
 top [] = 0
 top (Took item ∷ past) = max (top past) item.stamp
 top (Joined node start ∷ past) = max (top past) start
+top (Began kept ∷ past) = kept.top
 top (_ ∷ past) = top past
 
 -- The least head of the nodes that have not retired; if all have, the greatest head. Each of them retired by an item
@@ -92,6 +118,7 @@ abbrev pub horizon : List Step → ℕ
 horizon [] = 0
 horizon (Vacuumed at ∷ past) = at
 horizon (PartVacuumed at dropped ∷ past) = at
+horizon (Began kept ∷ past) = kept.horizon
 horizon (_ ∷ past) = horizon past
 
 -- the stamp of the last whole vacuum, 0 before the first
@@ -118,16 +145,19 @@ body_rows node stamp Retire = []
 abbrev pub item_rows : Item → List Row
 item_rows item = body_rows item.node item.stamp item.body
 
--- all accepted writes and deletions, in the order in which they were accepted; they are kept forever
+-- all accepted writes and deletions, in the order in which they were accepted, after the rows of the state, if a past
+-- begins with one; they are kept forever
 abbrev pub writes : List Step → List Row
 writes [] = []
 writes (Took item ∷ past) = writes past ++ item_rows item
+writes (Began kept ∷ past) = writes past ++ kept.rows
 writes (_ ∷ past) = writes past
 
 -- the last id that a snapshot was given, 0 if none: the number of those that were opened
 abbrev pub last_id : List Step → ℕ
 last_id [] = 0
 last_id (Opened stamp ∷ past) = last_id past + 1
+last_id (Began kept ∷ past) = kept.last_id
 last_id (_ ∷ past) = last_id past
 
 -- the open snapshots, the oldest first; each id is one above the last id before
@@ -135,6 +165,7 @@ abbrev pub open_snapshots : List Step → List Snapshot
 open_snapshots [] = []
 open_snapshots (Opened stamp ∷ past) = open_snapshots past ++ record { id = last_id past + 1; stamp = stamp } ∷ []
 open_snapshots (Closed id ∷ past) = without id (open_snapshots past)
+open_snapshots (Began kept ∷ past) = kept.snapshots
 open_snapshots (_ ∷ past) = open_snapshots past
 
 -- the past after these snapshots were closed too, the first of them first
@@ -202,10 +233,11 @@ open_refusal past stamp = open_after (floor past) (horizon past) (room_refusal p
 abbrev pub vacuum_refusal : List Step → ℕ → Option CoreFault
 vacuum_refusal past at = open_after (floor past) (horizon past) None at
 
--- nothing came before the start, and no step should have been refused
+-- nothing came before the start, a state is a checkpoint, and no step should have been refused
 abbrev pub IsLegal : List Step → Type 0
 IsLegal [] = ⊤
 IsLegal (Started nodes ∷ past) = (past ≡ []) × IsLegal past
+IsLegal (Began kept ∷ past) = (past ≡ []) × IsLegal past × IsCheckpoint kept
 IsLegal (Took item ∷ past) = (item_refusal past item ≡ None) × IsLegal past
 IsLegal (Opened stamp ∷ past) = (open_refusal past stamp ≡ None) × IsLegal past
 IsLegal (Closed id ∷ past) = (stamp_of id past ≢ None) × IsLegal past

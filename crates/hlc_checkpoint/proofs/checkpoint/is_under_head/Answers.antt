@@ -9,12 +9,13 @@ use Rattle.hlc_checkpoint.specs.StoreView.{IsUnderHead}
 use Rattle.hlc_checkpoint.proofs.checkpoint.is_under_head.Goals as goal
 
 one_link : (links : List IntakeView) (row : Row) (link : IntakeView) (b : Bool) → row.node < length links
-    → link ≡ get_or links row.node link → (IsTrue b ↔ row.stamp ≤ link.head) → IsTrue b ↔ IsUnderHead links row
+    → link ≡ get_or links row.node link → (IsTrue b ↔ ((0 < row.stamp) × (row.stamp ≤ link.head)))
+    → IsTrue b ↔ IsUnderHead links row
 one_link links row link b within at is =
     let same = ap (λ (l : IntakeView). l.head) (get_or_from_slice_get links row.node link no_link
     (slice_get_read links (length links) row.node link refl within at)) in (
-      λ t. let low = is.0 t in (within, omega (arith, same, low)),
-      λ under. is.1 (let low = under.1 in omega (arith, same, low)),
+      λ t. let both = is.0 t in let low = both.1 in (within, omega (arith, same, low), both.0),
+      λ under. is.1 (let low = under.1 in (under.2, omega (arith, same, low))),
     )
 
 pub returns-in-Some : goal.returns-in-Some
