@@ -1,9 +1,11 @@
 -- The words in which the contracts of a store speak.
-pub use Rattle.hlc_core.specs.Past.{Step, Started, Took, Joined, Opened, Closed, Vacuumed, PartVacuumed}
-pub use Rattle.hlc_core.specs.Past.{initial_nodes, numbered, count, head, floor, horizon, vacuumed, part_dropped}
+pub use Rattle.hlc_core.specs.Past.{Step, Started, Began, Took, Joined, Opened, Closed, Vacuumed, PartVacuumed}
+pub use Rattle.hlc_core.specs.Past.{initial_nodes, numbered, count, head, retired, top, floor, horizon, vacuumed}
+pub use Rattle.hlc_core.specs.Past.{part_dropped}
 pub use Rattle.hlc_core.specs.Past.{last_id, open_snapshots, writes, stamp_of, item_refusal, join_refusal, open_refusal}
 pub use Rattle.hlc_core.specs.Past.{join_at_refusal, room_refusal, vacuum_refusal, IsLegal}
-pub use Rattle.hlc_core.specs.Replicas.{items_of, joins_of, AreReplicas, CanMeet}
+pub use Rattle.hlc_core.specs.Replicas.{items_of, joins_of, begun, AreReplicas, CanMeet}
+pub use Rattle.hlc_core.specs.From.{RepresentsFrom, IsFaithfulFrom}
 pub use Rattle.hlc_replicas.specs.Places.{log_of}
 pub use Rattle.hlc_core.specs.StoreView.{StoreView, Represents}
 pub use Rattle.hlc_core.specs.Calls.{IsWrite, IsRefusal, IsListed, AreRowsTo, AreSizes, AreVersions, Vacuums}

@@ -18,11 +18,14 @@ pub use hlc_core::{
     Core, CoreEvent, CoreFault, CoreReply, Item, ItemRef, JoinFault, LinkFault, Listing, NoMemory,
     NoNode, NoSnapshot, Numbers, Pair, Points, ReadView, Report, RestoreFault, Row, Sizes,
     Snapshot, SnapshotFault, Stamp, Versions, Witness, Witnesses, answers_stay,
-    differences_lead_on,
+    differences_lead_on, each_checkpoint_has_a_past,
 };
 pub use hlc_node::{
     Content, Listed, MAX_WRITES, Message, NodeCore, NodeFault, RefusedBatch, RefusedWrite, Write,
     Writes, Written, batch_fault,
 };
-pub use hlc_replicas::{lagging_replicas_answer_alike, places_of_one_log_can_meet};
+pub use hlc_replicas::{
+    a_state_goes_on_as_its_past, histories_from_states_are_faithful, lagging_replicas_answer_alike,
+    places_of_one_log_can_meet, reports_raise_the_floor,
+};
 pub use hlc_vacuum_parts::{parts_are_a_vacuum, vacuums_leave_a_certificate};

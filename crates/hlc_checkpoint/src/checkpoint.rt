@@ -37,7 +37,7 @@ pub enum RestoreFault {
     HorizonAboveFloor,
     /// A row is not above the row before it, by key, stamp and node.
     RowsNotAscending,
-    /// A row is of no node, or its stamp is above the head of its node.
+    /// A row is of no node, or its stamp is above the head of its node, or 0.0, which no item has.
     RowAboveHead,
     /// No item may write a row: its key does not have 1 to 255 bytes, or its value has more than
     /// 65,535.
@@ -386,7 +386,7 @@ fn are_at_most(floor: Stamp, snapshots: &[Snapshot]) -> bool
     true
 }
 
-/// Returns whether each row is of one of the nodes, and not above its head.
+/// Returns whether each row is of one of the nodes, not above its head, and above 0.0.
 fn are_under_heads(links: &[Intake], rows: &[Row]) -> bool
     ensures { IsTrue result ↔ All (IsUnderHead links.now) rows.now }
 {

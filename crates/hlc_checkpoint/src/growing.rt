@@ -38,7 +38,7 @@ pub struct Growing {
 struct Checks {
     /// Each is above the one before it.
     ascend: bool,
-    /// Each is of a node, and not above its head.
+    /// Each is of a node, not above its head, and above 0.0.
     under: bool,
     /// An item may write each.
     limits: bool,

@@ -19,10 +19,10 @@ use Rattle.hlc_snapshot.specs.RegistryView.{RegistryView, IsRegister, opened_at,
 use Rattle.hlc_snapshot.proofs.RegisterLemmas.{closed-is_register}
 use Rattle.hlc_witness.specs.Certificate.{RowsAscend}
 use Rattle.hlc_witness.specs.Cost.{IsInLimits}
-use Rattle.hlc_core.specs.Past.{Step, initial_nodes, Started, Began, Took, Opened, Closed, Vacuumed, PartVacuumed, Joined}
+use Rattle.hlc_core.specs.Past.{Step, Started, Began, Took, Opened, Closed, Vacuumed, PartVacuumed, Joined}
 use Rattle.hlc_core.specs.Past.{numbered, count, head, retired, top, floor, horizon, last_id, open_snapshots, of_room}
 use Rattle.hlc_events.specs.Faults.{of_registry}
-use Rattle.hlc_core.specs.Past.{IsLegal, writes, greatest_accepted}
+use Rattle.hlc_core.specs.Past.{initial_nodes, IsLegal, writes, greatest_accepted}
 use Rattle.hlc_events.specs.declared.fault.CoreFault.TheVariants.{Join}
 use Rattle.hlc_heads.specs.declared.heads.JoinFault.TheVariants.{TooManyNodes}
 use Rattle.hlc_core.specs.StoreView.{StoreView, greatest_head, HasNodes, HasStamps, HasLastItem, IsUnderHead}

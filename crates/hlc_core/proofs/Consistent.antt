@@ -99,7 +99,8 @@ under-advanced links node link row within up under =
           let f : head_at links row.node ≡ head_at links node = ap (head_at links) same in
           (omega arith, omega arith, under.2)
       | inr other ↦ let e : head_at (slice_set links node link) row.node ≡ head_at links row.node =
-          ap (λ (y : IntakeView). y.head) (set-other links node row.node link other) in (omega arith, omega arith, under.2)
+          ap (λ (y : IntakeView). y.head) (set-other links node row.node link other) in
+          (omega arith, omega arith, under.2)
     ]
 
 under-joined : (links : List IntakeView) (x : IntakeView) (row : Row) → IsUnderHead links row

@@ -25,10 +25,9 @@ use Rattle.hlc_heads.proofs.LowLemmas.{low-is, low-rises, low-joins, low-stays}
 use Rattle.hlc_witness.specs.Cost.{IsInLimits, AreInLimits}
 use Rattle.hlc_core.proofs.BatchLemmas.{rows_written-are, rows_written-set, rows_written-limits}
 use Rattle.hlc_core.proofs.BatchLemmas.{row_set-append}
-use Rattle.hlc_core.specs.Past.{Step, Started, Began, Took, Opened, Closed, Vacuumed, PartVacuumed, Joined, numbered, count}
-use Rattle.hlc_core.specs.Past.{head}
-use Rattle.hlc_core.specs.Past.{retired}
-use Rattle.hlc_core.specs.Past.{top, floor, horizon, vacuumed, open_snapshots, room_refusal, open_refusal, body_rows}
+use Rattle.hlc_core.specs.Past.{Step, Started, Began, Took, Opened, Closed, Vacuumed, PartVacuumed, Joined}
+use Rattle.hlc_core.specs.Past.{numbered, count, head, retired, top, floor, horizon, vacuumed, open_snapshots}
+use Rattle.hlc_core.specs.Past.{room_refusal, open_refusal, body_rows}
 use Rattle.hlc_core.specs.Past.{item_rows, writes, link_refusal, of_body, item_refusal, vacuum_refusal, IsLegal}
 use Rattle.hlc_core.specs.Past.{greatest_accepted, join_refusal, join_at_refusal}
 use Rattle.hlc_heads.specs.declared.heads.TheConstants.{MAX_NODES}

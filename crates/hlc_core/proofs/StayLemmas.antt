@@ -17,9 +17,8 @@ use Rattle.hlc_snapshot.proofs.RegisterLemmas.{open_before, stamp_in-push_cases,
 use Rattle.hlc_snapshot.proofs.RegisterLemmas.{stamp_in-without_itself, stamp_in-without_other}
 use Rattle.hlc_vacuum_draft.specs.Vacuumed.{rows_to}
 use Rattle.hlc_vacuum_draft.proofs.PartLemmas.{answer-rows_to}
-use Rattle.hlc_core.specs.Past.{Step, Started, Began, Took, Opened, Closed, Vacuumed, PartVacuumed, Joined, floor, last_id}
-use Rattle.hlc_core.specs.Past.{open_snapshots}
-use Rattle.hlc_core.specs.Past.{stamp_of, writes, body_rows, IsLegal}
+use Rattle.hlc_core.specs.Past.{Step, Started, Began, Took, Opened, Closed, Vacuumed, PartVacuumed, Joined}
+use Rattle.hlc_core.specs.Past.{floor, last_id, open_snapshots, stamp_of, writes, body_rows, IsLegal}
 use Rattle.hlc_core.proofs.BeganLemmas.{began-positive}
 use Rattle.hlc_core.proofs.PastLemmas.{writes-row_set, above_floor, floor-grows, floor-joins, open-low, body_rows-are}
 
@@ -164,7 +163,8 @@ id-low (Closed other ∷ past) id stamp legal is =
           let e : stamp_of id (Closed id ∷ past) ≡ Some stamp =
           ap (λ k. stamp_of id (Closed k ∷ past)) same ∙ is in
           let f : None ≡ Some stamp = sym none ∙ e in cc)
-      | inr differs ↦ id-low past id stamp legal.1 (sym (stamp_in-without_other other id (open_snapshots past) differs) ∙ is)
+      | inr differs ↦
+          id-low past id stamp legal.1 (sym (stamp_in-without_other other id (open_snapshots past) differs) ∙ is)
     ]
 id-low (Began kept ∷ past) id stamp legal is =
     id-bounded kept.last_id id stamp kept.snapshots legal.2.store.register.bounded is

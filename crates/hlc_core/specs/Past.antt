@@ -1,11 +1,10 @@
 -- What took place in a core, and what follows from it.
 use Rattle.std.specs.Prelude.{◌≡◌, ◌≢◌, ℕ, ◌+◌, ◌≤◌, List, [], ◌∷◌, ◌++◌, length, max, Bool, false, ◌==◌, not, nat_le}
-use Rattle.std.specs.Prelude.{slice_index_or}
+use Rattle.std.specs.Prelude.{nat_lt, slice_index_or, Option, Some, None, if◌then◌else◌, ⊤}
 use Rattle.hlc_intake.specs.IntakeView.{IntakeView}
 use Rattle.hlc_heads.specs.Heads.{a_link}
 use Rattle.hlc_checkpoint.specs.StoreView.{StoreView}
 use Rattle.hlc_checkpoint.specs.Checkpoint.{IsCheckpoint}
-use Rattle.std.specs.Prelude.{nat_lt, Option, Some, None, if◌then◌else◌, ⊤}
 use Rattle.hlc_node.specs.declared.item.Item.{Item}
 use Rattle.hlc_rows.specs.declared.row.Row.{Row}
 use Rattle.hlc_node.specs.declared.item.Body.{Body}
@@ -26,10 +25,10 @@ use Rattle.hlc_snapshot.specs.RegistryView.{stamp_in, without, room_refusal as r
 use Rattle.hlc_events.specs.declared.fault.CoreFault.TheVariants.{NoNode, Link, Body as bad_body, Join, AboveFloor}
 use Rattle.hlc_events.specs.declared.fault.CoreFault.TheVariants.{BelowHorizon}
 
--- an event that took place: a store was made with this many nodes, or restored from this state; an item was accepted; a snapshot was opened at a
--- stamp; the snapshot with an id was closed; rows were vacuumed up to this stamp; a node with this number joined, and
--- starts at this stamp; the horizon was moved to this stamp, and this many rows that no reader needs were dropped: part
--- of a vacuum
+-- an event that took place: a store was made with this many nodes, or restored from this state; an item was accepted; a
+-- snapshot was opened at a stamp; the snapshot with an id was closed; rows were vacuumed up to this stamp; a node with
+-- this number joined, and starts at this stamp; the horizon was moved to this stamp, and this many rows that no reader
+-- needs were dropped: part of a vacuum
 pub data Step : Type 0 where
   Started : ℕ → Step
   Began : StoreView → Step
@@ -77,8 +76,8 @@ count n (Took item ∷ past) = if item.node == n then count n past + 1 else coun
 count n (Began kept ∷ past) = (link_in kept n).next
 count n (_ ∷ past) = count n past
 
--- the stamp of the last accepted item of a node, or else of its start; 0 for a node at the start; at first the head that
--- a state has
+-- the stamp of the last accepted item of a node, or else of its start, which is 0 for a node at the start; at first the
+-- head that a state has
 abbrev pub head : ℕ → List Step → ℕ
 head n [] = 0
 head n (Took item ∷ past) = if item.node == n then item.stamp else head n past

@@ -3,7 +3,6 @@
 use Rattle.std.specs.Prelude.{◌≡◌, ℕ, Bool, false, List, [], ◌∷◌, ◌++◌, ◌==◌, if◌then◌else◌}
 use Rattle.hlc_node.specs.declared.item.Item.{Item}
 use Rattle.hlc_node.specs.Items.{retires}
-use Rattle.std.specs.Prelude.{Option, Some, None}
 use Rattle.hlc_core.specs.Past.{Step, Began, initial_nodes, Took, Joined, IsLegal}
 use Rattle.hlc_core.specs.StoreView.{StoreView}
 
@@ -24,14 +23,14 @@ joins_of [] = []
 joins_of (Joined node start ∷ past) = (node, start) ∷ joins_of past
 joins_of (_ ∷ past) = joins_of past
 
--- the state that a past begins with; none if it begins with nodes
-abbrev pub begun : List Step → Option StoreView
-begun [] = None
-begun (Began kept ∷ past) = Some kept
+-- the state that a past begins with, none if it begins with nodes; a legal past has one at most
+abbrev pub begun : List Step → List StoreView
+begun [] = []
+begun (Began kept ∷ past) = kept ∷ begun past
 begun (_ ∷ past) = begun past
 
--- the same start, the same number of nodes at it, the same nodes joined at the same starts, and the same items of each node were
--- accepted
+-- the same state at the start, or the same number of nodes; the same nodes joined at the same starts, and the same
+-- items of each node were accepted
 pub record AreReplicas (past other : List Step) : Type 0 where
   pub begun : begun past ≡ begun other
   pub initial_nodes : initial_nodes past ≡ initial_nodes other

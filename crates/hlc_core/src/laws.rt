@@ -1,15 +1,10 @@
 //! What is true of every legal past, and of cores that represent one.
-ghost use Rattle.std.specs.Prelude.{◌≡◌, ◌+◌, ◌<◌, ◌≤◌, ◌⊎◌, true, false, ℕ, List, ◌∷◌, None, All, length};
-ghost use Rattle.std.specs.Prelude.{◌++◌, Some, []};
+ghost use Rattle.std.specs.Prelude.{◌≡◌, ◌+◌, ◌<◌, ◌≤◌, ◌⊎◌, true, false, ℕ, List, [], ◌∷◌, ◌++◌, Some, None, All};
+ghost use Rattle.std.specs.Prelude.{length};
 ghost use Rattle.hlc_rows.specs.Rows.{IsRowSet, answer};
-ghost use Rattle.hlc_core.specs.Past.{Step, Started, Began, Took, Joined, IsLegal, initial_nodes, numbered, retired, top, writes, head};
-ghost use Rattle.hlc_core.specs.Past.{floor, open_snapshots, item_refusal, join_refusal, join_at_refusal};
+ghost use Rattle.hlc_core.specs.Past.{Step, Began, Took, Joined, IsLegal, initial_nodes, numbered, retired, top};
+ghost use Rattle.hlc_core.specs.Past.{writes, head, floor, open_snapshots, item_refusal, join_refusal, join_at_refusal};
 ghost use Rattle.hlc_core.specs.Past.{greatest_accepted, stamp_of};
-ghost use Rattle.hlc_core.specs.Past.{horizon};
-ghost use Rattle.hlc_core.specs.Replicas.{AreReplicas, CanMeet, items_of, joins_of, begun};
-ghost use Rattle.hlc_snapshot.specs.RegistryView.{stamps};
-ghost use Rattle.hlc_vacuum.specs.Representing.{RowsRepresent};
-ghost use Rattle.std.specs.Prelude.{Contains};
 ghost use Rattle.hlc_core.specs.StoreView.{StoreView, Represents};
 ghost use Rattle.hlc_core.specs.Checkpoint.{IsCheckpoint, IsCopyOf, IsFirstReason};
 ghost use Rattle.hlc_witness.specs.Certificate.{RowsAscend};
@@ -19,7 +14,6 @@ ghost use Rattle.hlc_core.specs.Listing.{IsListing};
 ghost use Rattle.hlc_core.specs.Differences.{Difference, AreDifferences, patched};
 ghost use Rattle.hlc_core.specs.History.{RepresentsHistory};
 ghost use Rattle.hlc_core.specs.Headline.{IsFaithful};
-ghost use Rattle.hlc_core.specs.From.{RepresentsFrom, IsFaithfulFrom};
 ghost use Rattle.hlc_events.specs.declared.event.CoreEvent.{CoreEvent as AnEvent};
 ghost use Rattle.hlc_core.specs.declared.reply.CoreReply.{CoreReply as AReply};
 ghost use Rattle.hlc_core.specs.declared.listing.Pair.{Pair as APair};
@@ -153,27 +147,4 @@ pub fn checkpoints_restore()
 /// past, whoever wrote them.
 pub fn each_checkpoint_has_a_past()
     ensures { (kept : StoreView) → IsCheckpoint kept → Represents kept (Began kept ∷ []) }
-{}
-
-/// A store that begins with the state of another goes on as that one: it accepts the same steps, its floor and its
-/// snapshots are the same, and the writes of both answer alike from the other's horizon on and at the snapshots that
-/// were open.
-pub fn a_state_goes_on_as_its_past()
-    ensures { (more : List Step) (kept : StoreView) (past : List Step) → IsCheckpoint kept → Represents kept past
-        → IsLegal (more ++ past)
-        → IsLegal (more ++ (Began kept ∷ []))
-        × (floor (more ++ (Began kept ∷ [])) ≡ floor (more ++ past))
-        × (open_snapshots (more ++ (Began kept ∷ [])) ≡ open_snapshots (more ++ past))
-        × RowsRepresent (writes (more ++ (Began kept ∷ []))) (writes (more ++ past)) (horizon past)
-        (stamps (open_snapshots past)) }
-{}
-
-/// The same of a store that began with any past, as with that of a state: each history that it represents since is
-/// faithful, against what the past says was accepted before and what was accepted since.
-pub fn histories_from_states_are_faithful()
-    ensures faithful { (start : List Step) (kept : StoreView) (history : List (AnEvent × AReply))
-        → RepresentsFrom start kept history → IsFaithfulFrom start history kept.rows }
-    ensures begins { (kept : StoreView) → IsCheckpoint kept → RepresentsFrom (Began kept ∷ []) kept [] }
-    ensures started { (nodes : ℕ) (kept : StoreView) (history : List (AnEvent × AReply))
-        → RepresentsHistory nodes kept history → RepresentsFrom (Started nodes ∷ []) kept history }
 {}

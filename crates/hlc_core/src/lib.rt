@@ -27,9 +27,10 @@ pub use hlc_values::NoMemory;
 pub use hlc_witness::Witness;
 pub use laws::{
     a_join_is_one_at_the_floor, accepted_writes_are_a_row_set, answers_stay, checkpoints_restore,
-    differences_lead_on, floor_is_the_least_head, histories_are_faithful, joins_keep_the_floor,
-    later_items_are_above_the_floor, open_snapshots_are_at_most_the_floor,
-    retired_nodes_leave_the_greatest_stamp, the_floor_never_falls, there_is_one_listing,
+    differences_lead_on, each_checkpoint_has_a_past, floor_is_the_least_head,
+    histories_are_faithful, joins_keep_the_floor, later_items_are_above_the_floor,
+    open_snapshots_are_at_most_the_floor, retired_nodes_leave_the_greatest_stamp,
+    the_floor_never_falls, there_is_one_listing,
 };
 pub use listing::{Listing, Pair};
 pub use planned::Planned;

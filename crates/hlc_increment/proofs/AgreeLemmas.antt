@@ -8,8 +8,8 @@ use Rattle.hlc_core.specs.Past.{horizon, writes, item_rows, IsLegal, item_refusa
 use Rattle.hlc_core.specs.Past.{open_refusal, vacuum_refusal, part_dropped, vacuumed}
 use Rattle.hlc_core.specs.Stored.{AreLastChanges}
 use Rattle.hlc_witness.specs.declared.witness.Witness.{Witness}
-use Rattle.hlc_core.proofs.AlikeLemmas.{AreAlike, alike-itself, alike-started, alike-took, alike-joined, alike-opened}
-use Rattle.hlc_core.proofs.AlikeLemmas.{alike-closed, floors-alike}
+use Rattle.hlc_replicas.proofs.AlikeLemmas.{AreAlike, alike-itself, alike-started, alike-took, alike-joined}
+use Rattle.hlc_replicas.proofs.AlikeLemmas.{alike-opened, alike-closed, floors-alike}
 use Rattle.hlc_increment.specs.Increment.{without_drops}
 
 -- two pasts agree in all that refusals and reads look at

@@ -22,7 +22,7 @@ use Rattle.hlc_core.specs.Past.{numbered, count, head, retired, last_id, horizon
 use Rattle.hlc_core.specs.Past.{IsLegal}
 use Rattle.hlc_core.specs.StoreView.{StoreView, with_rows, Represents}
 use Rattle.hlc_core.proofs.PastLemmas.{inside}
-use Rattle.hlc_core.proofs.AlikeLemmas.{AreAlike, alike-itself}
+use Rattle.hlc_replicas.proofs.AlikeLemmas.{AreAlike, alike-itself}
 use Rattle.hlc_core.proofs.CheckpointLemmas.{copy-represents, floor-in}
 use Rattle.hlc_increment.specs.Increment.{IncrementView, IsIncrementOf, IsAdvanced, AreFitting, IsOpenOrNew}
 use Rattle.hlc_increment.specs.Increment.{without_drops}

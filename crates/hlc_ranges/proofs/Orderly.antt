@@ -10,7 +10,7 @@ use Rattle.hlc_core.specs.Past.{IsLegal as IsLegalPast}
 use Rattle.hlc_core.specs.Replicas.{items_of}
 use Rattle.hlc_core.proofs.PastLemmas.{inside, on_link, admissible, head-same, head-other, head-joined}
 use Rattle.hlc_core.proofs.PastLemmas.{head-joined_other}
-use Rattle.hlc_core.proofs.ReplicaLemmas.{items-same, items-other, count-by}
+use Rattle.hlc_replicas.proofs.ReplicaLemmas.{items-same, items-other, count-by}
 use Rattle.hlc_ranges.specs.Run.{Layout, Turn, Issued, Sent, Received, Observed, Stepped, past_of, issued, mark_of}
 use Rattle.hlc_ranges.specs.Run.{raised_by, last_stamp, have_ended, IsIssuedStep, IsAllowed, IsLegal}
 use Rattle.hlc_ranges.proofs.Links.{IsLink, link-none, link-rises, link-issue, link-took, link-more, link-start}

@@ -11,7 +11,7 @@ use Rattle.hlc_core.specs.Past.{Step, Started, Took, Opened, Closed, Vacuumed, P
 use Rattle.hlc_core.specs.Past.{writes}
 use Rattle.hlc_core.specs.Past.{item_rows}
 use Rattle.hlc_core.specs.Replicas.{items_of}
-use Rattle.hlc_core.proofs.ReplicaLemmas.{items-same, items-other}
+use Rattle.hlc_replicas.proofs.ReplicaLemmas.{items-same, items-other}
 
 -- an item of a node was accepted
 pub items-accepted : (past : List Step) (n : ℕ) (item : Item) → Contains (items_of n past) item

@@ -4,14 +4,15 @@ use Rattle.std.specs.Prelude.{◌==◌, if◌then◌else◌}
 use Rattle.hlc_node.specs.declared.item.Item.{Item}
 use Rattle.hlc_node.specs.Items.{retires}
 use Rattle.hlc_heads.proofs.LowLemmas.{low-same}
-use Rattle.hlc_core.specs.Past.{Step, Started, Took, Opened, Closed, Vacuumed, PartVacuumed, Joined, initial_nodes}
-use Rattle.hlc_core.specs.Past.{numbered, count, head, retired, top, floor, item_refusal, IsLegal}
-use Rattle.hlc_core.specs.Replicas.{items_of, joins_of, CanMeet}
+use Rattle.hlc_core.specs.Past.{Step, Started, Began, Took, Opened, Closed, Vacuumed, PartVacuumed, Joined}
+use Rattle.hlc_core.specs.Past.{initial_nodes, numbered, count, head, retired, top, floor, item_refusal, IsLegal}
+use Rattle.hlc_core.specs.Replicas.{items_of, joins_of, begun, CanMeet}
 use Rattle.hlc_replicas.specs.Places.{log_of}
 
 initial-log : (past : List Step) → initial_nodes (log_of past) ≡ initial_nodes past
 initial-log [] = refl
 initial-log (Started nodes ∷ past) = refl
+initial-log (Began kept ∷ past) = refl
 initial-log (Took item ∷ past) = initial-log past
 initial-log (Opened stamp ∷ past) = initial-log past
 initial-log (Closed id ∷ past) = initial-log past
@@ -22,6 +23,7 @@ initial-log (Joined node start ∷ past) = initial-log past
 numbered-log : (past : List Step) → numbered (log_of past) ≡ numbered past
 numbered-log [] = refl
 numbered-log (Started nodes ∷ past) = ap (λ k. k + nodes) (numbered-log past)
+numbered-log (Began kept ∷ past) = refl
 numbered-log (Took item ∷ past) = numbered-log past
 numbered-log (Opened stamp ∷ past) = numbered-log past
 numbered-log (Closed id ∷ past) = numbered-log past
@@ -32,6 +34,7 @@ numbered-log (Joined node start ∷ past) = ap (λ k. k + 1) (numbered-log past)
 count-log : (n : ℕ) (past : List Step) → count n (log_of past) ≡ count n past
 count-log n [] = refl
 count-log n (Started nodes ∷ past) = count-log n past
+count-log n (Began kept ∷ past) = refl
 count-log n (Took item ∷ past) = ap (λ k. if item.node == n then k + 1 else k) (count-log n past)
 count-log n (Opened stamp ∷ past) = count-log n past
 count-log n (Closed id ∷ past) = count-log n past
@@ -42,6 +45,7 @@ count-log n (Joined node start ∷ past) = count-log n past
 head-log : (n : ℕ) (past : List Step) → head n (log_of past) ≡ head n past
 head-log n [] = refl
 head-log n (Started nodes ∷ past) = head-log n past
+head-log n (Began kept ∷ past) = refl
 head-log n (Took item ∷ past) = ap (λ k. if item.node == n then item.stamp else k) (head-log n past)
 head-log n (Opened stamp ∷ past) = head-log n past
 head-log n (Closed id ∷ past) = head-log n past
@@ -52,6 +56,7 @@ head-log n (Joined node start ∷ past) = ap (λ k. if node == n then start else
 retired-log : (n : ℕ) (past : List Step) → retired n (log_of past) ≡ retired n past
 retired-log n [] = refl
 retired-log n (Started nodes ∷ past) = retired-log n past
+retired-log n (Began kept ∷ past) = refl
 retired-log n (Took item ∷ past) =
     ap (λ (b : Bool). if item.node == n then retires item.body else b) (retired-log n past)
 retired-log n (Opened stamp ∷ past) = retired-log n past
@@ -63,6 +68,7 @@ retired-log n (Joined node start ∷ past) = retired-log n past
 top-log : (past : List Step) → top (log_of past) ≡ top past
 top-log [] = refl
 top-log (Started nodes ∷ past) = top-log past
+top-log (Began kept ∷ past) = refl
 top-log (Took item ∷ past) = ap (λ k. max k item.stamp) (top-log past)
 top-log (Opened stamp ∷ past) = top-log past
 top-log (Closed id ∷ past) = top-log past
@@ -73,6 +79,7 @@ top-log (Joined node start ∷ past) = ap (λ k. max k start) (top-log past)
 joins-log : (past : List Step) → joins_of (log_of past) ≡ joins_of past
 joins-log [] = refl
 joins-log (Started nodes ∷ past) = joins-log past
+joins-log (Began kept ∷ past) = joins-log past
 joins-log (Took item ∷ past) = joins-log past
 joins-log (Opened stamp ∷ past) = joins-log past
 joins-log (Closed id ∷ past) = joins-log past
@@ -83,6 +90,7 @@ joins-log (Joined node start ∷ past) = ap (λ (js : List (ℕ × ℕ)). (node,
 items-log : (n : ℕ) (past : List Step) → items_of n (log_of past) ≡ items_of n past
 items-log n [] = refl
 items-log n (Started nodes ∷ past) = items-log n past
+items-log n (Began kept ∷ past) = items-log n past
 items-log n (Took item ∷ past) =
     ap (λ (is : List Item). if item.node == n then item ∷ is else is) (items-log n past)
 items-log n (Opened stamp ∷ past) = items-log n past
@@ -90,6 +98,17 @@ items-log n (Closed id ∷ past) = items-log n past
 items-log n (Vacuumed at ∷ past) = items-log n past
 items-log n (PartVacuumed at dropped ∷ past) = items-log n past
 items-log n (Joined node start ∷ past) = items-log n past
+
+begun-log : (past : List Step) → begun (log_of past) ≡ begun past
+begun-log [] = refl
+begun-log (Started nodes ∷ past) = begun-log past
+begun-log (Began kept ∷ past) = ap (λ ks. kept ∷ ks) (begun-log past)
+begun-log (Took item ∷ past) = begun-log past
+begun-log (Opened stamp ∷ past) = begun-log past
+begun-log (Closed id ∷ past) = begun-log past
+begun-log (Vacuumed at ∷ past) = begun-log past
+begun-log (PartVacuumed at dropped ∷ past) = begun-log past
+begun-log (Joined node start ∷ past) = begun-log past
 
 floor-log : (past : List Step) → floor (log_of past) ≡ floor past
 floor-log past =
@@ -116,6 +135,7 @@ floor-alike past other e = sym (floor-log past) ∙ ap floor e ∙ floor-log oth
 log-append : (more past : List Step) → log_of (more ++ past) ≡ log_of more ++ log_of past
 log-append [] past = refl
 log-append (Started nodes ∷ more) past = ap (λ (p : List Step). Started nodes ∷ p) (log-append more past)
+log-append (Began kept ∷ more) past = ap (λ (p : List Step). Began kept ∷ p) (log-append more past)
 log-append (Took item ∷ more) past = ap (λ (p : List Step). Took item ∷ p) (log-append more past)
 log-append (Opened stamp ∷ more) past = log-append more past
 log-append (Closed id ∷ more) past = log-append more past
@@ -126,6 +146,7 @@ log-append (Joined node start ∷ more) past = ap (λ (p : List Step). Joined no
 twice : (past : List Step) → log_of (log_of past) ≡ log_of past
 twice [] = refl
 twice (Started nodes ∷ past) = ap (λ (p : List Step). Started nodes ∷ p) (twice past)
+twice (Began kept ∷ past) = ap (λ (p : List Step). Began kept ∷ p) (twice past)
 twice (Took item ∷ past) = ap (λ (p : List Step). Took item ∷ p) (twice past)
 twice (Opened stamp ∷ past) = twice past
 twice (Closed id ∷ past) = twice past
@@ -136,6 +157,7 @@ twice (Joined node start ∷ past) = ap (λ (p : List Step). Joined node start �
 legal-log : (past : List Step) → IsLegal past → IsLegal (log_of past)
 legal-log [] legal = legal
 legal-log (Started nodes ∷ past) legal = (ap log_of legal.0, legal-log past legal.1)
+legal-log (Began kept ∷ past) legal = (ap log_of legal.0, legal-log past legal.1, legal.2)
 legal-log (Took item ∷ past) legal = (item-log past item ∙ legal.0, legal-log past legal.1)
 legal-log (Opened stamp ∷ past) legal = legal-log past legal.1
 legal-log (Closed id ∷ past) legal = legal-log past legal.1
@@ -162,6 +184,10 @@ goes-on : (more past : List Step) → 0 < initial_nodes past → IsLegal past
     → IsLegal (log_of more ++ log_of past) → IsLegal (log_of more ++ past)
 goes-on [] past some legal h = legal
 goes-on (Started nodes ∷ more) past some legal h =
+    absurd (let none : log_of past ≡ [] = nothing-below (log_of more) (log_of past) h.0 in
+    let zero : initial_nodes (log_of past) ≡ 0 = ap initial_nodes none in
+    let same = initial-log past in omega (arith, some, zero, same))
+goes-on (Began kept ∷ more) past some legal h =
     absurd (let none : log_of past ≡ [] = nothing-below (log_of more) (log_of past) h.0 in
     let zero : initial_nodes (log_of past) ≡ 0 = ap initial_nodes none in
     let same = initial-log past in omega (arith, some, zero, same))
@@ -196,6 +222,7 @@ can-meet past other more some legal legal' is =
       legal = goes-on more past some legal (subst IsLegal is (legal-log other legal'));
       other_legal = legal';
       meet = record {
+        begun = sym (begun-log here) ∙ ap begun e ∙ begun-log other;
         initial_nodes = sym (initial-log here) ∙ ap initial_nodes e ∙ initial-log other;
         joins = sym (joins-log here) ∙ ap joins_of e ∙ joins-log other;
         items = λ n. sym (items-log n here) ∙ ap (items_of n) e ∙ items-log n other;

@@ -8,8 +8,8 @@ use Rattle.std.specs.Option.{ForSome}
 use Rattle.hlc_events.specs.declared.event.CoreEvent.{CoreEvent}
 use Rattle.hlc_core.specs.declared.reply.CoreReply.{CoreReply}
 use Rattle.hlc_core.specs.StoreView.{StoreView, Represents}
-use Rattle.hlc_core.specs.Past.{Step, initial_nodes, Started, Took, Opened, Closed, Vacuumed, PartVacuumed, Joined}
-use Rattle.hlc_core.specs.Past.{IsLegal}
+use Rattle.hlc_core.specs.Past.{Step, Started, Began, Took, Opened, Closed, Vacuumed, PartVacuumed, Joined}
+use Rattle.hlc_core.specs.Past.{initial_nodes, IsLegal}
 use Rattle.hlc_core.specs.History.{step_of, with_step, past_of, RepresentsHistory, IsStep}
 use Rattle.hlc_server.specs.declared.entry.Entry.{Entry}
 use Rattle.hlc_server.specs.Trails.{history_after, history_of, IsAudited, HasHistory, entry, with_entry, entries_of}
@@ -30,6 +30,7 @@ step-starts_none : (step : Option Step) (past : List Step) → IsLegal (with_ste
     → IsLegal past × (initial_nodes (with_step step past) ≡ initial_nodes past)
 step-starts_none None past legal some = (legal, refl)
 step-starts_none (Some (Started nodes)) past legal some = absurd (some legal.0)
+step-starts_none (Some (Began kept)) past legal some = absurd (some legal.0)
 step-starts_none (Some (Took item)) past legal some = (legal.1, refl)
 step-starts_none (Some (Opened stamp)) past legal some = (legal.1, refl)
 step-starts_none (Some (Closed id)) past legal some = (legal.1, refl)

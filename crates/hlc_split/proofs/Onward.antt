@@ -14,7 +14,8 @@ use Rattle.hlc_core.proofs.PartLemmas.{answer-of_keys}
 use Rattle.hlc_core.proofs.PastLemmas.{vacuum-none, vacuum-above, horizon-low, writes-row_set}
 use Rattle.hlc_split.specs.Split.{body_in, RepresentsPart}
 use Rattle.hlc_split.specs.OwnPast.{IsOwnPast, began, took, opened, closed, joined, vacuumed, part_dropped}
-use Rattle.hlc_core.proofs.AlikeLemmas.{AreAlike, alike-took, alike-joined, alike-opened, alike-closed, floors-alike}
+use Rattle.hlc_replicas.proofs.AlikeLemmas.{AreAlike, alike-took, alike-joined, alike-opened, alike-closed}
+use Rattle.hlc_replicas.proofs.AlikeLemmas.{floors-alike}
 use Rattle.hlc_split.proofs.SamePast.{alike-in, retires-in, writes-in, body_rows-in}
 use Rattle.hlc_split.proofs.PartRows.{fewer, part-represents}
 use Rattle.hlc_split.proofs.Merging.{merged, filter-all, own-rows}

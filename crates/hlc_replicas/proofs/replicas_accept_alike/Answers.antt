@@ -1,5 +1,5 @@
 -- A node's link follows from its items and its start, and the floor from all links.
-use Rattle.hlc_core.proofs.ReplicaLemmas.{refusals-agree, floors-agree, joins-agree}
+use Rattle.hlc_replicas.proofs.ReplicaLemmas.{refusals-agree, floors-agree, joins-agree}
 use Rattle.hlc_replicas.proofs.replicas_accept_alike.Goals as goal
 
 pub returns-clause-items : goal.returns-clause-items

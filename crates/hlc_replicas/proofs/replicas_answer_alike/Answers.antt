@@ -1,5 +1,5 @@
 -- The accepted writes are the same rows.
-use Rattle.hlc_core.proofs.ReplicaLemmas.{answers-agree, stores-agree}
+use Rattle.hlc_replicas.proofs.ReplicaLemmas.{answers-agree, stores-agree}
 use Rattle.hlc_replicas.proofs.replicas_answer_alike.Goals as goal
 
 pub returns-clause-accepted : goal.returns-clause-accepted

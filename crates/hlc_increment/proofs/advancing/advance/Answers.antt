@@ -2,7 +2,7 @@
 use Rattle.std.proofs.Common.{◌≡◌, ◌≤◌, ◌++◌, refl, subst, ◌∙◌, rules}
 use Rattle.std.proofs.lemmas.Grind.{common_steps}
 use Rattle.hlc_core.specs.Past.{floor}
-use Rattle.hlc_core.proofs.AlikeLemmas.{floors-alike}
+use Rattle.hlc_replicas.proofs.AlikeLemmas.{floors-alike}
 use Rattle.hlc_core.proofs.CheckpointLemmas.{floor-in}
 use Rattle.hlc_increment.specs.Increment.{AreFitting, IsAdvanced, without_drops}
 use Rattle.hlc_increment.proofs.AgreeLemmas.{drops-agree}

@@ -29,7 +29,8 @@ use Rattle.hlc_core.proofs.StayLemmas.{legal-before, snapshots-stay}
 use Rattle.hlc_core.proofs.VacuumLemmas.{leaves-fewest}
 use Rattle.hlc_core.specs.History.{step_of, with_step, IsAnswer, IsExpected}
 use Rattle.hlc_core.specs.Headline.{IsMoment, SnapshotsStay, vacuum_stamp}
-use Rattle.hlc_core.specs.From.{past_from, IsLegalFrom, RepresentsFrom, IsLeftFrom, ReadsAreNewestFrom, VacuumsAreFewestFrom}
+use Rattle.hlc_core.specs.From.{past_from, IsLegalFrom, RepresentsFrom, IsLeftFrom, ReadsAreNewestFrom}
+use Rattle.hlc_core.specs.From.{VacuumsAreFewestFrom}
 use Rattle.hlc_core.specs.From.{VacuumsAreCheapestFrom, FewestAreLeftFrom, IsFaithfulFrom, PartsAreFewestFrom}
 use Rattle.hlc_core.specs.From.{FewestAreLeftByPartsFrom, SnapshotsShowWholeFrom}
 
@@ -70,7 +71,8 @@ past-before start (entry ∷ later) before =
     (all.0, ap (with_step (step_of entry.0 entry.1)) rest.1 ∙ all.1)
 
 -- so it is legal
-moment-past : (start : List Step) (h before : List (CoreEvent × CoreReply)) → IsLegal (past_from start h) → IsMoment h before
+moment-past : (start : List Step) (h before : List (CoreEvent × CoreReply)) → IsLegal (past_from start h)
+    → IsMoment h before
     → IsLegal (past_from start before)
 moment-past start h before legal moment =
     let rest = past-before start moment.later before in
@@ -194,13 +196,15 @@ vacuums-cheapest start h legal = λ before event report moment others set' alike
     (moment-legal start h ((event, Vacuumed report) ∷ before) legal moment).0 in
     let expected : IsReport bounded.0 (past_from start before) report = bounded.2 in
     let few : changes_cost (writes (past_from start before)) report.witnesses ≤ rows_cost others =
-    changes_force_bytes (writes (past_from start before)) others report.points report.witnesses expected.witnesses.ascend
+    changes_force_bytes (writes (past_from start before)) others report.points report.witnesses
+    expected.witnesses.ascend
     expected.witnesses.each alike in
     let is : report.bytes ≡ changes_cost (writes (past_from start before)) report.witnesses = expected.bytes in
     omega arith
 
 -- the rows that it left are the fewest
-left : (start : List Step) (kept : StoreView) (before : List (CoreEvent × CoreReply)) (event : CoreEvent) (report : Report)
+left : (start : List Step) (kept : StoreView) (before : List (CoreEvent × CoreReply)) (event : CoreEvent)
+    (report : Report)
     → IsExpected (past_from start before) event (Vacuumed report)
     → Represents kept (past_from start ((event, Vacuumed report) ∷ before))
     → LeavesFewest kept.rows (writes (past_from start before)) report

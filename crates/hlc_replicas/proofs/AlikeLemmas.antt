@@ -7,8 +7,8 @@ use Rattle.hlc_node.specs.declared.item.Body.{Body}
 use Rattle.hlc_node.specs.Items.{an_item, retires}
 use Rattle.hlc_heads.proofs.LowLemmas.{low-same}
 use Rattle.hlc_snapshot.specs.RegistryView.{without}
-use Rattle.hlc_core.specs.Past.{Step, Started, Began, Took, Opened, Closed, Joined, initial_nodes, numbered, count, head}
-use Rattle.hlc_core.specs.Past.{retired, top, floor, last_id, open_snapshots}
+use Rattle.hlc_core.specs.Past.{Step, Started, Began, Took, Opened, Closed, Joined, initial_nodes, numbered, count}
+use Rattle.hlc_core.specs.Past.{head, retired, top, floor, last_id, open_snapshots}
 use Rattle.hlc_core.specs.StoreView.{StoreView}
 
 -- No vacuum, and no part of one, changes anything of this.

@@ -6,9 +6,9 @@ use Rattle.hlc_events.specs.declared.event.CoreEvent.{CoreEvent}
 use Rattle.hlc_core.specs.declared.reply.CoreReply.{CoreReply}
 use Rattle.hlc_core.specs.History.{past_of, step_of, with_step, IsLegalHistory, IsExpected, IsLeft, LeavesPart}
 use Rattle.hlc_core.specs.From.{past_from, IsLegalFrom, IsLeftFrom}
-use Rattle.hlc_core.proofs.FaithfulFrom.{histories_are_faithful}
+use Rattle.hlc_replicas.proofs.FaithfulFrom.{histories_are_faithful}
 use Rattle.hlc_core.proofs.Starting.{begins}
-use Rattle.hlc_core.proofs.laws.histories_from_states_are_faithful.Goals as goal
+use Rattle.hlc_replicas.proofs.states.histories_from_states_are_faithful.Goals as goal
 
 -- what took place since the nodes started
 same-past : (nodes : ℕ) (h : List (CoreEvent × CoreReply)) → past_of nodes h ≡ past_from (Started nodes ∷ []) h

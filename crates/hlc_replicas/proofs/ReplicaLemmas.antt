@@ -1,6 +1,6 @@
 -- A node's link follows from its items and its start, so it is alike in all replicas, as are the floor and the rows. Of
 -- replicas that lag both can go on until they are replicas, and no answer up to the floor of either changes on the way.
-use Rattle.std.proofs.Common.{◌≡◌, ℕ, ◌+◌, ◌<◌, ◌≤◌, List, [], ◌∷◌, length, Contains, None}
+use Rattle.std.proofs.Common.{◌≡◌, ℕ, ◌+◌, ◌<◌, ◌≤◌, Bool, false, List, [], ◌∷◌, length, Contains, None}
 use Rattle.std.proofs.Common.{◌⊎◌, ◌++◌, refl, ap, sym, ◌∙◌, subst, inl, inr, arith}
 use Rattle.std.specs.Prelude.{◌==◌, if◌then◌else◌, Option, Some, nat_le, nat_lt}
 use Rattle.std.proofs.lemmas.Bool.{cond-true, cond-false, eq-eqb, ne_eqb, cases_eq}
@@ -8,6 +8,7 @@ use Rattle.std.proofs.lemmas.List.Elements.{Contains-append_left, Contains-appen
 use Rattle.hlc_values.proofs.MemberLemmas.{Contains-first, Contains-rest, Contains-cons_cases, Contains-none}
 use Rattle.hlc_rows.specs.declared.row.Row.{Row}
 use Rattle.hlc_node.specs.declared.item.Item.{Item}
+use Rattle.hlc_node.specs.Items.{retires}
 use Rattle.hlc_rows.specs.Rows.{answer}
 use Rattle.hlc_heads.proofs.LowLemmas.{low-same}
 use Rattle.hlc_snapshot.specs.RegistryView.{stamps}
@@ -16,17 +17,11 @@ use Rattle.hlc_heads.specs.declared.heads.TheConstants.{MAX_NODES}
 use Rattle.hlc_events.specs.declared.fault.CoreFault.{CoreFault}
 use Rattle.hlc_events.specs.declared.fault.CoreFault.TheVariants.{Join}
 use Rattle.hlc_heads.specs.declared.heads.JoinFault.TheVariants.{TooManyNodes, BelowFloor}
-use Rattle.hlc_core.specs.Past.{Step, initial_nodes, Started, Began, Took, Opened, Closed, Vacuumed, PartVacuumed, Joined}
-use Rattle.hlc_core.specs.Past.{numbered, count, head}
-use Rattle.hlc_core.specs.Past.{retired}
-use Rattle.hlc_core.specs.Past.{top, floor, horizon, writes, item_rows, item_refusal, join_at_refusal, IsLegal}
-use Rattle.hlc_core.specs.Past.{open_snapshots}
+use Rattle.hlc_core.specs.Past.{Step, Started, Began, Took, Opened, Closed, Vacuumed, PartVacuumed, Joined}
+use Rattle.hlc_core.specs.Past.{numbered, count, head, retired, top, floor, horizon, open_snapshots, writes, item_rows}
+use Rattle.hlc_core.specs.Past.{initial_nodes, link_in, item_refusal, join_at_refusal, IsLegal}
 use Rattle.hlc_core.specs.StoreView.{StoreView, Represents}
 use Rattle.hlc_core.specs.Replicas.{items_of, have_ended, joins_of, begun, AreReplicas, CanMeet}
-use Rattle.hlc_core.specs.Past.{link_in}
-use Rattle.hlc_core.proofs.BeganLemmas.{began-row}
-use Rattle.std.specs.Prelude.{Bool, false}
-use Rattle.hlc_node.specs.Items.{retires}
 use Rattle.hlc_core.proofs.PastLemmas.{inside, head-same, head-other, head-joined, head-joined_other}
 use Rattle.hlc_core.proofs.PastLemmas.{retired-same, retired-other, count-other, body_rows-are, writes-row_set}
 use Rattle.hlc_core.proofs.CheckpointLemmas.{heads-low, top-at}
@@ -61,34 +56,34 @@ items-none (Took item ∷ past) n legal out =
 
 -- What a past begins with: of a node its start, or its head in the state; whether it retired there; the number of its
 -- items; of all the number of node numbers, and the rows.
-abbrev start_in : ℕ → List (ℕ × ℕ) → Option StoreView → ℕ
-start_in n [] None = 0
-start_in n [] (Some kept) = (link_in kept n).head
+abbrev start_in : ℕ → List (ℕ × ℕ) → List StoreView → ℕ
+start_in n [] [] = 0
+start_in n [] (kept ∷ earlier) = (link_in kept n).head
 start_in n (join ∷ joins) start = if join.0 == n then join.1 else start_in n joins start
 
-abbrev ended_by : ℕ → List Item → Option StoreView → Bool
-ended_by n [] None = false
-ended_by n [] (Some kept) = (link_in kept n).retired
+abbrev ended_by : ℕ → List Item → List StoreView → Bool
+ended_by n [] [] = false
+ended_by n [] (kept ∷ earlier) = (link_in kept n).retired
 ended_by n (item ∷ items) start = retires item.body
 
-abbrev counted : ℕ → Option StoreView → ℕ
-counted n None = 0
-counted n (Some kept) = (link_in kept n).next
+abbrev counted : ℕ → List StoreView → ℕ
+counted n [] = 0
+counted n (kept ∷ earlier) = (link_in kept n).next
 
-abbrev based : ℕ → Option StoreView → ℕ
-based nodes None = nodes
-based nodes (Some kept) = length kept.links
+abbrev based : ℕ → List StoreView → ℕ
+based nodes [] = nodes
+based nodes (kept ∷ earlier) = length kept.links
 
-abbrev rows_begun : Option StoreView → List Row
-rows_begun None = []
-rows_begun (Some kept) = kept.rows
+abbrev rows_begun : List StoreView → List Row
+rows_begun [] = []
+rows_begun (kept ∷ earlier) = rows_begun earlier ++ kept.rows
 
 -- the head of a node, from its items and the joins
-abbrev last_head : ℕ → List Item → List (ℕ × ℕ) → Option StoreView → ℕ
+abbrev last_head : ℕ → List Item → List (ℕ × ℕ) → List StoreView → ℕ
 last_head n [] joins start = start_in n joins start
 last_head n (item ∷ items) joins start = item.stamp
 
-head-skips : (n node at : ℕ) (items : List Item) (joins : List (ℕ × ℕ)) (start : Option StoreView) → (node ≡ n → ⊥)
+head-skips : (n node at : ℕ) (items : List Item) (joins : List (ℕ × ℕ)) (start : List StoreView) → (node ≡ n → ⊥)
     → last_head n items ((node, at) ∷ joins) start ≡ last_head n items joins start
 head-skips n node at [] joins start e = cond-false _ _ _ (ne_eqb _ _ e)
 head-skips n node at (item ∷ items) joins start e = refl
@@ -99,7 +94,7 @@ head-by [] n legal = refl
 head-by (Opened stamp ∷ past) n legal = head-by past n legal.1
 head-by (Started nodes ∷ past) n legal = head-by past n legal.1
 head-by (Began kept ∷ past) n legal =
-    subst (λ (p : List Step). (link_in kept n).head ≡ last_head n (items_of n p) (joins_of p) (Some kept))
+    subst (λ (p : List Step). (link_in kept n).head ≡ last_head n (items_of n p) (joins_of p) (kept ∷ begun p))
     (sym legal.0) refl
 head-by (Closed id ∷ past) n legal = head-by past n legal.1
 head-by (Vacuumed at ∷ past) n legal = head-by past n legal.1
@@ -131,7 +126,8 @@ retired-by [] n legal = refl
 retired-by (Opened stamp ∷ past) n legal = retired-by past n legal.1
 retired-by (Started nodes ∷ past) n legal = retired-by past n legal.1
 retired-by (Began kept ∷ past) n legal =
-    subst (λ (p : List Step). (link_in kept n).retired ≡ ended_by n (items_of n p) (Some kept)) (sym legal.0) refl
+    subst (λ (p : List Step). (link_in kept n).retired ≡ ended_by n (items_of n p) (kept ∷ begun p)) (sym legal.0)
+    refl
 retired-by (Closed id ∷ past) n legal = retired-by past n legal.1
 retired-by (Vacuumed at ∷ past) n legal = retired-by past n legal.1
 retired-by (PartVacuumed at dropped ∷ past) n legal = retired-by past n legal.1
@@ -175,16 +171,16 @@ count-by (Took item ∷ past) n legal =
     ]
 
 -- of a past that begins with nodes these are the items alone
-ended-none : (n : ℕ) (items : List Item) → ended_by n items None ≡ have_ended items
+ended-none : (n : ℕ) (items : List Item) → ended_by n items [] ≡ have_ended items
 ended-none n [] = refl
 ended-none n (item ∷ items) = refl
 
-pub started-retired : (past : List Step) (n : ℕ) → IsLegal past → begun past ≡ None
+pub started-retired : (past : List Step) (n : ℕ) → IsLegal past → begun past ≡ []
     → retired n past ≡ have_ended (items_of n past)
 started-retired past n legal none =
     retired-by past n legal ∙ ap (ended_by n (items_of n past)) none ∙ ended-none n (items_of n past)
 
-pub started-count : (past : List Step) (n : ℕ) → IsLegal past → begun past ≡ None
+pub started-count : (past : List Step) (n : ℕ) → IsLegal past → begun past ≡ []
     → count n past ≡ length (items_of n past)
 started-count past n legal none =
     count-by past n legal ∙ ap (λ start. counted n start + length (items_of n past)) none ∙ (omega arith)
@@ -259,7 +255,8 @@ floors-agree past other some legal legal' are =
     top-le other past (rw (← are.initial_nodes) some) legal' legal (λ n. sym (heads n)) in
     let tops : top past ≡ top other = omega arith in
     low-same (λ k. head k past) (λ k. head k other) (λ k. retired k past) (λ k. retired k other) (numbered past)
-    (numbered other) (top past) (top other) (numbered-same past other legal legal' are.begun are.initial_nodes are.joins) tops
+    (numbered other) (top past) (top other)
+    (numbered-same past other legal legal' are.begun are.initial_nodes are.joins) tops
     (λ k within. (heads k, retired-agrees past other k legal legal' are.begun (are.items k)))
 
 -- why no node joins at a start, from the number of assigned node numbers and the floor
@@ -284,19 +281,27 @@ IsFrom past row =
     ⊎ ((item : Item) × Contains (items_of row.node past) item × Contains (item_rows item) row)
 
 -- each accepted write is
-writes-from : (past : List Step) (row : Row) → IsLegal past → Contains (writes past) row → IsFrom past row
-writes-from [] row legal m = absurd (Contains-none row m)
-writes-from (Opened stamp ∷ past) row legal m = writes-from past row legal.1 m
-writes-from (Started nodes ∷ past) row legal m = writes-from past row legal.1 m
-writes-from (Began kept ∷ past) row legal m = inl (began-row kept past row legal.0 m)
-writes-from (Closed id ∷ past) row legal m = writes-from past row legal.1 m
-writes-from (Vacuumed at ∷ past) row legal m = writes-from past row legal.1 m
-writes-from (PartVacuumed at dropped ∷ past) row legal m = writes-from past row legal.1 m
-writes-from (Joined node start ∷ past) row legal m = writes-from past row legal.3 m
-writes-from (Took item ∷ past) row legal m =
+writes-from : (past : List Step) (row : Row) → Contains (writes past) row → IsFrom past row
+writes-from [] row m = absurd (Contains-none row m)
+writes-from (Opened stamp ∷ past) row m = writes-from past row m
+writes-from (Started nodes ∷ past) row m = writes-from past row m
+writes-from (Began kept ∷ past) row m =
+    elim (Contains-append_cases (writes past) kept.rows row m) [
+      | inl earlier ↦
+          elim (writes-from past row earlier) [
+            | inl began ↦ inl (Contains-append_left (rows_begun (begun past)) kept.rows row began)
+            | inr found ↦ inr found
+          ]
+      | inr here ↦ inl (Contains-append_right (rows_begun (begun past)) kept.rows row here)
+    ]
+writes-from (Closed id ∷ past) row m = writes-from past row m
+writes-from (Vacuumed at ∷ past) row m = writes-from past row m
+writes-from (PartVacuumed at dropped ∷ past) row m = writes-from past row m
+writes-from (Joined node start ∷ past) row m = writes-from past row m
+writes-from (Took item ∷ past) row m =
     elim (Contains-append_cases (writes past) (item_rows item) row m) [
       | inl earlier ↦
-          elim (writes-from past row legal.1 earlier) [
+          elim (writes-from past row earlier) [
             | inl began ↦ inl began
             | inr found ↦ inr (
               found.0,
@@ -325,7 +330,11 @@ begun-to : (past : List Step) (row : Row) → Contains (rows_begun (begun past))
 begun-to [] row m = absurd (Contains-none row m)
 begun-to (Opened stamp ∷ past) row m = begun-to past row m
 begun-to (Started nodes ∷ past) row m = begun-to past row m
-begun-to (Began kept ∷ past) row m = Contains-append_right (writes past) kept.rows row m
+begun-to (Began kept ∷ past) row m =
+    elim (Contains-append_cases (rows_begun (begun past)) kept.rows row m) [
+      | inl earlier ↦ Contains-append_left (writes past) kept.rows row (begun-to past row earlier)
+      | inr here ↦ Contains-append_right (writes past) kept.rows row here
+    ]
 begun-to (Closed id ∷ past) row m = begun-to past row m
 begun-to (Vacuumed at ∷ past) row m = begun-to past row m
 begun-to (PartVacuumed at dropped ∷ past) row m = begun-to past row m
@@ -358,30 +367,29 @@ writes-to (Took last ∷ past) n item row m r =
           (writes-to past n item row (subst (λ items. Contains items item) (items-other n last past other) m) r)
     ]
 
-writes-part : (past other : List Step) → IsLegal past → begun past ≡ begun other
+writes-part : (past other : List Step) → begun past ≡ begun other
     → ((n : ℕ) → items_of n past ≡ items_of n other) → (row : Row) → Contains (writes past) row
     → Contains (writes other) row
-writes-part past other legal start items row m =
-    elim (writes-from past row legal m) [
+writes-part past other start items row m =
+    elim (writes-from past row m) [
       | inl began ↦ begun-to other row (subst (λ from. Contains (rows_begun from) row) start began)
       | inr found ↦
           writes-to other row.node found.0 row (subst (λ is. Contains is found.0) (items row.node) found.1) found.2
     ]
 
 -- the accepted writes answer alike
-pub answers-agree : (past other : List Step) → IsLegal past → IsLegal other → AreReplicas past other
+pub answers-agree : (past other : List Step) → IsLegal past → AreReplicas past other
     → (key : List ℕ) (stamp : ℕ) → answer (writes past) key stamp ≡ answer (writes other) key stamp
-answers-agree past other legal legal' are =
-    same_rows (writes past) (writes other) (writes-row_set past legal)
-    (writes-part past other legal are.begun are.items)
-    (writes-part other past legal' (sym are.begun) (λ n. sym (are.items n)))
+answers-agree past other legal are =
+    same_rows (writes past) (writes other) (writes-row_set past legal) (writes-part past other are.begun are.items)
+    (writes-part other past (sym are.begun) (λ n. sym (are.items n)))
 
 -- and so do the stores, at each stamp from both horizons on
 pub stores-agree : (kept copy : StoreView) (past other : List Step) → Represents kept past → Represents copy other
     → AreReplicas past other → (key : List ℕ) (stamp : ℕ) → horizon past ≤ stamp → horizon other ≤ stamp
     → answer kept.rows key stamp ≡ answer copy.rows key stamp
 stores-agree kept copy past other h h' are key stamp up up' =
-    h.rows.from_horizon key stamp up ∙ answers-agree past other h.legal h'.legal are key stamp
+    h.rows.from_horizon key stamp up ∙ answers-agree past other h.legal are key stamp
     ∙ sym (h'.rows.from_horizon key stamp up')
 
 -- pasts that can meet answer alike up to the lesser floor
@@ -390,7 +398,7 @@ pub lagging-agree : (past other : List Step) → CanMeet past other → (key : L
     → answer (writes past) key stamp ≡ answer (writes other) key stamp
 lagging-agree past other meet key stamp low low' =
     sym (answers-stay past meet.more meet.legal key stamp low)
-    ∙ answers-agree (meet.more ++ past) (meet.rest ++ other) meet.legal meet.other_legal meet.meet key stamp
+    ∙ answers-agree (meet.more ++ past) (meet.rest ++ other) meet.legal meet.meet key stamp
     ∙ answers-stay other meet.rest meet.other_legal key stamp low'
 
 -- a store answers as all accepted writes do where it may be read

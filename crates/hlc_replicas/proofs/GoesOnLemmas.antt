@@ -19,7 +19,8 @@ use Rattle.hlc_core.proofs.PastLemmas.{writes-row_set}
 use Rattle.hlc_core.proofs.CheckpointLemmas.{link-is}
 use Rattle.hlc_core.proofs.StayLemmas.{floor-never_falls, nothing-before}
 use Rattle.hlc_core.proofs.Taking.{rows-body}
-use Rattle.hlc_core.proofs.AlikeLemmas.{AreAlike, alike-took, alike-joined, alike-opened, alike-closed, floors-alike}
+use Rattle.hlc_replicas.proofs.AlikeLemmas.{AreAlike, alike-took, alike-joined, alike-opened, alike-closed}
+use Rattle.hlc_replicas.proofs.AlikeLemmas.{floors-alike}
 
 -- a node that does not exist has no head
 head-none : (past : List Step) (n : ℕ) → IsLegal past → numbered past ≤ n → head n past ≡ 0
