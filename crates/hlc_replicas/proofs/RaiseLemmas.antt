@@ -6,8 +6,7 @@ use Rattle.hlc_values.proofs.MemberLemmas.{Contains-cons_cases, Contains-none}
 use Rattle.hlc_node.specs.declared.item.Item.{Item}
 use Rattle.hlc_core.specs.Past.{Step, Started, Began, Took, Opened, Closed, Vacuumed, PartVacuumed, Joined, numbered}
 use Rattle.hlc_core.specs.Past.{head, retired, top, floor, IsLegal}
-use Rattle.hlc_core.proofs.PastLemmas.{inside, rises, fresh, head-same, head-other, head-joined_other, floor-some}
-use Rattle.hlc_core.proofs.PastLemmas.{floor-le}
+use Rattle.hlc_core.proofs.PastLemmas.{inside, rises, head-same, head-other, head-joined_other, floor-some}
 
 -- the node of an accepted item is numbered
 took-inside : (past : List Step) (item : Item) → IsLegal past → Contains past (Took item)

@@ -1,6 +1,6 @@
 //! What is true of stores that begin with a state.
 ghost use Rattle.std.specs.Prelude.{◌≡◌, ◌++◌, ◌∷◌, [], ℕ, List};
-ghost use Rattle.hlc_checkpoint.specs.Checkpoint.{IsCheckpoint};
+ghost use Rattle.hlc_core.specs.Checkpoint.{IsCheckpoint};
 ghost use Rattle.hlc_events.specs.declared.event.CoreEvent.{CoreEvent as AnEvent};
 ghost use Rattle.hlc_snapshot.specs.RegistryView.{stamps};
 ghost use Rattle.hlc_vacuum.specs.Representing.{RowsRepresent};

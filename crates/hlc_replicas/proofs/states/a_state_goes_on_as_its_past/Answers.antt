@@ -1,5 +1,5 @@
 -- A state goes on as the past that led to it.
-use Rattle.std.proofs.Common.{List, ◌∷◌, [], ◌++◌}
+use Rattle.std.proofs.Common.{◌∷◌, [], ◌++◌}
 use Rattle.hlc_core.specs.Past.{Began}
 use Rattle.hlc_replicas.proofs.AlikeLemmas.{floors-alike}
 use Rattle.hlc_replicas.proofs.GoesOnLemmas.{goes-on}

@@ -1,6 +1,6 @@
 -- Each moment of a legal history is legal, whatever past it began with.
-use Rattle.std.proofs.Common.{ℕ, List, [], ◌∷◌, ◌≡◌, ap, refl, sym, subst}
-use Rattle.hlc_core.specs.Past.{Step, Started}
+use Rattle.std.proofs.Common.{ℕ, List, [], ◌∷◌, ◌≡◌, ap, refl, subst}
+use Rattle.hlc_core.specs.Past.{Started}
 use Rattle.hlc_core.specs.StoreView.{StoreView, Represents}
 use Rattle.hlc_events.specs.declared.event.CoreEvent.{CoreEvent}
 use Rattle.hlc_core.specs.declared.reply.CoreReply.{CoreReply}
