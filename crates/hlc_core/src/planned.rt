@@ -7,6 +7,7 @@ ghost use Rattle.hlc_core.specs.Planned.{IsAsked, IsPossible, IsPlannedFor, repl
 ghost use Rattle.hlc_events.specs.declared.event.CoreEvent.{CoreEvent as AnEvent};
 ghost use Rattle.hlc_core.specs.declared.reply.CoreReply.{CoreReply as AReply};
 ghost use Rattle.hlc_core.specs.declared.reply.CoreReply.TheVariants.{Refused as refused_by};
+ghost use Rattle.hlc_vacuum.specs.Representing.{IsWithin};
 
 use crate::reply::CoreReply;
 use crate::store::Core;
@@ -107,6 +108,7 @@ impl Core {
         ensures step { (nodes : ℕ) (event : AnEvent) (history : List (AnEvent × AReply))
             → IsPlannedFor self.old event planned → RepresentsHistory nodes self.old history
             → IsStep nodes self.old self.new event history result }
+        ensures within { IsWithin self.old.rows self.new.rows }
         ensures reply { result ≡ reply_of planned }
         ensures form { (event : AnEvent) → IsPlannedFor self.old event planned → IsReplyTo event result }
         ensures refused { IsRefused result → self.new ≡ self.old }

@@ -1,8 +1,9 @@
 //! The calls of a core by cases, as events with replies.
-ghost use Rattle.std.specs.Prelude.{◌≡◌, ◌≢◌, ℕ, List, IfOk, IfErr, OnErr};
+ghost use Rattle.std.specs.Prelude.{◌≡◌, ◌≢◌, ℕ, List, IfOk, IfErr, OnOk, OnErr};
 ghost use Rattle.hlc_core.specs.History.{RepresentsHistory, Steps, IsQuestion, IsVacuum, IsRefused, IsPlain, IsReplyTo};
 ghost use Rattle.hlc_events.specs.declared.event.CoreEvent.{CoreEvent as AnEvent};
 ghost use Rattle.hlc_core.specs.declared.reply.CoreReply.{CoreReply as AReply};
+ghost use Rattle.hlc_vacuum.specs.Representing.{IsWithin};
 
 use crate::reply::CoreReply;
 use crate::store::Core;
@@ -19,6 +20,7 @@ impl Core {
         ensures represents { (nodes : ℕ) (history : List (AnEvent × AReply))
             → RepresentsHistory nodes self.old history
             → Steps nodes self.old self.new event history result }
+        ensures within { IsVacuum event → OnOk result (IsWithin self.old.rows self.new.rows) }
         ensures err { IfErr result (λ back. (back.1 ≡ event) × (self.new ≡ self.old)) }
         ensures asked { IsQuestion event → self.new ≡ self.old }
         ensures refused { IfOk result (λ reply. IsRefused reply → self.new ≡ self.old) }
@@ -37,6 +39,7 @@ impl Core {
         ensures represents { (nodes : ℕ) (history : List (AnEvent × AReply))
             → RepresentsHistory nodes self.old history
             → Steps nodes self.old self.new event.now history result }
+        ensures within { IsVacuum event.now → OnOk result (IsWithin self.old.rows self.new.rows) }
         ensures unchanged { OnErr result (self.new ≡ self.old) }
         ensures asked { IsQuestion event.now → self.new ≡ self.old }
         ensures refused { IfOk result (λ reply. IsRefused reply → self.new ≡ self.old) }
@@ -89,6 +92,7 @@ impl Core {
         ensures represents { (nodes : ℕ) (history : List (AnEvent × AReply))
             → RepresentsHistory nodes self.old history
             → Steps nodes self.old self.new event.now history result }
+        ensures within { OnOk result (IsWithin self.old.rows self.new.rows) }
         ensures unchanged { OnErr result (self.new ≡ self.old) }
         ensures refused { IfOk result (λ reply. IsRefused reply → self.new ≡ self.old) }
         ensures form { IfOk result (λ reply. IsReplyTo event.now reply) }

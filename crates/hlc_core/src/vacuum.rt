@@ -1,11 +1,12 @@
 //! The vacuums of a store.
-ghost use Rattle.std.specs.Prelude.{◌≡◌, ◌≤◌, IfOk, OnErr, List};
+ghost use Rattle.std.specs.Prelude.{◌≡◌, ◌≤◌, IfOk, OnOk, OnErr, List};
 ghost use Rattle.hlc_core.specs.Past.{Step, floor};
 ghost use Rattle.hlc_core.specs.StoreView.{Represents};
 ghost use Rattle.hlc_core.specs.Parts.{VacuumsPartCounted};
 ghost use Rattle.hlc_core.specs.Calls.{Vacuums, VacuumsTo, VacuumsCounted, VacuumsToCounted};
 ghost use Rattle.hlc_core.specs.Certified.{Certifies};
 ghost use Rattle.hlc_core.specs.Checkpoint.{floor_in};
+ghost use Rattle.hlc_vacuum.specs.Representing.{IsWithin};
 
 use crate::store::Core;
 use hlc_clock::Stamp;
@@ -23,6 +24,7 @@ impl Core {
         ensures ok { IfOk result
             (λ report. (past : List Step) → Represents self.old past
             → Vacuums self.new (floor past) past report) }
+        ensures within { OnOk result (IsWithin self.old.rows self.new.rows) }
         ensures unchanged { OnErr result (self.new ≡ self.old) }
     {
         let floor = self.floor();
@@ -35,6 +37,7 @@ impl Core {
         ensures ok { IfOk result
             (λ report. (past : List Step) → Represents self.old past
             → Vacuums self.new (floor past) past report) }
+        ensures within { OnOk result (IsWithin self.old.rows self.new.rows) }
         ensures unchanged { OnErr result (self.new ≡ self.old) }
     {
         let floor = self.floor();
@@ -48,6 +51,7 @@ impl Core {
             (λ reports. (past : List Step) → Represents self.old past
             → Vacuums self.new (floor past) past reports.0) }
         ensures alike { IfOk result (λ reports. reports.0 ≡ reports.1) }
+        ensures within { OnOk result (IsWithin self.old.rows self.new.rows) }
         ensures unchanged { OnErr result (self.new ≡ self.old) }
     {
         let floor = self.floor();
@@ -66,6 +70,7 @@ impl Core {
             (λ reports. (past : List Step) → Represents self.old past
             → Vacuums self.new (floor past) past reports.0) }
         ensures alike { IfOk result (λ reports. reports.0 ≡ reports.1) }
+        ensures within { OnOk result (IsWithin self.old.rows self.new.rows) }
         ensures unchanged { OnErr result (self.new ≡ self.old) }
     {
         let floor = self.floor();
@@ -80,6 +85,7 @@ impl Core {
         ensures ok { IfOk result
             (λ numbers. (past : List Step) → Represents self.old past
             → VacuumsCounted self.new (floor past) past numbers) }
+        ensures within { OnOk result (IsWithin self.old.rows self.new.rows) }
         ensures unchanged { OnErr result (self.new ≡ self.old) }
     {
         let floor = self.floor();
@@ -96,6 +102,7 @@ impl Core {
     pub fn vacuum_to(&mut self, at: Stamp) -> Result<Report, CoreFault>
         ensures represents { (past : List Step) → Represents self.old past
             → VacuumsTo self.new at past result }
+        ensures within { OnOk result (IsWithin self.old.rows self.new.rows) }
         ensures unchanged { OnErr result (self.new ≡ self.old) }
     {
         self.check_vacuum(at)?;
@@ -107,6 +114,7 @@ impl Core {
     pub fn vacuum_to_counted(&mut self, at: Stamp) -> Result<Numbers, CoreFault>
         ensures represents { (past : List Step) → Represents self.old past
             → VacuumsToCounted self.new at past result }
+        ensures within { OnOk result (IsWithin self.old.rows self.new.rows) }
         ensures unchanged { OnErr result (self.new ≡ self.old) }
     {
         match self.check_vacuum(at) {
@@ -131,6 +139,7 @@ impl Core {
     ) -> Result<(Numbers, Option<Bytes>), CoreFault>
         ensures represents { (past : List Step) → Represents self.old past
             → VacuumsPartCounted self.old self.new at after.now limit past result }
+        ensures within { OnOk result (IsWithin self.old.rows self.new.rows) }
         ensures unchanged { OnErr result (self.new ≡ self.old) }
     {
         self.check_vacuum(at)?;
@@ -162,6 +171,7 @@ impl Core {
         ensures ok { IfOk result
             (λ numbers. (past : List Step) → Represents self.old past
             → VacuumsCounted self.new at past numbers) }
+        ensures within { OnOk result (IsWithin self.old.rows self.new.rows) }
         ensures unchanged { OnErr result (self.new ≡ self.old) }
     {
         let tally = self.tally(at)?;

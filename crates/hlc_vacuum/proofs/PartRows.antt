@@ -28,6 +28,8 @@ use Rattle.hlc_witness.specs.Cost.{rows_cost}
 use Rattle.hlc_columns.specs.Answers.{in_part, part_end, last_key}
 use Rattle.hlc_columns.specs.Table.{rows_kept}
 use Rattle.hlc_vacuum.specs.Part.{all_kept, HaveFlags, IsPartOf, IsPartVacuum}
+use Rattle.hlc_vacuum.specs.Representing.{IsWithin}
+use Rattle.hlc_vacuum.proofs.WithinLemmas.{within-same, within-twice}
 use Rattle.hlc_vacuum_draft.specs.Report.{report_of}
 use Rattle.hlc_vacuum_draft.specs.Vacuumed.{IsVacuumOf, rows_to}
 use Rattle.hlc_vacuum.specs.declared.part.PartPlan.{PartPlan}
@@ -82,6 +84,14 @@ kept_by_flags key (flag ∷ flags) (row ∷ rows) =
       | inr n ↦ let more = kept_by_flags key (flag ∷ flags) rows in
           (true ∷ more.0, kept_passes key (flag ∷ flags) row rows n ∙ ap (λ xs. row ∷ xs) more.1)
     ]
+
+-- and so for several keys
+pub kept-flags : (keys : List (List ℕ)) (flags : List Bool) (rows : List Row) → IsWithin rows (all_kept keys flags rows)
+kept-flags [] flags rows = within-same rows
+kept-flags (key ∷ keys) flags rows =
+    let n = length (rows_with key rows) in
+    within-twice rows (rows_kept key (take n flags) rows) (all_kept (key ∷ keys) flags rows)
+    (kept_by_flags key (take n flags) rows) (kept-flags keys (drop n flags) (rows_kept key (take n flags) rows))
 
 -- what is kept of a row set is a row set
 pub kept-row_set : (keys : List (List ℕ)) (flags : List Bool) (rows : List Row) → IsRowSet rows

@@ -1,11 +1,16 @@
 -- Stored rows that represent all accepted ones, whatever vacuums dropped.
-use Rattle.std.specs.Prelude.{◌≡◌, ℕ, ◌+◌, ◌<◌, ◌≤◌, ◌&&◌, List, length, Contains, filter, nat_lt, nat_le}
+use Rattle.std.specs.Prelude.{◌≡◌, ℕ, ◌+◌, ◌<◌, ◌≤◌, ◌&&◌, Bool, List, length, Contains, filter, nat_lt, nat_le}
+use Rattle.std.specs.List.{items_where_true}
 use Rattle.hlc_rows.specs.declared.row.Row.{Row}
 use Rattle.hlc_rows.specs.Rows.{answer, IsRowSet}
 use Rattle.hlc_witness.specs.declared.witness.Witness.{Witness}
 use Rattle.hlc_witness.specs.Fewest.{Fewest}
 use Rattle.hlc_witness.specs.Changes.{AreChanges}
 use Rattle.hlc_vacuum_draft.specs.Vacuumed.{rows_to}
+
+-- the new rows are the old ones at the places of some flags that are set, in the same order: none is added
+abbrev pub IsWithin : List Row → List Row → Type 0
+IsWithin old new = (keep : List Bool) × (new ≡ items_where_true keep old)
 
 -- The stored rows are among all, each row above the horizon is stored, and the answers are the same at each open stamp
 -- and at each stamp from the horizon on.

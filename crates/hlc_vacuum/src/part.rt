@@ -4,6 +4,7 @@ ghost use Rattle.hlc_clock.specs.Points.{PointsAscend};
 ghost use Rattle.hlc_columns.specs.Answers.{in_part, part_end};
 ghost use Rattle.hlc_table_column.specs.Rows.{KeyCells, keys_in};
 ghost use Rattle.hlc_vacuum.specs.Part.{all_kept, with_plan, HaveFlags, IsPartOf, IsPartTallyOf, IsPartVacuum};
+ghost use Rattle.hlc_vacuum.specs.Representing.{IsWithin};
 ghost use Rattle.hlc_vacuum_draft.specs.Plan.{PlanView, tally_of};
 ghost use Rattle.hlc_vacuum_draft.specs.Report.{numbers_in, report_of};
 
@@ -112,6 +113,7 @@ pub fn apply_part(table: &mut Table, part: PartPlan) -> (Report, Option<Bytes>)
     requires { (after : List ℕ) × (limit : ℕ) × IsPartOf part table.old after limit }
     ensures vacuumed { (after : List ℕ) (limit : ℕ) → IsPartOf part table.old after limit
         → IsPartVacuum table.old table.new (in_part after part.end) result.0 }
+    ensures within { IsWithin table.old table.new }
     ensures report { result.0 ≡ report_of part.plan }
     ensures end { result.1 ≡ part.end }
 {
@@ -127,6 +129,7 @@ pub fn apply_part_tally(table: &mut Table, part: PartTally) -> (Numbers, Option<
     ensures vacuumed { (after : List ℕ) (limit : ℕ) (plan : PlanView)
         → IsPartOf (with_plan part plan) table.old after limit → part.tally ≡ tally_of plan
         → IsPartVacuum table.old table.new (in_part after part.end) (report_of plan) }
+    ensures within { IsWithin table.old table.new }
     ensures numbers { result.0 ≡ numbers_in part.tally }
     ensures end { result.1 ≡ part.end }
 {

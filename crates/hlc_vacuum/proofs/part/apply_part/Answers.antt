@@ -2,7 +2,8 @@
 use Rattle.std.proofs.Common.{◌∙◌, ap, subst, sym}
 use Rattle.hlc_vacuum_draft.specs.Plan.{TallyView}
 use Rattle.hlc_vacuum.specs.Part.{all_kept, HaveFlags}
-use Rattle.hlc_vacuum.proofs.PartRows.{part-vacuum, part-flags}
+use Rattle.hlc_vacuum.specs.Representing.{IsWithin}
+use Rattle.hlc_vacuum.proofs.PartRows.{kept-flags, part-vacuum, part-flags}
 use Rattle.hlc_vacuum.proofs.part.apply_part.Goals as goal
 
 pub apply_to_keys-numbers-requires : goal.apply_to_keys-numbers-requires
@@ -19,3 +20,10 @@ returns-clause-vacuumed c = λ after limit h.
     ∙ ap (λ keys. all_kept keys c.tally.result.now.keep c.args.table.now) c.as_slice.ensures.value
     ∙ ap (λ (tally : TallyView). all_kept c.args.part.keys.items tally.keep c.args.table.now) c.tally.ensures)
     c.into_report.ensures
+
+pub returns-clause-within : goal.returns-clause-within
+returns-clause-within c =
+    subst (IsWithin c.args.table.now)
+    (sym (c.apply_to_keys-numbers.ensures.rows
+    ∙ ap (λ keys. all_kept keys c.tally.result.now.keep c.args.table.now) c.as_slice.ensures.value))
+    (kept-flags c.args.part.keys.items c.tally.result.now.keep c.args.table.now)

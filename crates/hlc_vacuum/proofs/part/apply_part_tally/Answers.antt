@@ -3,7 +3,8 @@ use Rattle.std.proofs.Common.{◌∙◌, ap, refl, subst, sym}
 use Rattle.hlc_vacuum_draft.specs.Plan.{TallyView}
 use Rattle.hlc_vacuum_draft.specs.Report.{report_of}
 use Rattle.hlc_vacuum.specs.Part.{all_kept, with_plan, HaveFlags}
-use Rattle.hlc_vacuum.proofs.PartRows.{part-vacuum, part-flags}
+use Rattle.hlc_vacuum.specs.Representing.{IsWithin}
+use Rattle.hlc_vacuum.proofs.PartRows.{kept-flags, part-vacuum, part-flags}
 use Rattle.hlc_vacuum.proofs.part.apply_part_tally.Goals as goal
 
 pub apply_to_keys-requires : goal.apply_to_keys-requires
@@ -21,3 +22,10 @@ returns-clause-vacuumed c = λ after limit plan h is.
     ∙ ap (λ keys. all_kept keys c.args.part.tally.keep c.args.table.now) c.as_slice.ensures.value
     ∙ ap (λ (tally : TallyView). all_kept c.args.part.keys.items tally.keep c.args.table.now) is)
     refl
+
+pub returns-clause-within : goal.returns-clause-within
+returns-clause-within c =
+    subst (IsWithin c.args.table.now)
+    (sym (c.apply_to_keys.ensures.rows
+    ∙ ap (λ keys. all_kept keys c.args.part.tally.keep c.args.table.now) c.as_slice.ensures.value))
+    (kept-flags c.args.part.keys.items c.args.part.tally.keep c.args.table.now)

@@ -6,6 +6,8 @@ use Rattle.hlc_core.specs.PlanAt.{IsPartPlanAt}
 use Rattle.hlc_core.proofs.Consistent.{consistent-fewer}
 use Rattle.hlc_core.proofs.Sound.{sound-vacuum}
 use Rattle.hlc_core.proofs.PartVacuumLemmas.{part-vacuums_keys}
+use Rattle.hlc_core.specs.StoreView.{StoreView}
+use Rattle.hlc_vacuum.specs.Representing.{IsWithin}
 use Rattle.hlc_core.proofs.store.Core.carry_out_part.Goals as goal
 
 pub apply_part-made-requires : goal.apply_part-made-requires
@@ -32,3 +34,8 @@ returns-clause-vacuums c = λ past after limit h plan.
     (part-vacuums_keys _ c.args.at past after limit c.args.part c.apply_part-made.new.table
     (rw (← c.self.view_is) at h) (rw (← c.self.view_is) at c.requires.low) (rw (← c.self.view_is) at c.requires.high)
     planned made))
+
+pub returns-clause-within : goal.returns-clause-within
+returns-clause-within c =
+    subst (λ (kept : StoreView). IsWithin kept.rows c.apply_part-made.new.table) c.self.view_is
+    c.apply_part-made.ensures.within

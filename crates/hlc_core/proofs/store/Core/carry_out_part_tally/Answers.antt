@@ -6,6 +6,8 @@ use Rattle.hlc_core.specs.PlanAt.{IsPartTallyAt}
 use Rattle.hlc_core.proofs.Consistent.{consistent-fewer}
 use Rattle.hlc_core.proofs.Sound.{sound-vacuum}
 use Rattle.hlc_core.proofs.PartVacuumLemmas.{part-vacuums_keys}
+use Rattle.hlc_core.specs.StoreView.{StoreView}
+use Rattle.hlc_vacuum.specs.Representing.{IsWithin}
 use Rattle.hlc_core.proofs.store.Core.carry_out_part_tally.Goals as goal
 
 pub apply_part_tally-made-requires : goal.apply_part_tally-made-requires
@@ -28,8 +30,8 @@ invariant_of-self c =
       sound-vacuum _ _ _ _ _ _ _ c.self.invariant.1 low made.within,
     )
 
-pub returns : goal.returns
-returns c = λ past after limit h tally.
+pub returns-clause-vacuums : goal.returns-clause-vacuums
+returns-clause-vacuums c = λ past after limit h tally.
     let of = subst (λ kept. IsPartTallyAt kept c.args.at after limit c.args.part) (sym c.self.view_is) tally in
     let made = part-vacuums_keys _ c.args.at past after limit (with_plan c.args.part of.plan)
     c.apply_part_tally-made.new.table (rw (← c.self.view_is) at h)
@@ -45,3 +47,8 @@ returns c = λ past after limit h tally.
         are = c.apply_part_tally-made.ensures.numbers ∙ ap numbers_in of.is;
       },
     ))
+
+pub returns-clause-within : goal.returns-clause-within
+returns-clause-within c =
+    subst (λ (kept : StoreView). IsWithin kept.rows c.apply_part_tally-made.new.table) c.self.view_is
+    c.apply_part_tally-made.ensures.within

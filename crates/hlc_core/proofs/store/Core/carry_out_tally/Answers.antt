@@ -17,6 +17,7 @@ use Rattle.hlc_core.proofs.VacuumLemmas.{vacuums}
 use Rattle.hlc_core.proofs.Consistent.{consistent-fewer}
 use Rattle.hlc_core.proofs.CheckpointLemmas.{floor-in}
 use Rattle.hlc_core.proofs.Sound.{sound-vacuum}
+use Rattle.hlc_vacuum.specs.Representing.{IsWithin}
 use Rattle.hlc_core.proofs.store.Core.carry_out_tally.Goals as goal
 use Rattle.hlc_core.proofs.store.Core.carry_out_tally.Goals.{After-apply_tally-numbers}
 
@@ -68,3 +69,8 @@ returns-clause-vacuums c = λ past plan h plans is.
     vacuums _ c.args.at past new (report_of plan) h' (vacuum-none past c.args.at low high) at
     (left ((goal.at.returns-clause-vacuums c).After-apply_tally-numbers) plan planned.made is)
     (points-last _ _ _ planned.points) refl dropped bytes
+
+pub returns-clause-within : goal.returns-clause-within
+returns-clause-within c =
+    subst (λ (kept : StoreView). IsWithin kept.rows c.apply_tally-numbers.new.table) c.self.view_is
+    (c.args.tally.now.keep, c.apply_tally-numbers.ensures.rows)

@@ -6,6 +6,7 @@ use Rattle.hlc_core.specs.declared.planned.Planned.{Planned}
 use Rattle.hlc_core.specs.History.{IsStep, past_of}
 use Rattle.hlc_core.specs.Planned.{IsPlannedFor}
 use Rattle.hlc_core.proofs.StepLemmas.{part_is_step}
+use Rattle.hlc_vacuum.proofs.WithinLemmas.{within-same}
 use Rattle.hlc_core.proofs.store.Core.finish.Goals as goal
 
 pub returns-in-Part-clause-step : goal.returns-in-Part-clause-step
@@ -20,3 +21,6 @@ returns-in-Part-clause-step c = λ nodes event history planned represents.
     (part_is_step nodes c.args.self.now made.new.self c.in-Part.at of.after of.limit history made.result.0 made.result.1
     represents
     (made.ensures.vacuums (past_of nodes history) of.after of.limit represents.core of.planned)))
+
+pub returns-in-Refused-clause-within : goal.returns-in-Refused-clause-within
+returns-in-Refused-clause-within c = within-same c.args.self.now.rows
