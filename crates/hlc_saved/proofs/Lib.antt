@@ -6,3 +6,4 @@ mod Pieces
 mod StorePieces
 mod Makes
 mod Savers
+mod GoesOn

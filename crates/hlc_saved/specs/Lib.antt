@@ -3,3 +3,4 @@ pub mod Writing
 pub mod Saver
 pub mod Blocks
 pub mod Faults
+pub mod GoneOn

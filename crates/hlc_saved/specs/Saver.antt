@@ -1,5 +1,5 @@
 -- The bytes of a store, made as they are read.
-use Rattle.std.specs.Prelude.{◌≡◌, ◌≢◌, ◌≤◌, ℕ, ◌+◌, ◌%◌, List, ◌++◌, Bool, true, false, length, drop, filter, fold}
+use Rattle.std.specs.Prelude.{◌≡◌, ◌≢◌, ◌≤◌, ℕ, List, ◌++◌, Bool, true, false, length, drop, filter, sum_by}
 use Rattle.std.specs.List.{flat_map}
 use Rattle.std.specs.List.Sorted.{IsPermutation}
 use Rattle.std.specs.Cmp.Lexicographic.{slice_cmp}
@@ -17,9 +17,9 @@ use Rattle.hlc_saved.specs.declared.mark.Mark.{Mark}
 use Rattle.hlc_saved.specs.declared.savings.Saver.{Saver}
 use Rattle.hlc_saved.specs.Writing.{front_of, body_to, begin_bytes, end_bytes}
 
--- how many items were accepted, as far as 64 bits hold it
+-- how many items were accepted
 abbrev pub items_in : List IntakeView → ℕ
-items_in links = fold (λ items link. (items + link.next) % 18446744073709551616) 0 links
+items_in links = sum_by (λ link. link.next) links
 
 -- what is compared to find that a store changed
 abbrev pub mark_of : StoreView → Mark

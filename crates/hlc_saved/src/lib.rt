@@ -23,7 +23,7 @@ pub use fault::{ResumeError, SaverError};
 pub use hlc_core::{Checkpoint, Core, RestoreFault, Row};
 pub use hlc_values::NoMemory;
 pub use hlc_wire::{DecodeError, WireFault};
-pub use laws::pieces_are_the_bytes;
+pub use laws::{marks_tell_changes, pieces_are_the_bytes, savings_are_of_one_state};
 pub use reader::CheckpointReader;
 pub use saving::{Resumed, copy_by_bytes, resume, save};
 pub use savings::Saver;
