@@ -10,9 +10,8 @@
  *
  * Answers. A call returns HLC_OK, the number of the first expected refusal, or HLC_CLOSED for a closed store. Every
  * call is total: it checks lengths and numbers itself, and is proved to answer as described here, whatever is passed to
- * it by the rules below. Where hlc_store_restore took bytes that neither hlc_checkpoint_make made, nor
- * hlc_increment_apply, hlc_checkpoint_split or hlc_checkpoint_merge from bytes of one store, calls are proved to be
- * safe, but not to answer as described. After any answer but HLC_OK the store, and the node, is unchanged;
+ * it by the rules below. That holds of a store from bytes too, whoever wrote them: it begins with the state that they
+ * are of, whose rows are the writes of before. After any answer but HLC_OK the store, and the node, is unchanged;
  * hlc_store_accept_all, hlc_store_accept_items, hlc_store_apply_records and hlc_node_restore describe exceptions. Every
  * answer writes to every pointer, with 0 where there is nothing to return. A buffer that an answer does not fill keeps
  * its bytes.
@@ -624,26 +623,27 @@ hlc_answer hlc_increment_apply(const uint8_t *older, size_t older_len, const uin
 
 /* Divides the bytes of a checkpoint at a key, of any bytes or none: left gets those of a checkpoint with the rows of
  * lower keys, right those with the others, and both have the links, the open snapshots, the horizon and the tag of the
- * whole. A store that is restored from a part answers at its keys as the whole store does, and goes on from the same
- * log: it takes each write of another key as a report of the same number and stamp (hlc_store_accept_report), and of a
- * batch the writes of its own keys as a batch of the same number and stamp, or such a report where it has none of them.
- * Two different outputs, without bytes, get the bytes; left_len, right_len: how many they are. word: 0, or the
- * refusal's word. Refusals, in this order: 108 where one of both outputs has bytes; 106, word: the number of the first
- * fault; 107 where a part is no checkpoint, word: the number of the first reason: each part is looked at by itself, so
- * that bytes are taken whose rows are out of order across the key alone; 15. But 15 may come in place of 106 and 107.
- * Takes memory for a few times the bytes. */
+ * whole. A store that is restored from a part answers at its keys as the whole store does, at each stamp, and goes on
+ * from the same log: it takes each write of another key as a report of the same number and stamp
+ * (hlc_store_accept_report), and of a batch the writes of its own keys as a batch of the same number and stamp, or such
+ * a report where it has none of them. Two different outputs, without bytes, get the bytes; left_len, right_len: how
+ * many they are. word: 0, or the refusal's word. Refusals, in this order: 108 where one of both outputs has bytes; 106,
+ * word: the number of the first fault; 107 where a part is no checkpoint, word: the number of the first reason: each
+ * part is looked at by itself, so that bytes are taken whose rows are out of order across the key alone; 15. But 15 may
+ * come in place of 106 and 107. Takes memory for a few times the bytes. */
 hlc_answer hlc_checkpoint_split(const uint8_t *bytes, size_t bytes_len, const uint8_t *key, size_t key_len,
                                 hlc_output *left, hlc_output *right, size_t *left_len, size_t *right_len,
                                 uint64_t *word) HLC_CHECKED(5, 6, 7, 8, 9);
 
 /* Joins the bytes of two checkpoints, of which the left one has the lower keys, into those of one with the rows of
- * both, and with the tag of the left one. If both are parts of one store that took the same log, opened and closed the
- * same snapshots and were vacuumed to the same stamp, the result answers as that store does; it is that store's byte by
- * byte if they were vacuumed when the store was. The bytes go into an output that has none; len: how many they are.
- * word: 0, or the refusal's word. Refusals, in this order: 108; 106 for the left bytes, and then for the right ones,
- * word: the number of the first fault; 113, word: what does not fit, which may be 4 where the rows of one of both are
- * out of order; 107 where what both make is no checkpoint, word: the number of the first reason; 15. But 15 may come in
- * place of all others but 108. Takes memory for a few times the bytes. */
+ * both, and with the tag of the left one. Whatever each of both took, the result answers each key as the one that it is
+ * of, at each stamp: a key below the first of the right one is of the left one. If both are parts of one store that
+ * took the same log, opened and closed the same snapshots and were vacuumed to the same stamp, the result answers as
+ * that store does; it is that store's byte by byte if they were vacuumed when the store was. The bytes go into an
+ * output that has none; len: how many they are. word: 0, or the refusal's word. Refusals, in this order: 108; 106 for
+ * the left bytes, and then for the right ones, word: the number of the first fault; 113, word: what does not fit, which
+ * may be 4 where the rows of one of both are out of order; 107 where what both make is no checkpoint, word: the number
+ * of the first reason; 15. But 15 may come in place of all others but 108. Takes memory for a few times the bytes. */
 hlc_answer hlc_checkpoint_merge(const uint8_t *left, size_t left_len, const uint8_t *right, size_t right_len,
                                 hlc_output *output, size_t *len, uint64_t *word) HLC_CHECKED(5, 6, 7);
 

@@ -30,14 +30,15 @@ use Rattle.hlc_witness.specs.Certificate.{RowsAscend}
 use Rattle.hlc_witness.proofs.CertificateLemmas.{ascending_rows_are_a_row_set}
 use Rattle.hlc_checkpoint.specs.Sorted.{rows_above}
 use Rattle.hlc_checkpoint.proofs.CheckpointLemmas.{row_set-moved, sound-has_no_reason}
-use Rattle.hlc_core.specs.Past.{Step, Started, Took, Opened, Closed, Vacuumed, PartVacuumed, Joined, floor, horizon}
-use Rattle.hlc_core.specs.Past.{vacuumed}
+use Rattle.hlc_core.specs.Past.{Step, Started, Began, Took, Opened, Closed, Vacuumed, PartVacuumed, Joined, floor}
+use Rattle.hlc_core.specs.Past.{horizon, vacuumed}
 use Rattle.hlc_core.specs.Past.{initial_nodes, part_dropped, last_id, open_snapshots, writes, item_rows}
 use Rattle.hlc_core.specs.Past.{body_rows, IsLegal}
 use Rattle.hlc_core.specs.StoreView.{StoreView, with_rows, Represents}
 use Rattle.hlc_core.specs.Checkpoint.{IsCheckpoint, floor_in}
-use Rattle.hlc_core.proofs.PastLemmas.{above_floor, body_rows-are, open-above, vacuumed-low}
-use Rattle.hlc_core.proofs.StayLemmas.{answers-stay, floor-never_falls}
+use Rattle.hlc_core.proofs.BeganLemmas.{began-positive}
+use Rattle.hlc_core.proofs.PastLemmas.{above_floor, body_rows-are, open-above, positive, vacuumed-low}
+use Rattle.hlc_core.proofs.StayLemmas.{answers-stay, floor-never_falls, nothing-before}
 use Rattle.hlc_core.proofs.CheckpointLemmas.{copy-represents, floor-in}
 use Rattle.hlc_increment.specs.declared.advancing.AdvanceFault.{AdvanceFault}
 use Rattle.hlc_increment.specs.declared.advancing.AdvanceFault.TheVariants as faults
@@ -53,6 +54,8 @@ writes-kept past (Took item ∷ more) row m =
     Contains-append_left (writes (more ++ past)) (item_rows item) row (writes-kept past more row m)
 writes-kept past (Opened stamp ∷ more) row m = writes-kept past more row m
 writes-kept past (Started nodes ∷ more) row m = writes-kept past more row m
+writes-kept past (Began kept ∷ more) row m =
+    Contains-append_left (writes (more ++ past)) kept.rows row (writes-kept past more row m)
 writes-kept past (Closed id ∷ more) row m = writes-kept past more row m
 writes-kept past (Vacuumed at ∷ more) row m = writes-kept past more row m
 writes-kept past (PartVacuumed at dropped ∷ more) row m = writes-kept past more row m
@@ -78,6 +81,9 @@ writes-before past (Took item ∷ more) row legal m low =
     ]
 writes-before past (Opened stamp ∷ more) row legal m low = writes-before past more row legal.1 m low
 writes-before past (Started nodes ∷ more) row legal m low = writes-before past more row legal.1 m low
+writes-before past (Began kept ∷ more) row legal m low =
+    absurd (let none : floor past ≡ 0 = ap floor (nothing-before more past legal.0) in
+    let up : 0 < row.stamp = positive (Began kept ∷ (more ++ past)) legal row m in omega (arith, none, up, low))
 writes-before past (Closed id ∷ more) row legal m low = writes-before past more row legal.1 m low
 writes-before past (Vacuumed at ∷ more) row legal m low = writes-before past more row legal.1 m low
 writes-before past (PartVacuumed at dropped ∷ more) row legal m low =
@@ -99,6 +105,14 @@ none-between low high node at (Batch writes) up = batch-above low high node at w
 none-between low high node at Report up = refl
 none-between low high node at Retire up = refl
 
+-- none of the rows of a list that are all above the higher stamp is between
+rows-above : (low high : ℕ) (rows : List Row) → ((row : Row) → Contains rows row → high < row.stamp)
+    → count_between low high rows ≡ 0
+rows-above low high [] up = refl
+rows-above low high (row ∷ rows) up =
+    let off = lt-leb row.stamp high (up row (Contains-first row rows)) in
+    let rest = rows-above low high rows (λ r m. up r (Contains-rest row r rows m)) in grind (arith, off, rest)
+
 between-stays : (past more : List Step) (low high : ℕ) → IsLegal (more ++ past)
     → high ≤ floor past → count_between low high (writes (more ++ past)) ≡ count_between low high (writes past)
 between-stays past [] low high legal under = refl
@@ -114,6 +128,15 @@ between-stays past (Opened stamp ∷ more) low high legal under =
     between-stays past more low high legal.1 under
 between-stays past (Started nodes ∷ more) low high legal under =
     between-stays past more low high legal.1 under
+between-stays past (Began kept ∷ more) low high legal under =
+    let none : floor past ≡ 0 = ap floor (nothing-before more past legal.0) in
+    let old = between-stays past more low high legal.1 under in
+    let new = rows-above low high kept.rows (λ row m.
+    let up : 0 < row.stamp = began-positive kept row legal.2 m in omega (arith, none, up, under)) in
+    let is_in : Row → Bool = λ row. ltb low row.stamp && leb row.stamp high in
+    let both = ap length (filter-append is_in (writes (more ++ past)) kept.rows)
+    ∙ length-append (filter is_in (writes (more ++ past))) (filter is_in kept.rows) in
+    omega (arith, old, new, both)
 between-stays past (Closed id ∷ more) low high legal under =
     between-stays past more low high legal.1 under
 between-stays past (Vacuumed at ∷ more) low high legal under =
@@ -166,6 +189,8 @@ open-before past (Opened at ∷ more) stamp legal m low =
           let e : at ≡ stamp = new in omega (arith, grown))
     ]
 open-before past (Started nodes ∷ more) stamp legal m low = open-before past more stamp legal.1 m low
+open-before past (Began kept ∷ more) stamp legal m low =
+    absurd (let none : horizon past ≡ 0 = ap horizon (nothing-before more past legal.0) in omega (arith, none, low))
 open-before past (Closed id ∷ more) stamp legal m low =
     open-before past more stamp legal.1 (stamps-without id (open_snapshots (more ++ past)) stamp m) low
 open-before past (Took item ∷ more) stamp legal m low = open-before past more stamp legal.1 m low

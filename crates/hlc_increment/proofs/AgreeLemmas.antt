@@ -3,13 +3,13 @@
 use Rattle.std.proofs.Common.{◌≡◌, ℕ, ◌≤◌, List, [], ◌∷◌, ◌++◌, refl, ap, sym, ◌∙◌}
 use Rattle.std.proofs.Common.{subst, arith}
 use Rattle.hlc_node.specs.declared.item.Item.{Item}
-use Rattle.hlc_core.specs.Past.{Step, Started, Took, Opened, Closed, Vacuumed, PartVacuumed, Joined}
+use Rattle.hlc_core.specs.Past.{Step, Started, Began, Took, Opened, Closed, Vacuumed, PartVacuumed, Joined}
 use Rattle.hlc_core.specs.Past.{horizon, writes, item_rows, IsLegal, item_refusal}
 use Rattle.hlc_core.specs.Past.{open_refusal, vacuum_refusal, part_dropped, vacuumed}
 use Rattle.hlc_core.specs.Stored.{AreLastChanges}
 use Rattle.hlc_witness.specs.declared.witness.Witness.{Witness}
 use Rattle.hlc_replicas.proofs.AlikeLemmas.{AreAlike, alike-itself, alike-started, alike-took, alike-joined}
-use Rattle.hlc_replicas.proofs.AlikeLemmas.{alike-opened, alike-closed, floors-alike}
+use Rattle.hlc_replicas.proofs.AlikeLemmas.{alike-began, alike-opened, alike-closed, floors-alike}
 use Rattle.hlc_increment.specs.Increment.{without_drops}
 
 -- two pasts agree in all that refusals and reads look at
@@ -38,6 +38,12 @@ drops-agree (Started nodes ∷ more) past =
       alike = alike-started (without_drops more ++ past) (more ++ past) nodes are.alike;
       horizons = are.horizons;
       rows = are.rows;
+    }
+drops-agree (Began kept ∷ more) past =
+    let are = drops-agree more past in record {
+      alike = alike-began (without_drops more ++ past) (more ++ past) kept;
+      horizons = refl;
+      rows = ap (λ rows. rows ++ kept.rows) are.rows;
     }
 drops-agree (Closed id ∷ more) past =
     let are = drops-agree more past in record {
@@ -91,6 +97,11 @@ drops-legal (Started nodes ∷ more) past legal = (
   drops-none more past legal.0,
   drops-legal more past legal.1,
 )
+drops-legal (Began kept ∷ more) past legal = (
+  drops-none more past legal.0,
+  drops-legal more past legal.1,
+  legal.2,
+)
 drops-legal (Closed id ∷ more) past legal = (
   rw (drops-agree more past).alike.5 legal.0,
   drops-legal more past legal.1,
@@ -117,6 +128,7 @@ drops-part_nothing [] past = refl
 drops-part_nothing (Took item ∷ more) past = drops-part_nothing more past
 drops-part_nothing (Opened stamp ∷ more) past = drops-part_nothing more past
 drops-part_nothing (Started nodes ∷ more) past = drops-part_nothing more past
+drops-part_nothing (Began kept ∷ more) past = drops-part_nothing more past
 drops-part_nothing (Closed id ∷ more) past = drops-part_nothing more past
 drops-part_nothing (Vacuumed at ∷ more) past = (let h = drops-part_nothing more past in omega (arith, h))
 drops-part_nothing (PartVacuumed at dropped ∷ more) past = (let h = drops-part_nothing more past in omega (arith, h))
@@ -127,6 +139,7 @@ drops-vacuumed [] past = refl
 drops-vacuumed (Took item ∷ more) past = drops-vacuumed more past
 drops-vacuumed (Opened stamp ∷ more) past = drops-vacuumed more past
 drops-vacuumed (Started nodes ∷ more) past = drops-vacuumed more past
+drops-vacuumed (Began kept ∷ more) past = drops-vacuumed more past
 drops-vacuumed (Closed id ∷ more) past = drops-vacuumed more past
 drops-vacuumed (Vacuumed at ∷ more) past = drops-vacuumed more past
 drops-vacuumed (PartVacuumed at dropped ∷ more) past = drops-vacuumed more past
@@ -138,6 +151,7 @@ drops-last_changes [] past changes are = are
 drops-last_changes (Took item ∷ more) past changes are = drops-last_changes more past changes are
 drops-last_changes (Opened stamp ∷ more) past changes are = drops-last_changes more past changes are
 drops-last_changes (Started nodes ∷ more) past changes are = drops-last_changes more past changes are
+drops-last_changes (Began kept ∷ more) past changes are = drops-last_changes more past changes are
 drops-last_changes (Closed id ∷ more) past changes are = drops-last_changes more past changes are
 drops-last_changes (Vacuumed at ∷ more) past changes are = drops-last_changes more past changes are
 drops-last_changes (PartVacuumed at dropped ∷ more) past changes are = drops-last_changes more past changes are
@@ -148,6 +162,7 @@ drops-append [] past = refl
 drops-append (Took item ∷ more) past = ap (λ (p : List Step). Took item ∷ p) (drops-append more past)
 drops-append (Opened stamp ∷ more) past = ap (λ (p : List Step). Opened stamp ∷ p) (drops-append more past)
 drops-append (Started nodes ∷ more) past = ap (λ (p : List Step). Started nodes ∷ p) (drops-append more past)
+drops-append (Began kept ∷ more) past = ap (λ (p : List Step). Began kept ∷ p) (drops-append more past)
 drops-append (Closed id ∷ more) past = ap (λ (p : List Step). Closed id ∷ p) (drops-append more past)
 drops-append (Vacuumed at ∷ more) past = ap (λ (p : List Step). PartVacuumed at 0 ∷ p) (drops-append more past)
 drops-append (PartVacuumed at dropped ∷ more) past =

@@ -17,11 +17,12 @@ use Rattle.hlc_table_column.proofs.FlagLemmas.{filter-IsRowSet}
 use Rattle.hlc_vacuum.proofs.CountLemmas.{same_above}
 use Rattle.hlc_checkpoint.specs.Sorted.{rows_above}
 use Rattle.hlc_checkpoint.proofs.CheckpointLemmas.{row_set-moved}
-use Rattle.hlc_core.specs.Past.{Step, Started, Took, Opened, Closed, Vacuumed, PartVacuumed, Joined, initial_nodes}
-use Rattle.hlc_core.specs.Past.{numbered, count, head, retired, last_id, horizon, open_snapshots, writes, floor}
-use Rattle.hlc_core.specs.Past.{IsLegal}
+use Rattle.hlc_core.specs.Past.{Step, Started, Began, Took, Opened, Closed, Vacuumed, PartVacuumed, Joined}
+use Rattle.hlc_core.specs.Past.{initial_nodes, numbered, count, head, retired, last_id, horizon, open_snapshots}
+use Rattle.hlc_core.specs.Past.{floor, writes, IsLegal}
 use Rattle.hlc_core.specs.StoreView.{StoreView, with_rows, Represents}
 use Rattle.hlc_core.proofs.PastLemmas.{inside}
+use Rattle.hlc_core.proofs.StayLemmas.{nothing-before}
 use Rattle.hlc_replicas.proofs.AlikeLemmas.{AreAlike, alike-itself}
 use Rattle.hlc_core.proofs.CheckpointLemmas.{copy-represents, floor-in}
 use Rattle.hlc_increment.specs.Increment.{IncrementView, IsIncrementOf, IsAdvanced, AreFitting, IsOpenOrNew}
@@ -49,10 +50,6 @@ found-by_id id (x ∷ xs) is = elim (cases_eq x.id id) [
       (found.0, Contains-rest x found.0 xs found.1, found.2)
 ]
 
-nothing-below : (more past : List Step) → more ++ past ≡ [] → past ≡ []
-nothing-below [] past none = none
-nothing-below (step ∷ more) past none = absurd (cc)
-
 -- so nothing took place between them but vacuums
 only-vacuums : (past more : List Step) → IsLegal (more ++ past) → IsNoLater past (more ++ past)
     → AreAlike (more ++ past) past × (writes (more ++ past) ≡ writes past)
@@ -67,11 +64,15 @@ only-vacuums past (Took item ∷ more) legal is =
     let most = is.counts item.node here in
     absurd (omega (arith, next, was, most))
 only-vacuums past (Opened stamp ∷ more) legal is =
-    absurd (let grown = last_id-grows past more in let most = is.last_id in omega (arith, grown, most))
+    absurd (let grown = last_id-grows past more legal.1 in let most = is.last_id in omega (arith, grown, most))
 only-vacuums past (Started nodes ∷ more) legal is =
-    absurd (let none : past ≡ [] = nothing-below more past legal.0 in
+    absurd (let none : past ≡ [] = nothing-before more past legal.0 in
     let zero : numbered past ≡ 0 = ap numbered none in
     let some = is.some in let few = is.nodes in omega (arith, zero, some, few))
+only-vacuums past (Began kept ∷ more) legal is =
+    absurd (let zero : numbered past ≡ 0 = ap numbered (nothing-before more past legal.0) in
+    let linked = legal.2.store.sound.nodes.linked in
+    let some = is.some in let few = is.nodes in omega (arith, zero, linked, some, few))
 only-vacuums past (Closed id ∷ more) legal is =
     let now : List Step = more ++ past in
     let kept : (snapshot : Snapshot) → Contains (open_snapshots (Closed id ∷ now)) snapshot
@@ -107,7 +108,7 @@ only-vacuums past (PartVacuumed at dropped ∷ more) legal is =
       snapshots = is.snapshots;
     })
 only-vacuums past (Joined node start ∷ more) legal is =
-    absurd (let grown = numbered-grows past more in let few = is.nodes in omega (arith, grown, few))
+    absurd (let grown = numbered-grows past more legal.3 in let few = is.nodes in omega (arith, grown, few))
 
 -- The older checkpoint may itself be what increments made: then the vacuums since a first one dropped none of its rows.
 module _ (older earlier made : StoreView) (increment : IncrementView) (past mid more : List Step)
@@ -167,7 +168,7 @@ module _ (older earlier made : StoreView) (increment : IncrementView) (past mid 
             let bounded : snapshot.id ≤ increment.state.last_id =
             (All-contains (λ (s : Snapshot). (0 < s.id) × (s.id ≤ increment.state.last_id)) increment.state.snapshots
             snapshot fit.state.store.register.bounded there).1 in
-            let grown = last_id-grows base more in
+            let grown = last_id-grows base more h.legal in
             subst (λ (xs : List Snapshot). Contains xs snapshot) h.snapshots
             (All-contains (IsOpenOrNew older) increment.state.snapshots snapshot fit.later.snapshots there
             (omega (arith, bounded, last, is, is', grown)));

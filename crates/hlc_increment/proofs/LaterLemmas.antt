@@ -4,7 +4,7 @@ use Rattle.std.proofs.Common.{◌≡◌, ℕ, ◌+◌, ◌<◌, ◌≤◌, List,
 use Rattle.std.proofs.Common.{◌∙◌, subst, inl, inr, arith, None, not, get_or}
 use Rattle.std.specs.Prelude.{◌==◌}
 use Rattle.std.proofs.lemmas.Bool.{cond-true, cases_eq, eq-eqb}
-use Rattle.std.proofs.lemmas.List.Elements.{Contains-get_or, Contains-push_cases}
+use Rattle.std.proofs.lemmas.List.Elements.{All-contains, Contains-get_or, Contains-push_cases}
 use Rattle.std.proofs.lemmas.Option.{get_or_from_slice_get}
 use Rattle.hlc_values.proofs.MemberLemmas.{Contains-from_filter}
 use Rattle.hlc_node.specs.declared.item.Item.{Item}
@@ -12,12 +12,13 @@ use Rattle.hlc_rows.specs.declared.row.Row.{Row}
 use Rattle.hlc_intake.specs.IntakeView.{IntakeView}
 use Rattle.hlc_heads.specs.Heads.{link_at, no_link}
 use Rattle.hlc_snapshot.specs.declared.snapshot.Snapshot.{Snapshot}
-use Rattle.hlc_core.specs.Past.{Step, Started, Took, Opened, Closed, Vacuumed, PartVacuumed, Joined, horizon}
+use Rattle.hlc_core.specs.Past.{Step, Started, Began, Took, Opened, Closed, Vacuumed, PartVacuumed, Joined, horizon}
 use Rattle.hlc_core.specs.Past.{initial_nodes, numbered, count, head, retired, last_id, open_snapshots, item_refusal}
 use Rattle.hlc_core.specs.Past.{IsLegal}
 use Rattle.hlc_core.specs.StoreView.{StoreView, with_rows, AreLinks, Represents}
 use Rattle.hlc_core.proofs.PastLemmas.{rises, still_here, head-same, head-other, head-joined_other, retired-other}
 use Rattle.hlc_core.proofs.PastLemmas.{count-other, vacuum-above}
+use Rattle.hlc_core.proofs.StayLemmas.{nothing-before}
 use Rattle.hlc_increment.specs.Increment.{IsLaterLink, AreLaterLinks, MayBeLater}
 
 -- the horizon never falls
@@ -27,6 +28,9 @@ horizon-grows past [] legal = omega arith
 horizon-grows past (Took item ∷ more) legal = horizon-grows past more legal.1
 horizon-grows past (Opened stamp ∷ more) legal = horizon-grows past more legal.1
 horizon-grows past (Started nodes ∷ more) legal = horizon-grows past more legal.1
+horizon-grows past (Began kept ∷ more) legal =
+    let none : horizon past ≡ 0 = ap horizon (nothing-before more past legal.0) in
+    let goal : horizon past ≤ kept.horizon = omega (arith, none) in goal
 horizon-grows past (Closed id ∷ more) legal = horizon-grows past more legal.1
 horizon-grows past (Vacuumed at ∷ more) legal =
     let before = horizon-grows past more legal.1 in
@@ -37,15 +41,19 @@ horizon-grows past (PartVacuumed at dropped ∷ more) legal =
 horizon-grows past (Joined node start ∷ more) legal = horizon-grows past more legal.3
 
 -- the numbers of nodes are not assigned again
-pub numbered-grows : (past more : List Step) → numbered past ≤ numbered (more ++ past)
-numbered-grows past [] = omega arith
-numbered-grows past (Took item ∷ more) = numbered-grows past more
-numbered-grows past (Opened stamp ∷ more) = numbered-grows past more
-numbered-grows past (Started nodes ∷ more) = (let h = numbered-grows past more in omega (arith, h))
-numbered-grows past (Closed id ∷ more) = numbered-grows past more
-numbered-grows past (Vacuumed at ∷ more) = numbered-grows past more
-numbered-grows past (PartVacuumed at dropped ∷ more) = numbered-grows past more
-numbered-grows past (Joined node start ∷ more) = (let h = numbered-grows past more in omega (arith, h))
+pub numbered-grows : (past more : List Step) → IsLegal (more ++ past) → numbered past ≤ numbered (more ++ past)
+numbered-grows past [] legal = omega arith
+numbered-grows past (Took item ∷ more) legal = numbered-grows past more legal.1
+numbered-grows past (Opened stamp ∷ more) legal = numbered-grows past more legal.1
+numbered-grows past (Started nodes ∷ more) legal = (let h = numbered-grows past more legal.1 in omega (arith, h))
+numbered-grows past (Began kept ∷ more) legal =
+    let none : numbered past ≡ 0 = ap numbered (nothing-before more past legal.0) in
+    let goal : numbered past ≤ length kept.links = omega (arith, none) in goal
+numbered-grows past (Closed id ∷ more) legal = numbered-grows past more legal.1
+numbered-grows past (Vacuumed at ∷ more) legal = numbered-grows past more legal.1
+numbered-grows past (PartVacuumed at dropped ∷ more) legal = numbered-grows past more legal.1
+numbered-grows past (Joined node start ∷ more) legal =
+    (let h = numbered-grows past more legal.3 in omega (arith, h))
 
 -- and so is the number of those at the start
 pub initial_nodes-stay : (past more : List Step) → 0 < initial_nodes past → IsLegal (more ++ past)
@@ -56,21 +64,27 @@ initial_nodes-stay past (Opened stamp ∷ more) some legal = initial_nodes-stay 
 initial_nodes-stay past (Started nodes ∷ more) some legal =
     absurd (let none : initial_nodes (more ++ past) ≡ 0 = ap initial_nodes legal.0 in
     let same = initial_nodes-stay past more some legal.1 in omega (arith, some, none, same))
+initial_nodes-stay past (Began kept ∷ more) some legal =
+    absurd (let none : initial_nodes past ≡ 0 = ap initial_nodes (nothing-before more past legal.0) in
+    omega (arith, some, none))
 initial_nodes-stay past (Closed id ∷ more) some legal = initial_nodes-stay past more some legal.1
 initial_nodes-stay past (Vacuumed at ∷ more) some legal = initial_nodes-stay past more some legal.1
 initial_nodes-stay past (PartVacuumed at dropped ∷ more) some legal = initial_nodes-stay past more some legal.1
 initial_nodes-stay past (Joined node start ∷ more) some legal = initial_nodes-stay past more some legal.3
 
 -- nor do the ids of snapshots fall
-pub last_id-grows : (past more : List Step) → last_id past ≤ last_id (more ++ past)
-last_id-grows past [] = omega arith
-last_id-grows past (Took item ∷ more) = last_id-grows past more
-last_id-grows past (Opened stamp ∷ more) = (let h = last_id-grows past more in omega (arith, h))
-last_id-grows past (Started nodes ∷ more) = last_id-grows past more
-last_id-grows past (Closed id ∷ more) = last_id-grows past more
-last_id-grows past (Vacuumed at ∷ more) = last_id-grows past more
-last_id-grows past (PartVacuumed at dropped ∷ more) = last_id-grows past more
-last_id-grows past (Joined node start ∷ more) = last_id-grows past more
+pub last_id-grows : (past more : List Step) → IsLegal (more ++ past) → last_id past ≤ last_id (more ++ past)
+last_id-grows past [] legal = omega arith
+last_id-grows past (Took item ∷ more) legal = last_id-grows past more legal.1
+last_id-grows past (Opened stamp ∷ more) legal = (let h = last_id-grows past more legal.1 in omega (arith, h))
+last_id-grows past (Started nodes ∷ more) legal = last_id-grows past more legal.1
+last_id-grows past (Began kept ∷ more) legal =
+    let none : last_id past ≡ 0 = ap last_id (nothing-before more past legal.0) in
+    let goal : last_id past ≤ kept.last_id = omega (arith, none) in goal
+last_id-grows past (Closed id ∷ more) legal = last_id-grows past more legal.1
+last_id-grows past (Vacuumed at ∷ more) legal = last_id-grows past more legal.1
+last_id-grows past (PartVacuumed at dropped ∷ more) legal = last_id-grows past more legal.1
+last_id-grows past (Joined node start ∷ more) legal = last_id-grows past more legal.3
 
 -- what a past says of the link of a node
 abbrev pub link_of : ℕ → List Step → IntakeView
@@ -120,12 +134,15 @@ link-goes_on past (Took item ∷ more) n legal within =
     (link-goes_on past more n legal.1 within) (took-goes_on (more ++ past) item n legal.0)
 link-goes_on past (Opened stamp ∷ more) n legal within = link-goes_on past more n legal.1 within
 link-goes_on past (Started nodes ∷ more) n legal within = link-goes_on past more n legal.1 within
+link-goes_on past (Began kept ∷ more) n legal within =
+    absurd (let none : numbered past ≡ 0 = ap numbered (nothing-before more past legal.0) in
+    omega (arith, within, none))
 link-goes_on past (Closed id ∷ more) n legal within = link-goes_on past more n legal.1 within
 link-goes_on past (Vacuumed at ∷ more) n legal within = link-goes_on past more n legal.1 within
 link-goes_on past (PartVacuumed at dropped ∷ more) n legal within = link-goes_on past more n legal.1 within
 link-goes_on past (Joined node start ∷ more) n legal within =
     let was = link-goes_on past more n legal.3 within in
-    let grown = numbered-grows past more in
+    let grown = numbered-grows past more legal.3 in
     let last : head n (Joined node start ∷ (more ++ past)) ≡ head n (more ++ past) =
     head-joined_other n node start (more ++ past) (λ same. omega (arith, legal.1, grown, within, same)) in
     record {
@@ -139,7 +156,7 @@ links-go_on : (older newer : List IntakeView) (past more : List Step) → IsLega
 links-go_on older newer past more legal h g =
     let before : length older ≡ numbered past = h.many in
     let after : length newer ≡ numbered (more ++ past) = g.many in
-    let grown = numbered-grows past more in
+    let grown = numbered-grows past more legal in
     record {
       many = omega (arith, before, after, grown);
       each = λ n lt.
@@ -154,25 +171,31 @@ links-go_on older newer past more legal h g =
     }
 
 -- a snapshot whose id was assigned before was open then, so no closed one is open again
-opened-before : (past more : List Step) (snapshot : Snapshot) → Contains (open_snapshots (more ++ past)) snapshot
-    → snapshot.id ≤ last_id past → Contains (open_snapshots past) snapshot
-opened-before past [] snapshot m low = m
-opened-before past (Opened at ∷ more) snapshot m low =
+opened-before : (past more : List Step) (snapshot : Snapshot) → IsLegal (more ++ past)
+    → Contains (open_snapshots (more ++ past)) snapshot → snapshot.id ≤ last_id past
+    → Contains (open_snapshots past) snapshot
+opened-before past [] snapshot legal m low = m
+opened-before past (Opened at ∷ more) snapshot legal m low =
     let new : Snapshot = record { id = last_id (more ++ past) + 1; stamp = at } in
     elim (Contains-push_cases (open_snapshots (more ++ past)) new snapshot m) [
-      | inl old ↦ opened-before past more snapshot old low
-      | inr same ↦ absurd (let grown = last_id-grows past more in
+      | inl old ↦ opened-before past more snapshot legal.1 old low
+      | inr same ↦ absurd (let grown = last_id-grows past more legal.1 in
           let e : last_id (more ++ past) + 1 ≡ snapshot.id = ap (λ (s : Snapshot). s.id) same in
           omega (arith, grown, e, low))
     ]
-opened-before past (Started nodes ∷ more) snapshot m low = opened-before past more snapshot m low
-opened-before past (Closed id ∷ more) snapshot m low =
-    opened-before past more snapshot
+opened-before past (Started nodes ∷ more) snapshot legal m low = opened-before past more snapshot legal.1 m low
+opened-before past (Began kept ∷ more) snapshot legal m low =
+    absurd (let none : last_id past ≡ 0 = ap last_id (nothing-before more past legal.0) in
+    let first = (All-contains (λ (s : Snapshot). (0 < s.id) × (s.id ≤ kept.last_id)) kept.snapshots snapshot
+    legal.2.store.register.bounded m).0 in omega (arith, none, first, low))
+opened-before past (Closed id ∷ more) snapshot legal m low =
+    opened-before past more snapshot legal.1
     (Contains-from_filter (λ (s : Snapshot). not (s.id == id)) (open_snapshots (more ++ past)) snapshot m).0 low
-opened-before past (Took item ∷ more) snapshot m low = opened-before past more snapshot m low
-opened-before past (Vacuumed at ∷ more) snapshot m low = opened-before past more snapshot m low
-opened-before past (PartVacuumed at dropped ∷ more) snapshot m low = opened-before past more snapshot m low
-opened-before past (Joined node start ∷ more) snapshot m low = opened-before past more snapshot m low
+opened-before past (Took item ∷ more) snapshot legal m low = opened-before past more snapshot legal.1 m low
+opened-before past (Vacuumed at ∷ more) snapshot legal m low = opened-before past more snapshot legal.1 m low
+opened-before past (PartVacuumed at dropped ∷ more) snapshot legal m low =
+    opened-before past more snapshot legal.1 m low
+opened-before past (Joined node start ∷ more) snapshot legal m low = opened-before past more snapshot legal.3 m low
 
 -- so what a store becomes may be later than what it was, whatever rows are listed with it
 pub later-goes_on : (older newer : StoreView) (rows : List Row) (past more : List Step) → Represents older past
@@ -182,10 +205,10 @@ later-goes_on older newer rows past more h g some = record {
   links = links-go_on older.links newer.links past more g.legal h.links g.links;
   horizon = (let before = h.horizon in let after = g.horizon in let rose = horizon-grows past more g.legal in
       omega (arith, before, after, rose));
-  last_id = (let before = h.last_id in let after = g.last_id in let grown = last_id-grows past more in
+  last_id = (let before = h.last_id in let after = g.last_id in let grown = last_id-grows past more g.legal in
       omega (arith, before, after, grown));
   snapshots = λ k d lt low.
       let m : Contains newer.snapshots (get_or newer.snapshots k d) = Contains-get_or newer.snapshots k d lt in
-      rw h.snapshots (opened-before past more (get_or newer.snapshots k d) (rw (← g.snapshots) m)
+      rw h.snapshots (opened-before past more (get_or newer.snapshots k d) g.legal (rw (← g.snapshots) m)
       (rw (← h.last_id) low));
 }

@@ -6,7 +6,7 @@ use Rattle.hlc_heads.specs.Heads.{link_at}
 use Rattle.hlc_snapshot.specs.declared.snapshot.Snapshot.{Snapshot}
 use Rattle.hlc_table_column.specs.Rows.{rows_to}
 use Rattle.hlc_witness.specs.Certificate.{RowsAscend}
-use Rattle.hlc_core.specs.Past.{Step, Started, Took, Opened, Closed, Vacuumed, Joined, PartVacuumed}
+use Rattle.hlc_core.specs.Past.{Step, Started, Began, Took, Opened, Closed, Vacuumed, Joined, PartVacuumed}
 use Rattle.hlc_core.specs.StoreView.{StoreView, with_rows}
 use Rattle.hlc_core.specs.Checkpoint.{IsCheckpoint, IsCopyAbove, IsFirstReason, floor_in}
 use Rattle.hlc_increment.specs.declared.increment.IncrementFault.{IncrementFault}
@@ -36,6 +36,7 @@ pub record IsAdvanced (older : StoreView) (increment : IncrementView) (made : St
 abbrev pub without_drops : List Step → List Step
 without_drops [] = []
 without_drops (Started nodes ∷ past) = Started nodes ∷ without_drops past
+without_drops (Began kept ∷ past) = Began kept ∷ without_drops past
 without_drops (Took item ∷ past) = Took item ∷ without_drops past
 without_drops (Opened stamp ∷ past) = Opened stamp ∷ without_drops past
 without_drops (Closed id ∷ past) = Closed id ∷ without_drops past

@@ -1,20 +1,16 @@
 -- Some of the rows of a checkpoint ascend as its rows do, so a part of it is a checkpoint.
-use Rattle.std.proofs.Common.{◌≡◌, ℕ, Bool, true, false, cond, ◌<◌, ◌≤◌, List, [], ◌∷◌, filter, Less, Ordering}
+use Rattle.std.proofs.Common.{◌≡◌, ℕ, Bool, true, false, cond, List, [], ◌∷◌, filter, Less, Ordering}
 use Rattle.std.specs.List.{AllByRecursion}
 use Rattle.std.specs.List.Sorted.{IsStrictlySortedBy}
 use Rattle.std.proofs.lemmas.List.Elements.{All-filter}
 use Rattle.hlc_rows.specs.declared.row.Row.{Row}
-use Rattle.hlc_heads.specs.declared.heads.TheConstants.{MAX_INITIAL_NODES}
 use Rattle.hlc_table_column.proofs.FlagLemmas.{filter-IsRowSet}
-use Rattle.hlc_witness.specs.Certificate.{RowsAscend, row_cmp}
+use Rattle.hlc_witness.specs.Certificate.{row_cmp}
 use Rattle.hlc_witness.specs.Cost.{IsInLimits}
-use Rattle.hlc_core.specs.Past.{Step}
-use Rattle.hlc_core.specs.StoreView.{StoreView, Represents}
+use Rattle.hlc_core.specs.StoreView.{StoreView}
 use Rattle.hlc_checkpoint.specs.StoreView.{IsUnderHead}
 use Rattle.hlc_checkpoint.specs.Checkpoint.{IsCheckpoint}
-use Rattle.hlc_core.proofs.CheckpointLemmas.{checkpoint-sound}
 use Rattle.hlc_split.specs.Split.{part_of}
-use Rattle.hlc_split.proofs.PartRows.{represents-part}
 
 all-filter : {X : Type 0} (P : X → Type 0) (p : X → Bool) (xs : List X) → AllByRecursion P xs
     → AllByRecursion P (filter p xs)
@@ -25,7 +21,7 @@ all-filter P p (x ∷ xs) h =
       | false ↦ all-filter P p xs h.1
     ]
 
-sorted-filter : {X : Type 0} (c : X → X → Ordering) (p : X → Bool) (xs : List X) → IsStrictlySortedBy c xs
+pub sorted-filter : {X : Type 0} (c : X → X → Ordering) (p : X → Bool) (xs : List X) → IsStrictlySortedBy c xs
     → IsStrictlySortedBy c (filter p xs)
 unfolding IsStrictlySortedBy
 sorted-filter c p [] h = tt
@@ -59,10 +55,3 @@ part-is_checkpoint kept is_of is =
       };
       ascend = sorted-filter row_cmp is_in kept.rows is.ascend;
     }
-
-pub part-restores : (kept : StoreView) (past : List Step) (is_of : List ℕ → Bool) → Represents kept past
-    → 0 < kept.initial_nodes → kept.initial_nodes ≤ MAX_INITIAL_NODES → RowsAscend kept.rows
-    → IsCheckpoint (part_of is_of kept)
-part-restores kept past is_of h some few up =
-    checkpoint-sound (part_of is_of kept) _ (represents-part kept past is_of h).represents some few
-    (sorted-filter row_cmp (λ (row : Row). is_of row.key) kept.rows up)

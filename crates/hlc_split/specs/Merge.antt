@@ -1,5 +1,5 @@
 -- When two checkpoints are joined into one, and the first reason why they are not.
-use Rattle.std.specs.Prelude.{◌≡◌, ◌≢◌, ℕ, List, codes, true, All, MatchOption, ⊤, slice_get}
+use Rattle.std.specs.Prelude.{◌≡◌, ◌≢◌, ℕ, Bool, List, [], ◌∷◌, codes, true, All, MatchOption, ⊤, slice_get}
 use Rattle.hlc_rows.specs.declared.row.Row.{Row}
 use Rattle.hlc_core.specs.StoreView.{StoreView}
 use Rattle.hlc_split.specs.Split.{is_under, is_from}
@@ -19,6 +19,12 @@ HaveSameSnapshots left right = (left.last_id ≡ right.last_id) × (left.snapsho
 abbrev pub AreDivided : List Row → List Row → Type 0
 AreDivided left right = MatchOption (slice_get right 0) ⊤ (λ first.
     All (λ row. is_under first.key row.key ≡ true) left × All (λ row. is_from first.key row.key ≡ true) right)
+
+-- Of two lists that are divided, where the right one is this, a key is of the left one: it is below the first key of
+-- the right one, or that has none.
+abbrev pub is_of_left : List Row → List ℕ → Bool
+is_of_left [] key = true
+is_of_left (first ∷ rest) key = is_under first.key key
 
 -- links, snapshots and horizons are equal, and the keys are divided
 abbrev pub AreJoinable : StoreView → StoreView → Type 0

@@ -1,12 +1,14 @@
 //! Two checkpoints joined into one.
 ghost use Rattle.std.specs.Prelude.{◌≡◌, ◌++◌, ◌∷◌, ◌↔◌, not, true, All, IfOk, IfErr, OnOk, OnErr, IsTrue};
-ghost use Rattle.std.specs.Prelude.{ℕ, Bool, List};
+ghost use Rattle.std.specs.Prelude.{ℕ, Bool, List, if◌then◌else◌};
+ghost use Rattle.hlc_rows.specs.Rows.{answer};
+ghost use Rattle.hlc_checkpoint.specs.Checkpoint.{IsCheckpoint};
 ghost use Rattle.hlc_core.specs.Past.{Step, PartVacuumed, IsLegal};
 ghost use Rattle.hlc_core.specs.StoreView.{with_rows, Represents};
 ghost use Rattle.hlc_split.specs.Split.{RepresentsPart, is_under, is_from};
 ghost use Rattle.hlc_split.specs.OwnPast.{IsOwnPast};
 ghost use Rattle.hlc_split.specs.Merge.{AreDivided, AreJoinable, HaveSameLinks, HaveSameSnapshots};
-ghost use Rattle.hlc_split.specs.Merge.{IsReason, merge_code};
+ghost use Rattle.hlc_split.specs.Merge.{IsReason, is_of_left, merge_code};
 
 use crate::halves::is_under;
 use hlc_checkpoint::Checkpoint;
@@ -63,19 +65,27 @@ impl fmt::Display for MergeFault {
 impl Error for MergeFault {}
 
 /// Joins two checkpoints, of which the left one has the lower keys: the state of both, with the rows of the left one
-/// before those of the right one. If both represent their parts of one past, the result represents all of it, and its
-/// vacuums are parts of one. If they were parts and went on, each vacuumed when it chose but to one stamp in the end,
-/// it represents what both took, vacuumed to that stamp.
+/// before those of the right one. Whatever each of them took, the result answers each key as the one that it is of, at
+/// each stamp, and is a checkpoint if both are: a store that is restored from it represents a past that begins with it.
+///
+/// If both represent their parts of one past, the result represents all of it, and its vacuums are parts of one. If they
+/// were parts and went on, each vacuumed when it chose but to one stamp in the end, it represents what both took,
+/// vacuumed to that stamp.
 ///
 /// Refused for the first reason of `MergeFault`; memory is needed only after the check. Both are moved, and lost if it
 /// is refused. It looks at each link, each open snapshot and each row once, and copies no row.
-#[tactic(auto, using(crate::proofs::Joined::merged_represents))]
+#[tactic(auto, using(crate::proofs::Joined::merged_represents, crate::proofs::Sides::merged_answers, crate::proofs::Sides::merged_is_checkpoint))]
 pub fn merge(
     left: Checkpoint,
     right: Checkpoint,
 ) -> Result<Result<Checkpoint, MergeFault>, NoMemory>
     ensures ok { IfOk result (λ made. IfOk made
         (λ whole. whole ≡ with_rows left (left.rows ++ right.rows))) }
+    ensures answers { (key : List ℕ) (stamp : ℕ) → IfOk result (λ made. IfOk made
+        (λ whole. answer whole.rows key stamp
+        ≡ (if is_of_left right.rows key then answer left.rows key stamp else answer right.rows key stamp))) }
+    ensures checkpoint { IsCheckpoint left → IsCheckpoint right
+        → IfOk result (λ made. IfOk made IsCheckpoint) }
     ensures represents { (past : List Step) (is_of : List ℕ → Bool) → IsLegal past
         → RepresentsPart is_of left past → RepresentsPart (λ key. not (is_of key)) right past
         → IfOk result (λ made. IfOk made (λ whole. RepresentsPart (λ _. true) whole past)) }

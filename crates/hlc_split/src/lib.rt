@@ -5,7 +5,7 @@ mod exact;
 mod halves;
 mod joining;
 
-ghost use Rattle.std.specs.Prelude.{◌≡◌, ◌<◌, ◌≤◌, ◌++◌, ◌∷◌, ℕ, Bool, true, not, List};
+ghost use Rattle.std.specs.Prelude.{◌≡◌, ◌<◌, ◌≤◌, ◌++◌, ◌∷◌, ℕ, Bool, true, not, List, if◌then◌else◌};
 ghost use Rattle.hlc_rows.specs.Rows.{answer};
 ghost use Rattle.hlc_core.specs.Past.{Step, PartVacuumed, IsLegal, writes, floor, horizon, open_snapshots};
 ghost use Rattle.hlc_core.specs.StoreView.{StoreView, with_rows, Represents};
@@ -14,6 +14,9 @@ ghost use Rattle.hlc_witness.specs.Certificate.{RowsAscend};
 ghost use Rattle.hlc_heads.specs.declared.heads.TheConstants.{MAX_INITIAL_NODES};
 ghost use Rattle.hlc_split.specs.Split.{RepresentsPart, part_of, past_in};
 ghost use Rattle.hlc_split.specs.OwnPast.{IsOwnPast};
+ghost use Rattle.hlc_split.specs.Merge.{AreDivided, AreJoinable, is_of_left};
+ghost use Rattle.hlc_rows.specs.declared.row.Row.{Row as ARow};
+ghost use Rattle.hlc_core.specs.Parts.{rows_of_keys};
 
 pub use halves::split;
 pub use joining::{MergeFault, merge};
@@ -43,6 +46,19 @@ pub fn parts_restore()
     ensures represents { (kept : StoreView) (past : List Step) (is_of : List ℕ → Bool) → Represents kept past
         → 0 < kept.initial_nodes → kept.initial_nodes ≤ MAX_INITIAL_NODES → RowsAscend kept.rows
         → IsCheckpoint (part_of is_of kept) }
+{}
+
+/// Stored rows answer at each key as those of its kind of keys do, at each stamp; and two stores whose keys are divided
+/// answer together as the one that the key is of does. They are a checkpoint if both are. No past is needed for that.
+pub fn stored_rows_answer_alike()
+    ensures parts { (rows : List ARow) (is_of : List ℕ → Bool) (key : List ℕ) (stamp : ℕ)
+        → answer rows key stamp ≡ (if is_of key then answer (rows_of_keys is_of rows) key stamp
+        else answer (rows_of_keys (λ other. not (is_of other)) rows) key stamp) }
+    ensures joined { (left right : List ARow) (key : List ℕ) (stamp : ℕ) → AreDivided left right
+        → answer (left ++ right) key stamp
+        ≡ (if is_of_left right key then answer left key stamp else answer right key stamp) }
+    ensures checkpoint { (left right : StoreView) → AreJoinable left right → IsCheckpoint left
+        → IsCheckpoint right → IsCheckpoint (with_rows left (left.rows ++ right.rows)) }
 {}
 
 /// The stores of the keys of a kind and of the others, of one past, are together a store of all keys: one with the rows

@@ -121,8 +121,9 @@ pub fn split_checkpoint(checkpoint: &[u8], key: &[u8]) -> Result<(Vec<u8>, Vec<u
 }
 
 /// Returns the bytes of the checkpoint that two neighbouring parts become, of which the left one has the lower keys. It
-/// has the tag of the left one. If both are parts of one store that took the same log, opened and closed the same
-/// snapshots and were vacuumed to the same stamp, the result answers as that store does.
+/// has the tag of the left one. It answers each key as the part that the key is of. If both are parts of one store that
+/// took the same log, opened and closed the same snapshots and were vacuumed to the same stamp, it answers as that store
+/// does.
 ///
 /// Refusals, in this order: `BadBytes`, of the left part and then of the right one; `NotParts`, with the number of the
 /// first thing that differs; `NoCheckpoint`; `NoMemory`, which may come in place of each.
