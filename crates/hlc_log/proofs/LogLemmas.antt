@@ -11,12 +11,13 @@ use Rattle.std.proofs.lemmas.List.Elements.{All-push, All-head, All-tail}
 use Rattle.std.proofs.lemmas.Grind.{flat_map-append}
 use Rattle.hlc_node.specs.declared.item.Item.{Item as AnItem}
 use Rattle.hlc_wire.proofs.FieldLemmas.{IsBytes}
-use Rattle.hlc_core.specs.Past.{Step, Started, Took, Opened, Closed, Vacuumed, PartVacuumed, Joined, numbered, count}
-use Rattle.hlc_core.specs.Past.{item_refusal}
+use Rattle.hlc_core.specs.Past.{Step, Started, Began, Took, Opened, Closed, Vacuumed, PartVacuumed, Joined, numbered}
+use Rattle.hlc_core.specs.Past.{count, item_refusal}
+use Rattle.hlc_core.specs.Replicas.{begun}
 use Rattle.hlc_core.specs.Past.{IsLegal}
 use Rattle.hlc_core.specs.StoreView.{StoreView, Represents}
 use Rattle.hlc_core.proofs.PastLemmas.{IsAdmissible, admissible, inside, on_link}
-use Rattle.hlc_core.proofs.StayLemmas.{legal-before}
+use Rattle.hlc_core.proofs.StayLemmas.{legal-before, nothing-before}
 use Rattle.hlc_log.specs.declared.record.Record.{Record}
 use Rattle.hlc_log.specs.declared.record.Record.TheVariants.{Item, Join, Threshold}
 use Rattle.hlc_log.specs.declared.apply.RecordFault.{RecordFault}
@@ -127,18 +128,45 @@ applied_all core bytes rest past least many greatest end result so is made =
 
 -- ---- read again
 
-numbered-grows : (past : List Step) (step : Step) → numbered past ≤ numbered (step ∷ past)
-numbered-grows past (Started nodes) = omega arith
-numbered-grows past (Took item) = omega arith
-numbered-grows past (Opened stamp) = omega arith
-numbered-grows past (Closed id) = omega arith
-numbered-grows past (Vacuumed at) = omega arith
-numbered-grows past (PartVacuumed at dropped) = omega arith
-numbered-grows past (Joined node start) = omega arith
+-- of steps that are no states each one is none
+later-begins : (step : Step) (more : List Step) → begun (step ∷ more) ≡ None → begun more ≡ None
+later-begins (Started nodes) more none = none
+later-begins (Began kept) more none = absurd (cc)
+later-begins (Took item) more none = none
+later-begins (Opened stamp) more none = none
+later-begins (Closed id) more none = none
+later-begins (Vacuumed at) more none = none
+later-begins (PartVacuumed at dropped) more none = none
+later-begins (Joined node start) more none = none
 
-count-grows : (n : ℕ) (past : List Step) (step : Step) → count n past ≤ count n (step ∷ past)
-count-grows n past (Started nodes) = omega arith
-count-grows n past (Took item) =
+-- and no state comes after something
+none-begins : (past more : List Step) → (past ≡ [] → ⊥) → IsLegal (more ++ past) → begun more ≡ None
+none-begins past [] some legal = refl
+none-begins past (Started nodes ∷ more) some legal = none-begins past more some legal.1
+none-begins past (Began kept ∷ more) some legal = absurd (some (nothing-before more past legal.0))
+none-begins past (Took item ∷ more) some legal = none-begins past more some legal.1
+none-begins past (Opened stamp ∷ more) some legal = none-begins past more some legal.1
+none-begins past (Closed id ∷ more) some legal = none-begins past more some legal.1
+none-begins past (Vacuumed at ∷ more) some legal = none-begins past more some legal.1
+none-begins past (PartVacuumed at dropped ∷ more) some legal = none-begins past more some legal.1
+none-begins past (Joined node start ∷ more) some legal = none-begins past more some legal.3
+
+numbered-grows : (past : List Step) (step : Step) (more : List Step) → begun (step ∷ more) ≡ None
+    → numbered past ≤ numbered (step ∷ past)
+numbered-grows past (Started nodes) more none = omega arith
+numbered-grows past (Began kept) more none = absurd (cc)
+numbered-grows past (Took item) more none = omega arith
+numbered-grows past (Opened stamp) more none = omega arith
+numbered-grows past (Closed id) more none = omega arith
+numbered-grows past (Vacuumed at) more none = omega arith
+numbered-grows past (PartVacuumed at dropped) more none = omega arith
+numbered-grows past (Joined node start) more none = omega arith
+
+count-grows : (n : ℕ) (past : List Step) (step : Step) (more : List Step) → begun (step ∷ more) ≡ None
+    → count n past ≤ count n (step ∷ past)
+count-grows n past (Started nodes) more none = omega arith
+count-grows n past (Began kept) more none = absurd (cc)
+count-grows n past (Took item) more none =
     elim (cases_eq item.node n) [
       | inl same ↦
           let e : count n (Took item ∷ past) ≡ count n past + 1 = cond-true _ _ _ (eq-eqb _ _ same) in
@@ -147,41 +175,58 @@ count-grows n past (Took item) =
           let e : count n (Took item ∷ past) ≡ count n past = cond-false _ _ _ (ne_eqb _ _ other) in
           omega (arith, e)
     ]
-count-grows n past (Opened stamp) = omega arith
-count-grows n past (Closed id) = omega arith
-count-grows n past (Vacuumed at) = omega arith
-count-grows n past (PartVacuumed at dropped) = omega arith
-count-grows n past (Joined node start) = omega arith
+count-grows n past (Opened stamp) more none = omega arith
+count-grows n past (Closed id) more none = omega arith
+count-grows n past (Vacuumed at) more none = omega arith
+count-grows n past (PartVacuumed at dropped) more none = omega arith
+count-grows n past (Joined node start) more none = omega arith
 
 -- a record that came before has still come before after any more steps
-came-stays : (past more : List Step) (entry : Record) → came_before past entry ≡ true
+came-stays : (past more : List Step) (entry : Record) → begun more ≡ None → came_before past entry ≡ true
     → came_before (more ++ past) entry ≡ true
-came-stays past [] entry came = came
-came-stays past (step ∷ more) (Item item) came =
-    let before = and_parts _ _ (came-stays past more (Item item) came) in
+came-stays past [] entry none came = came
+came-stays past (step ∷ more) (Item item) none came =
+    let before = and_parts _ _ (came-stays past more (Item item) (later-begins step more none) came) in
     let low : item.node < numbered (more ++ past) = ltb-true _ _ before.0 in
     let old : item.number < count item.node (more ++ past) = ltb-true _ _ before.1 in
-    let wide = numbered-grows (more ++ past) step in
-    let long = count-grows item.node (more ++ past) step in
+    let wide = numbered-grows (more ++ past) step more none in
+    let long = count-grows item.node (more ++ past) step more none in
     let here : item.node < numbered (step ∷ (more ++ past)) = omega (arith, low, wide) in
     let past' : item.number < count item.node (step ∷ (more ++ past)) = omega (arith, old, long) in
     and_from _ _ (lt-ltb _ _ here) (lt-ltb _ _ past')
-came-stays past (step ∷ more) (Join node start) came =
+came-stays past (step ∷ more) (Join node start) none came =
     let low : node < numbered (more ++ past) =
-    ltb-true _ _ (came-stays past more (Join node start) came) in
-    let wide = numbered-grows (more ++ past) step in
+    ltb-true _ _ (came-stays past more (Join node start) (later-begins step more none) came) in
+    let wide = numbered-grows (more ++ past) step more none in
     let here : node < numbered (step ∷ (more ++ past)) = omega (arith, low, wide) in
     lt-ltb _ _ here
-came-stays past (step ∷ more) (Threshold at) came = came
+came-stays past (step ∷ more) (Threshold at) none came = came
+
+-- nothing comes before nothing
+came-some : (past : List Step) (entry : Record) → came_before past entry ≡ true → past ≡ [] → ⊥
+came-some past (Item item) came e =
+    let before = and_parts _ _ (subst (λ (p : List Step). came_before p (Item item) ≡ true) e came) in
+    let low : item.node < 0 = ltb-true _ _ before.0 in
+    omega arith
+came-some past (Join node start) came e =
+    let low : node < 0 = ltb-true _ _ (subst (λ (p : List Step). came_before p (Join node start) ≡ true) e came) in
+    omega arith
+came-some past (Threshold at) came e = cc
 
 -- a record is passed over: it came before, or is no step
 abbrev IsPassed : List Step → Record → Type 0
 IsPassed past entry = (came_before past entry ≡ true) ⊎ (step_of entry ≡ [])
 
-passed-stays : (past more : List Step) (entry : Record) → IsPassed past entry
+passed-stays : (past more : List Step) (entry : Record) → begun more ≡ None → IsPassed past entry
     → IsPassed (more ++ past) entry
-passed-stays past more entry (inl came) = inl (came-stays past more entry came)
-passed-stays past more entry (inr none) = inr none
+passed-stays past more entry steps (inl came) = inl (came-stays past more entry steps came)
+passed-stays past more entry steps (inr none) = inr none
+
+passed-legal : (past more : List Step) (entry : Record) → IsLegal (more ++ past) → IsPassed past entry
+    → IsPassed (more ++ past) entry
+passed-legal past more entry legal (inl came) =
+    inl (came-stays past more entry (none-begins past more (came-some past entry came) legal) came)
+passed-legal past more entry legal (inr none) = inr none
 
 passed-is : (past : List Step) (entry : Record) → IsPassed past entry
     → with_record entry past ≡ past
@@ -258,9 +303,10 @@ all-passed [] past legal = tt
 all-passed (entry ∷ records) past legal =
     let here : List Step = with_record entry past in
     let later = steps-of records here in
-    let ok : IsLegal here = legal-before here later.0 (subst IsLegal later.1 legal) in (
+    let on : IsLegal (later.0 ++ here) = subst IsLegal later.1 legal in
+    let ok : IsLegal here = legal-before here later.0 on in (
       subst (λ (p : List Step). IsPassed p entry) (sym later.1)
-          (passed-stays here later.0 entry (after-itself past entry ok)),
+          (passed-legal here later.0 entry on (after-itself past entry ok)),
       all-passed records here legal,
     )
 
@@ -282,12 +328,20 @@ read-again past before again rest legal =
     (subst (λ (p : List Step). ArePassed p again) (sym e)
     (all-passed again (with_records before past) (subst IsLegal e legal)))
 
--- a record that was read once is passed over, whatever took place since
-pub once-passed : (past more : List Step) (entry : Record) → IsLegal (with_record entry past)
+-- a record that was read once is passed over, whatever took place since, but for a state
+pub once-passed : (past more : List Step) (entry : Record) → IsLegal (with_record entry past) → begun more ≡ None
     → with_record entry (more ++ with_record entry past) ≡ more ++ with_record entry past
-once-passed past more entry legal =
+once-passed past more entry legal none =
     passed-is (more ++ with_record entry past) entry
-    (passed-stays (with_record entry past) more entry (after-itself past entry legal))
+    (passed-stays (with_record entry past) more entry none (after-itself past entry legal))
+
+-- and no state takes place in a legal past
+pub legally-passed : (past more : List Step) (entry : Record) → IsLegal (more ++ with_record entry past)
+    → with_record entry (more ++ with_record entry past) ≡ more ++ with_record entry past
+legally-passed past more entry legal =
+    passed-is (more ++ with_record entry past) entry
+    (passed-legal (with_record entry past) more entry legal
+    (after-itself past entry (legal-before (with_record entry past) more legal)))
 
 -- records that are passed over change nothing
 pub over-all : (past : List Step) (again rest : List Record) → All (λ entry. with_record entry past ≡ past) again

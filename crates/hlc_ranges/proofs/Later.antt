@@ -6,14 +6,14 @@ use Rattle.std.proofs.lemmas.List.Elements.{Contains-append_left}
 use Rattle.hlc_values.proofs.MemberLemmas.{Contains-none}
 use Rattle.hlc_rows.specs.declared.row.Row.{Row}
 use Rattle.hlc_rows.specs.Rows.{answer}
-use Rattle.hlc_core.specs.Past.{Step, Started, Took, Opened, Closed, Vacuumed, PartVacuumed, Joined, floor, writes}
-use Rattle.hlc_core.specs.Past.{item_rows}
+use Rattle.hlc_core.specs.Past.{Step, Started, Began, Took, Opened, Closed, Vacuumed, PartVacuumed, Joined, floor}
+use Rattle.hlc_core.specs.Past.{writes, item_rows}
 use Rattle.hlc_core.specs.Past.{IsLegal as IsLegalPast}
 use Rattle.hlc_core.proofs.StayLemmas.{floor-never_falls}
 use Rattle.hlc_core.proofs.PastLemmas.{above_floor, body_rows-are, writes-row_set}
 use Rattle.hlc_ranges.specs.Run.{Layout, Turn, Issued, Sent, Received, Observed, Stepped, past_of, step_rows, IsLegal}
 use Rattle.hlc_ranges.specs.Cut.{IsCut}
-use Rattle.hlc_ranges.proofs.Turns.{past-same, past-other, past-legal}
+use Rattle.hlc_ranges.proofs.Turns.{past-same, past-other, past-legal, stepped-none}
 use Rattle.hlc_ranges.proofs.NewestWrites.{answer-in_part, step-writes}
 
 -- the legal step of a store
@@ -60,6 +60,7 @@ row-above (Took item) past row legal m =
 row-above (Joined node start) past row legal m = absurd (Contains-none row m)
 row-above (Opened stamp) past row legal m = absurd (Contains-none row m)
 row-above (Started nodes) past row legal m = absurd (Contains-none row m)
+row-above (Began kept) past row legal m = absurd (Contains-none row m)
 row-above (Closed id) past row legal m = absurd (Contains-none row m)
 row-above (Vacuumed at) past row legal m = absurd (Contains-none row m)
 row-above (PartVacuumed at dropped) past row legal m = absurd (Contains-none row m)
@@ -78,7 +79,7 @@ old-rows layout run (Stepped t step ∷ later) s row legal m low =
       | inr other ↦ old-rows layout run later s row legal.1
           (subst (λ p. Contains (writes p) row) (past-other layout s t step (later ++ run) other) m) low
       | inl same ↦
-          elim (step-writes step (past_of layout s (later ++ run)) row
+          elim (step-writes step (past_of layout s (later ++ run)) row (stepped-none layout t step (later ++ run) legal)
           (subst (λ p. Contains (writes p) row) (past-same layout s t step (later ++ run) same) m)) [
             | inl old ↦ old-rows layout run later s row legal.1 old low
             | inr fresh ↦ absurd
@@ -97,6 +98,7 @@ step-keeps (Took item) past row m = Contains-append_left (writes past) (item_row
 step-keeps (Joined node start) past row m = m
 step-keeps (Opened stamp) past row m = m
 step-keeps (Started nodes) past row m = m
+step-keeps (Began kept) past row m = Contains-append_left (writes past) kept.rows row m
 step-keeps (Closed id) past row m = m
 step-keeps (Vacuumed at) past row m = m
 step-keeps (PartVacuumed at dropped) past row m = m

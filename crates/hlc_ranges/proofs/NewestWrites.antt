@@ -16,15 +16,16 @@ use Rattle.hlc_node.specs.declared.item.Body.TheVariants.{Write, Batch, Report, 
 use Rattle.hlc_rows.specs.Rows.{newest, answer, IsRowSet}
 use Rattle.hlc_rows.proofs.NewestLemmas.{newest_is_greatest, answer_none, answer_some}
 use Rattle.hlc_vacuum_draft.proofs.PartLemmas.{newest_in_part, none_in_part}
-use Rattle.hlc_core.specs.Past.{Step, Started, Took, Opened, Closed, Vacuumed, PartVacuumed, Joined, writes, body_rows}
-use Rattle.hlc_core.specs.Past.{item_rows}
+use Rattle.hlc_core.specs.Past.{Step, Started, Began, Took, Opened, Closed, Vacuumed, PartVacuumed, Joined, writes}
+use Rattle.hlc_core.specs.Past.{body_rows, item_rows}
+use Rattle.hlc_core.specs.Replicas.{begun}
 use Rattle.hlc_core.proofs.PastLemmas.{body_rows-are, took-writes, writes-row_set}
 use Rattle.hlc_ranges.specs.Run.{Layout, Turn, Issued, Sent, Received, Observed, Stepped, past_of, issued, IsRouted}
 use Rattle.hlc_ranges.specs.Run.{IsIssuedStep, IsLegal, step_rows, issued_writes, accepted_writes}
 use Rattle.hlc_ranges.specs.Cut.{IsCut, AreNewestAccepted, AreNewestIssued}
 use Rattle.hlc_ranges.proofs.Pasts.{writes-from}
 use Rattle.hlc_ranges.proofs.Turns.{past-same, past-other, issued-same, issued-other_node, issued-other}
-use Rattle.hlc_ranges.proofs.Turns.{past-legal}
+use Rattle.hlc_ranges.proofs.Turns.{past-legal, past-starts, stepped-none}
 use Rattle.hlc_ranges.proofs.Cuts.{issued-keeps, issued-from, complete}
 
 -- if a row set has some of the rows of a list, and the newest of a key there, it gives the same answer
@@ -166,7 +167,7 @@ newest-issued layout run stamp legal cut = λ key at low.
     answer-in_part (writes (past_of layout s run)) (issued_writes run) key at
     (writes-row_set (past_of layout s run) (past-legal layout run s legal))
     (λ row m.
-    let w = writes-from (past_of layout s run) row m in
+    let w = writes-from (past_of layout s run) row (past-starts layout run s legal) m in
     issued_writes-have run s w.item.node w.item row (accepted-issued layout run s w.item legal w.accepted) w.of)
     (λ row m of_key below.
     let w = issued_writes-from run row m in
@@ -181,15 +182,16 @@ newest-issued layout run stamp legal cut = λ key at low.
     (subst (λ k. Contains (past_of layout k run) (Took w.item)) at' accepted) w.of)
 
 -- a write after a step is an old one, or that of the step
-pub step-writes : (step : Step) (past : List Step) (row : Row) → Contains (writes (step ∷ past)) row
-    → Contains (writes past) row ⊎ Contains (step_rows step) row
-step-writes (Took item) past row m = Contains-append_cases (writes past) (item_rows item) row m
-step-writes (Opened stamp) past row m = inl m
-step-writes (Started nodes) past row m = inl m
-step-writes (Closed id) past row m = inl m
-step-writes (Vacuumed at) past row m = inl m
-step-writes (PartVacuumed at dropped) past row m = inl m
-step-writes (Joined node start) past row m = inl m
+pub step-writes : (step : Step) (past : List Step) (row : Row) → begun (step ∷ []) ≡ None
+    → Contains (writes (step ∷ past)) row → Contains (writes past) row ⊎ Contains (step_rows step) row
+step-writes (Took item) past row none m = Contains-append_cases (writes past) (item_rows item) row m
+step-writes (Opened stamp) past row none m = inl m
+step-writes (Started nodes) past row none m = inl m
+step-writes (Began kept) past row none m = absurd (cc)
+step-writes (Closed id) past row none m = inl m
+step-writes (Vacuumed at) past row none m = inl m
+step-writes (PartVacuumed at dropped) past row none m = inl m
+step-writes (Joined node start) past row none m = inl m
 
 -- an accepted item stays one
 pub past-keeps : (layout : Layout) (t : ℕ) (step : Step) (run : List Turn) (s : ℕ) (item : Item)
@@ -203,24 +205,24 @@ past-keeps layout t step run s item m =
     ]
 
 -- the writes of a store are among the accepted ones
-accepted_writes-have : (layout : Layout) (run : List Turn) (s : ℕ) (row : Row)
+accepted_writes-have : (layout : Layout) (run : List Turn) (s : ℕ) (row : Row) → IsLegal layout run
     → Contains (writes (past_of layout s run)) row
     → Contains (accepted_writes run) row
-accepted_writes-have layout [] s row m = absurd (Contains-none row m)
-accepted_writes-have layout (Issued t x ∷ run) s row m = accepted_writes-have layout run s row m
-accepted_writes-have layout (Sent k st ∷ run) s row m = accepted_writes-have layout run s row m
-accepted_writes-have layout (Received k j st ∷ run) s row m = accepted_writes-have layout run s row m
-accepted_writes-have layout (Observed k t at st ∷ run) s row m = accepted_writes-have layout run s row m
-accepted_writes-have layout (Stepped t step ∷ run) s row m =
+accepted_writes-have layout [] s row legal m = absurd (Contains-none row m)
+accepted_writes-have layout (Issued t x ∷ run) s row legal m = accepted_writes-have layout run s row legal.1 m
+accepted_writes-have layout (Sent k st ∷ run) s row legal m = accepted_writes-have layout run s row legal.1 m
+accepted_writes-have layout (Received k j st ∷ run) s row legal m = accepted_writes-have layout run s row legal.1 m
+accepted_writes-have layout (Observed k t at st ∷ run) s row legal m = accepted_writes-have layout run s row legal.1 m
+accepted_writes-have layout (Stepped t step ∷ run) s row legal m =
     elim (cases_eq t s) [
       | inr other ↦ Contains-append_left (accepted_writes run) (step_rows step) row
-          (accepted_writes-have layout run s row
+          (accepted_writes-have layout run s row legal.1
           (subst (λ p. Contains (writes p) row) (past-other layout s t step run other) m))
       | inl same ↦
-          elim (step-writes step (past_of layout s run) row
+          elim (step-writes step (past_of layout s run) row (stepped-none layout t step run legal)
           (subst (λ p. Contains (writes p) row) (past-same layout s t step run same) m)) [
             | inl old ↦ Contains-append_left (accepted_writes run) (step_rows step) row
-                (accepted_writes-have layout run s row old)
+                (accepted_writes-have layout run s row legal.1 old)
             | inr fresh ↦ Contains-append_right (accepted_writes run) (step_rows step) row fresh
           ]
     ]
@@ -252,6 +254,7 @@ of_store-step layout t (Took item) run row m = record {
 }
 of_store-step layout t (Opened stamp) run row m = absurd (Contains-none row m)
 of_store-step layout t (Started nodes) run row m = absurd (Contains-none row m)
+of_store-step layout t (Began kept) run row m = absurd (Contains-none row m)
 of_store-step layout t (Closed id) run row m = absurd (Contains-none row m)
 of_store-step layout t (Vacuumed at) run row m = absurd (Contains-none row m)
 of_store-step layout t (PartVacuumed at dropped) run row m = absurd (Contains-none row m)
@@ -283,7 +286,7 @@ newest-accepted layout run legal = λ key at.
     let s : ℕ = layout.store_of key in
     answer-in_part (writes (past_of layout s run)) (accepted_writes run) key at
     (writes-row_set (past_of layout s run) (past-legal layout run s legal))
-    (λ row m. accepted_writes-have layout run s row m)
+    (λ row m. accepted_writes-have layout run s row legal m)
     (λ row m of_key below.
     let w = accepted_writes-from layout run row m in
     let from = issued-from layout run w.store w.item.node w.item legal
@@ -303,7 +306,7 @@ other-none layout run s key stamp legal other =
       | None ↦ λ e. answer_none (writes (past_of layout s run)) key stamp e
       | Some row ↦ λ e.
           let is = newest_is_greatest (writes (past_of layout s run)) key stamp row e in
-          let w = writes-from (past_of layout s run) row is.member in
+          let w = writes-from (past_of layout s run) row (past-starts layout run s legal) is.member in
           let from = issued-from layout run s w.item.node w.item legal
           (accepted-issued layout run s w.item legal w.accepted) in
           absurd (other (ap (λ k. layout.store_of k) (sym is.of_key)

@@ -1,21 +1,21 @@
 -- Every link of a legal run is one of its machine and its store: the store accepted the first of its items, and all
 -- others are above its head.
-use Rattle.std.proofs.Common.{◌≡◌, ℕ, false, ◌+◌, ◌<◌, ◌≤◌, List, [], ◌∷◌, length, Some, max, refl, ap, sym, ◌∙◌}
-use Rattle.std.proofs.Common.{subst, inl, inr, arith}
+use Rattle.std.proofs.Common.{◌≡◌, ℕ, false, ◌+◌, ◌<◌, ◌≤◌, List, [], ◌∷◌, length, Some, None, max, refl, ap, sym}
+use Rattle.std.proofs.Common.{◌∙◌, subst, inl, inr, arith}
 use Rattle.std.specs.Prelude.{Contains}
 use Rattle.std.proofs.lemmas.Bool.{cases_eq}
 use Rattle.hlc_node.specs.declared.item.Item.{Item}
-use Rattle.hlc_core.specs.Past.{Step, Started, Took, Opened, Closed, Vacuumed, PartVacuumed, Joined, numbered, head}
-use Rattle.hlc_core.specs.Past.{IsLegal as IsLegalPast}
-use Rattle.hlc_core.specs.Replicas.{items_of}
+use Rattle.hlc_core.specs.Past.{Step, Started, Began, Took, Opened, Closed, Vacuumed, PartVacuumed, Joined, numbered}
+use Rattle.hlc_core.specs.Past.{head, IsLegal as IsLegalPast}
+use Rattle.hlc_core.specs.Replicas.{items_of, begun}
 use Rattle.hlc_core.proofs.PastLemmas.{inside, on_link, admissible, head-same, head-other, head-joined}
 use Rattle.hlc_core.proofs.PastLemmas.{head-joined_other}
-use Rattle.hlc_replicas.proofs.ReplicaLemmas.{items-same, items-other, count-by}
+use Rattle.hlc_replicas.proofs.ReplicaLemmas.{items-same, items-other, started-count}
 use Rattle.hlc_ranges.specs.Run.{Layout, Turn, Issued, Sent, Received, Observed, Stepped, past_of, issued, mark_of}
 use Rattle.hlc_ranges.specs.Run.{raised_by, last_stamp, have_ended, IsIssuedStep, IsAllowed, IsLegal}
 use Rattle.hlc_ranges.proofs.Links.{IsLink, link-none, link-rises, link-issue, link-took, link-more, link-start}
 use Rattle.hlc_ranges.proofs.Turns.{raised-same, clock-grows, past-same, past-other, issued-same, issued-other_node}
-use Rattle.hlc_ranges.proofs.Turns.{issued-other}
+use Rattle.hlc_ranges.proofs.Turns.{issued-other, past-starts, stepped-none}
 
 -- a link of a node in a past
 abbrev pub IsLinkOf : ℕ → ℕ → List Item → List Step → Type 0
@@ -23,22 +23,23 @@ IsLinkOf last n items past = IsLink last (numbered past) n items (items_of n pas
 
 -- after a step of its store, which took only an item of the link
 pub link-step : (last n : ℕ) (items : ℕ → List Item) (step : Step) (past : List Step)
-    → IsLegalPast (step ∷ past)
+    → IsLegalPast (step ∷ past) → begun (step ∷ []) ≡ None → begun past ≡ None
     → ((item : Item) → step ≡ Took item → Contains (items item.node) item)
     → ((start : ℕ) → step ≡ Joined n start → start ≤ last)
     → IsLinkOf last n (items n) past → IsLinkOf last n (items n) (step ∷ past)
-link-step last n items (Opened stamp) past legal from up h = h
-link-step last n items (Started nodes) past legal from up h =
+link-step last n items (Opened stamp) past legal none starts from up h = h
+link-step last n items (Started nodes) past legal none starts from up h =
     link-more last (numbered past) (numbered past + nodes) n (items n) (items_of n past) (head n past) (omega arith) h
-link-step last n items (Closed id) past legal from up h = h
-link-step last n items (Vacuumed at) past legal from up h = h
-link-step last n items (PartVacuumed at dropped) past legal from up h = h
-link-step last n items (Took item) past legal from up h =
+link-step last n items (Began kept) past legal none starts from up h = absurd (cc)
+link-step last n items (Closed id) past legal none starts from up h = h
+link-step last n items (Vacuumed at) past legal none starts from up h = h
+link-step last n items (PartVacuumed at dropped) past legal none starts from up h = h
+link-step last n items (Took item) past legal none starts from up h =
     elim (cases_eq item.node n) [
       | inl same ↦
           let is = admissible _ _ _ item (sym (on_link past item (inside past item legal.0)) ∙ legal.0) in
           let number : item.number ≡ length (items_of n past) =
-          is.number ∙ count-by past item.node ∙ ap (λ k. length (items_of k past)) same in
+          is.number ∙ started-count past item.node legal.1 starts ∙ ap (λ k. length (items_of k past)) same in
           let took = link-took last (numbered past) n (items n) (items_of n past) (head n past) item h
           (subst (λ k. Contains (items k) item) same (from item refl)) number in
           subst (λ top. IsLink last (numbered past) n (items n) (items_of n (Took item ∷ past)) top)
@@ -51,7 +52,7 @@ link-step last n items (Took item) past legal from up h =
           (subst (λ xs. IsLink last (numbered past) n (items n) xs (head n past))
           (sym (items-other n item past other)) h)
     ]
-link-step last n items (Joined node start) past legal from up h =
+link-step last n items (Joined node start) past legal none starts from up h =
     elim (cases_eq node n) [
       | inl same ↦
           let is : n ≡ numbered past = sym same ∙ legal.1 in
@@ -114,9 +115,10 @@ orderly-issued layout t item run allowed h = λ s n.
           ]
     ]
 
-orderly-stepped : (layout : Layout) (t : ℕ) (step : Step) (run : List Turn) → IsAllowed layout (Stepped t step) run
+orderly-stepped : (layout : Layout) (t : ℕ) (step : Step) (run : List Turn) → IsLegal layout (Stepped t step ∷ run)
     → IsOrderly layout run → IsOrderly layout (Stepped t step ∷ run)
-orderly-stepped layout t step run allowed h = λ s n.
+orderly-stepped layout t step run legal h = λ s n.
+    let allowed = legal.0 in
     let clocked = orderly-clock layout (Stepped t step) run h s n in
     let last : ℕ = last_stamp layout (layout.machine s n) (Stepped t step ∷ run) in
     elim (cases_eq t s) [
@@ -126,6 +128,7 @@ orderly-stepped layout t step run allowed h = λ s n.
           subst (λ past. IsLinkOf last n (issued s n run) past) (sym (past-same layout s t step run same))
           (link-step last n (λ k. issued s k run) step (past_of layout s run)
           (subst (λ k. IsLegalPast (step ∷ past_of layout k run)) same allowed.1)
+          (stepped-none layout t step run legal) (past-starts layout run s legal.1)
           (λ item is. subst (λ k. Contains (issued k item.node run) item) same
           (subst (λ x. IsIssuedStep t x run) is allowed.2))
           (λ start is.
@@ -147,4 +150,4 @@ orderly layout (Sent m st ∷ run) legal = orderly-clock layout (Sent m st) run 
 orderly layout (Received m k st ∷ run) legal = orderly-clock layout (Received m k st) run (orderly layout run legal.1)
 orderly layout (Observed m s at st ∷ run) legal =
     orderly-clock layout (Observed m s at st) run (orderly layout run legal.1)
-orderly layout (Stepped t step ∷ run) legal = orderly-stepped layout t step run legal.0 (orderly layout run legal.1)
+orderly layout (Stepped t step ∷ run) legal = orderly-stepped layout t step run legal (orderly layout run legal.1)

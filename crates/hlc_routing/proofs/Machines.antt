@@ -13,13 +13,15 @@ use Rattle.hlc_node.specs.declared.item.Item.{Item}
 use Rattle.hlc_node.specs.declared.item.Body.{Body}
 use Rattle.hlc_node.specs.declared.item.Body.TheVariants.{Report}
 use Rattle.hlc_core.specs.Past.{Step, floor, numbered}
+use Rattle.hlc_core.specs.Replicas.{begun}
 use Rattle.hlc_ranges.specs.Run.{Layout, Turn, Issued, Sent, Received, Observed, past_of, issued, last_stamp, raised_by}
 use Rattle.hlc_ranges.specs.Run.{Stepped, mark_of, start_of, turn_at, IsLegal, IsRouted, have_ended}
 use Rattle.hlc_ranges.specs.Calls.{IsNodeOf, HasClock, Extends}
 use Rattle.hlc_ranges.proofs.ExtendingLemmas.{node-extends, other-stays}
 use Rattle.hlc_routing.specs.Machine.{MachineView, raised, acting, moved, Issues, Reports, IsMachineOf, GoesOn}
 use Rattle.hlc_routing.specs.Machine.{issued_from, none, one}
-use Rattle.hlc_routing.proofs.Stepping.{get-set_same, get-set_other, some-same, numbered-later}
+use Rattle.hlc_routing.proofs.Stepping.{get-set_same, get-set_other, some-same, numbered-grows}
+use Rattle.hlc_routing.proofs.Stepping.{numbered-later}
 
 acts-some : (o : Option NodeView) (last : ℕ) (node : NodeView) → option_map (raised last) o ≡ Some node
     → (kept : NodeView) × (o ≡ Some kept) × (raised last kept ≡ node)
@@ -187,9 +189,9 @@ not-raised m last (Some mark) apart = cond-false _ _ _ (ne_eqb mark.0 m (apart m
 -- a step of a store by which no node of this machine joins
 pub step-keeps : (layout : Layout) (run : List Turn) (m s : ℕ) (machine : MachineView) (step : Step)
     → IsMachineOf layout run m machine
-    → ((mark : ℕ × ℕ) → start_of layout s step ≡ Some mark → mark.0 ≢ m)
+    → ((mark : ℕ × ℕ) → start_of layout s step ≡ Some mark → mark.0 ≢ m) → begun (step ∷ []) ≡ None
     → IsMachineOf layout (Stepped s step ∷ run) m machine
-step-keeps layout run m s machine step h free =
+step-keeps layout run m s machine step h free none =
     let same : last_stamp layout m (Stepped s step ∷ run) ≡ last_stamp layout m run =
     not-raised m (last_stamp layout m run) (start_of layout s step) free in
     record {
@@ -199,7 +201,7 @@ step-keeps layout run m s machine step h free =
           record {
             inside = (let was : node.id < numbered (past_of layout t run) = is.inside in
                 let grows : numbered (past_of layout t run) ≤ numbered (past_of layout t (Stepped s step ∷ run)) =
-                numbered-later layout run s t step in omega arith);
+                numbered-later layout run s t step (numbered-grows step (past_of layout s run) none) in omega arith);
             next = is.next;
             retired = is.retired;
           };

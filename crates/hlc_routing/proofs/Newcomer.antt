@@ -11,7 +11,7 @@ use Rattle.hlc_ranges.specs.Run.{Layout, Turn, Issued, Sent, Received, Observed,
 use Rattle.hlc_ranges.specs.Run.{raised_by, have_ended, IsLegal}
 use Rattle.hlc_routing.specs.All.{each_stepped, join_step, next_join, AreJoins}
 use Rattle.hlc_routing.specs.Machine.{MachineView, IsMachineOf, IsNewMachine}
-use Rattle.hlc_routing.proofs.Stepping.{some-same, numbered-later}
+use Rattle.hlc_routing.proofs.Stepping.{some-same, numbered-legal, numbered-later}
 use Rattle.hlc_routing.proofs.Each.{past-within}
 
 -- a node that has not joined yet has issued nothing
@@ -35,7 +35,8 @@ issued-none layout (Issued t item ∷ run) s n legal above =
 issued-none layout (Stepped t step ∷ run) s n legal above =
     let many : numbered (past_of layout s (Stepped t step ∷ run)) ≤ n = above in
     let grows : numbered (past_of layout s run) ≤ numbered (past_of layout s (Stepped t step ∷ run)) =
-    numbered-later layout run t s step in issued-none layout run s n legal.1 (omega arith)
+    numbered-later layout run t s step (numbered-legal step (past_of layout t run) legal.0.1) in
+    issued-none layout run s n legal.1 (omega arith)
 
 -- steps issue nothing
 issued-stepped : (step : ℕ → Step) (k s n : ℕ) (run : List Turn)

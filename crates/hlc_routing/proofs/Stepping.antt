@@ -1,11 +1,13 @@
 -- A step of one store extends the run: the others, and their pasts, stay.
-use Rattle.std.proofs.Common.{◌≡◌, ℕ, zero, suc, ◌<◌, ◌≤◌, List, [], ◌∷◌, ◌++◌, length, Some, set, refl, ap, sym, ◌∙◌}
-use Rattle.std.proofs.Common.{subst}
+use Rattle.std.proofs.Common.{◌≡◌, ℕ, zero, suc, ◌<◌, ◌≤◌, List, [], ◌∷◌, ◌++◌, length, Some, None, set, refl, ap, sym}
+use Rattle.std.proofs.Common.{◌∙◌, subst}
 use Rattle.std.proofs.Common.{inl, inr, arith, length-set}
 use Rattle.std.specs.Prelude.{slice_get}
 use Rattle.std.proofs.lemmas.Bool.{cases_eq}
 use Rattle.std.proofs.lemmas.Option.{slice_get_within}
-use Rattle.hlc_core.specs.Past.{Step, Started, Took, Opened, Closed, Vacuumed, PartVacuumed, Joined, numbered}
+use Rattle.hlc_core.specs.Past.{Step, Started, Began, Took, Opened, Closed, Vacuumed, PartVacuumed, Joined, numbered}
+use Rattle.hlc_core.specs.Past.{IsLegal as IsLegalPast}
+use Rattle.hlc_core.specs.Replicas.{begun}
 use Rattle.hlc_core.specs.StoreView.{StoreView, Represents as CoreRepresents}
 use Rattle.hlc_ranges.specs.Run.{Layout, Turn, Stepped, past_of, IsIssuedStep}
 use Rattle.hlc_ranges.proofs.TurnLemmas.{past-same, past-other}
@@ -44,22 +46,39 @@ get-push_here (x ∷ xs) y (suc i) e = get-push_here xs y i (omega arith)
 pub some-same : {X : Type 0} (x y : X) → Some x ≡ Some y → x ≡ y
 some-same x y e = cc
 
--- no step takes a number back
-numbered-grows : (step : Step) (past : List Step) → numbered past ≤ numbered (step ∷ past)
-numbered-grows (Started nodes) past = omega arith
-numbered-grows (Took item) past = omega arith
-numbered-grows (Opened stamp) past = omega arith
-numbered-grows (Closed id) past = omega arith
-numbered-grows (Vacuumed at) past = omega arith
-numbered-grows (PartVacuumed at dropped) past = omega arith
-numbered-grows (Joined node start) past = omega arith
+-- no step takes a number back, but for a state
+pub numbered-grows : (step : Step) (past : List Step) → begun (step ∷ []) ≡ None
+    → numbered past ≤ numbered (step ∷ past)
+numbered-grows (Started nodes) past none = omega arith
+numbered-grows (Began kept) past none = absurd (cc)
+numbered-grows (Took item) past none = omega arith
+numbered-grows (Opened stamp) past none = omega arith
+numbered-grows (Closed id) past none = omega arith
+numbered-grows (Vacuumed at) past none = omega arith
+numbered-grows (PartVacuumed at dropped) past none = omega arith
+numbered-grows (Joined node start) past none = omega arith
+
+-- and before a state there are no numbers
+pub numbered-legal : (step : Step) (past : List Step) → IsLegalPast (step ∷ past)
+    → numbered past ≤ numbered (step ∷ past)
+numbered-legal (Started nodes) past legal = omega arith
+numbered-legal (Began kept) past legal =
+    let none : numbered past ≡ 0 = ap numbered legal.0 in
+    let goal : numbered past ≤ numbered (Began kept ∷ past) = omega arith in goal
+numbered-legal (Took item) past legal = omega arith
+numbered-legal (Opened stamp) past legal = omega arith
+numbered-legal (Closed id) past legal = omega arith
+numbered-legal (Vacuumed at) past legal = omega arith
+numbered-legal (PartVacuumed at dropped) past legal = omega arith
+numbered-legal (Joined node start) past legal = omega arith
 
 pub numbered-later : (layout : Layout) (run : List Turn) (s t : ℕ) (step : Step)
+    → numbered (past_of layout s run) ≤ numbered (step ∷ past_of layout s run)
     → numbered (past_of layout t run) ≤ numbered (past_of layout t (Stepped s step ∷ run))
-numbered-later layout run s t step =
+numbered-later layout run s t step grows =
     elim (cases_eq s t) [
       | inl e ↦ subst (λ past. numbered (past_of layout t run) ≤ numbered past) (sym (past-same layout t s step run e))
-          (numbered-grows step (past_of layout t run))
+          (subst (λ k. numbered (past_of layout k run) ≤ numbered (step ∷ past_of layout k run)) e grows)
       | inr e ↦ subst (λ past. numbered (past_of layout t run) ≤ numbered past) (sym (past-other layout t s step run e))
           (omega arith)
     ]

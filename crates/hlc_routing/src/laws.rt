@@ -1,7 +1,8 @@
 //! What events at machines leave of the stores, and steps of stores of the machines.
-ghost use Rattle.std.specs.Prelude.{◌≡◌, ◌≢◌, ◌<◌, ◌≤◌, ◌∷◌, ℕ, List, Some};
+ghost use Rattle.std.specs.Prelude.{◌≡◌, ◌≢◌, ◌<◌, ◌≤◌, [], ◌∷◌, ℕ, List, Some, None};
 ghost use Rattle.hlc_node.specs.declared.item.Item.{Item as AnItem};
 ghost use Rattle.hlc_core.specs.Past.{Step};
+ghost use Rattle.hlc_core.specs.Replicas.{begun};
 ghost use Rattle.hlc_ranges.specs.Run.{Layout, Turn, Issued, Sent, Received, Observed, Stepped, IsLegal, start_of};
 ghost use Rattle.hlc_ranges.specs.Run.{last_stamp};
 ghost use Rattle.hlc_routing.specs.All.{each_stepped, join_step, next_join, AreJoins};
@@ -40,11 +41,12 @@ pub fn events_keep_machines()
         → IsMachineOf layout (Observed n s at stamp ∷ run) m machine }
 {}
 
-/// A machine is the run's after a step of a store too, if no node of this machine joins by it.
+/// A machine is the run's after a step of a store too, if no node of this machine joins by it, and it is no state that
+/// the store begins with.
 pub fn steps_keep_machines()
     ensures { (layout : Layout) (run : List Turn) (m s : ℕ) (machine : MachineView) (step : Step)
         → IsMachineOf layout run m machine
-        → ((mark : ℕ × ℕ) → start_of layout s step ≡ Some mark → mark.0 ≢ m)
+        → ((mark : ℕ × ℕ) → start_of layout s step ≡ Some mark → mark.0 ≢ m) → begun (step ∷ []) ≡ None
         → IsMachineOf layout (Stepped s step ∷ run) m machine }
 {}
 

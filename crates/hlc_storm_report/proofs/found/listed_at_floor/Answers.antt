@@ -14,7 +14,7 @@ returns-clause-found c past represents =
     let then = Opened (floor past) ∷ past in
     let id = ap (λ p. p.0) opening.1 in
     let at = ap (λ p. p.1) opening.1 in
-    let open_now = ap (λ i. stamp_of i then) id ∙ just_opened past (floor past) in
+    let open_now = ap (λ i. stamp_of i then) id ∙ just_opened past (floor past) represents.legal in
     let listed =
     subst (λ s. IsListed s (writes past) c.in-Ok-list.pairs) open_now (c.in-Ok-list.ensures then opening.2) in
     let closed = (c.in-Ok-close.ensures.represents then opening.2).1 in
