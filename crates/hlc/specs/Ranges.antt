@@ -7,6 +7,7 @@ pub use Rattle.hlc_ranges.specs.Cut.{IsCut, IsConsistent}
 pub use Rattle.hlc_routing.specs.Division.{DivisionView, ByKeys, ByHash, stores_of, store_of}
 pub use Rattle.hlc_routing.specs.Faults.{ranges_code, machine_code}
 pub use Rattle.hlc_routing.specs.Ranges.{RangesView, Represents, IsLeastFloor, IsOfStore, HasTaken}
+pub use Rattle.hlc_routing.specs.Placing.{ArePlaced, AreAllPlaced, IsMisplaced, IsRefusedPlacing}
 pub use Rattle.hlc_routing.specs.All.{SnapshotView, IsOpenAt, IsOpenAll, OpensAll, ClosesAll, AreOpenIn}
 pub use Rattle.hlc_routing.specs.All.{AreVacuumed, HaveJoined}
 pub use Rattle.hlc_routing.specs.All.{each_stepped, each_closed, join_step, next_join, AreJoins}
@@ -15,4 +16,5 @@ pub use Rattle.hlc_routing.specs.Machine.{MachineView, Issues, HaveOneStore, Hav
 pub use Rattle.hlc_routing.specs.Machine.{IsMachineOf, GoesOn, IsDividedBy}
 pub use Rattle.hlc_routing.specs.Machine.{IsNewMachine}
 pub use Rattle.hlc_routing.specs.declared.fault.RangesFault.{RangesFault}
+pub use Rattle.hlc_routing.specs.declared.placing.PlacingFault.{PlacingFault}
 pub use Rattle.hlc_routing.specs.declared.machine.MachineFault.{MachineFault}

@@ -6,7 +6,7 @@ pub use hlc_ranges::{
     keys_stay_in_their_store, stamps_follow_events, steps_extend_runs,
 };
 pub use hlc_routing::{
-    Division, MAX_STORES, Machine, MachineFault, Ranges, RangesFault, RangesSnapshot,
+    Division, MAX_STORES, Machine, MachineFault, PlacingFault, Ranges, RangesFault, RangesSnapshot,
     RefusedBatchRouting, RefusedRouting, events_keep_machines, events_keep_stores,
     joins_make_machines, max_stores_are_1024, steps_keep_machines, the_hash_is_fnv_1a,
 };

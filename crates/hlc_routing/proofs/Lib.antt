@@ -14,3 +14,4 @@ pub mod Closing
 pub mod Gathered
 pub mod Apart
 pub mod Newcomer
+pub mod Placed

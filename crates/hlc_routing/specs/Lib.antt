@@ -1,5 +1,6 @@
 pub mod Division
 pub mod Ranges
+pub mod Placing
 pub mod All
 pub mod Listing
 pub mod Faults

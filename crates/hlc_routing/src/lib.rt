@@ -9,6 +9,7 @@ mod laws;
 mod listing;
 mod machine;
 mod opened;
+mod placing;
 mod ranges;
 mod snapshot;
 
@@ -19,5 +20,6 @@ pub use laws::{
     events_keep_machines, events_keep_stores, joins_make_machines, steps_keep_machines,
 };
 pub use machine::{Machine, MachineFault, RefusedBatchRouting, RefusedRouting};
+pub use placing::PlacingFault;
 pub use ranges::Ranges;
 pub use snapshot::RangesSnapshot;

@@ -1,7 +1,8 @@
 //! Which store has a key by its hash; and the largest division, whose calls go through 1,024 stores.
-use crate::items::{bytes, new_store};
+use crate::items::{bytes, new_store, says};
+use hlc_core::Core;
 use hlc_node::NodeCore;
-use hlc_routing::{Division, Machine, Ranges};
+use hlc_routing::{Division, Machine, PlacingFault, Ranges};
 use hlc_rows::Stamp;
 use std::process::Abort;
 use std::test::*;
@@ -71,4 +72,49 @@ fn a_cut_of_1024_stores_is_read(rt: HostRuntime) {
     assert!(&rt; keys.next().is_none());
     assert!(&rt; ranges.close_all(&snapshot).is_ok());
     assert!(&rt; ranges.close_all(&snapshot).is_err());
+}
+
+/// Returns three stores. Each has written the same two keys, if there are any.
+fn three_stores<H: Abort + AllocGlobal>(rt: &H, keys: [Option<&[u8]>; 2]) -> Vec<Core> {
+    let mut stores = Vec::new(rt.alloc());
+    for _ in 0..3 {
+        let mut core = new_store(rt);
+        let mut number = 0;
+        for key in keys {
+            if let Some(key) = key {
+                says(rt, &mut core, number, key, None);
+                number += 1;
+            }
+        }
+        assert!(rt; stores.push(core).is_ok());
+    }
+    stores
+}
+
+#[test]
+fn stores_with_keys_of_others_are_not_taken(rt: HostRuntime) {
+    let alloc = rt.alloc();
+    let cut = || {
+        let mut keys = Vec::new(alloc);
+        for key in [b"h".as_slice(), b"q"] {
+            assert!(&rt; keys.push(bytes(&rt, key)).is_ok());
+        }
+        Division::by_keys(keys).expect(&rt, "a division")
+    };
+    assert!(&rt; Ranges::checked(alloc, cut(), three_stores(&rt, [None, None])).is_ok());
+    let named = [
+        ([Some(b"a".as_slice()), None], 1, b"a".as_slice()),
+        ([Some(b"z"), Some(b"m")], 0, b"m"),
+        ([Some(b"g"), Some(b"h")], 0, b"h"),
+    ];
+    for (keys, store, key) in named {
+        match Ranges::checked(alloc, cut(), three_stores(&rt, keys)) {
+            Err(PlacingFault::Key(at, other)) => {
+                assert!(&rt; at == store && other.as_slice() == key);
+            }
+            _ => assert!(&rt; false),
+        }
+    }
+    let few = Ranges::checked(alloc, hashed(&rt, 2), three_stores(&rt, [None, None]));
+    assert!(&rt; matches!(few, Err(PlacingFault::Number)));
 }

@@ -1,0 +1,90 @@
+//! Whether stores have only the keys that a division gives them.
+ghost use Rattle.std.specs.Prelude.{◌≡◌, IfOk, IfErr, MatchOption};
+ghost use Rattle.hlc_table_column.specs.Rows.{rows_in};
+ghost use Rattle.hlc_routing.specs.Placing.{ArePlaced, AreAllPlaced, IsFirstOther, IsOtherAt, IsRefusedPlacing};
+
+use crate::division::Division;
+use crate::ranges::Ranges;
+use hlc_columns::Columns;
+use hlc_core::Core;
+use hlc_node::Bytes;
+use hlc_values::NoMemory;
+use std::alloc::Global;
+
+/// Why stores are not those of a division.
+#[derive(Debug, Drop)]
+pub enum PlacingFault {
+    /// They are more or fewer than it divides the keys over.
+    Number,
+    /// This store has a row of this key, which belongs to another one.
+    Key(usize, Bytes),
+    /// Memory runs out.
+    NoMemory,
+}
+
+impl Ranges {
+    /// Takes the stores of a division as `of` does, after a look at the keys of each. So stores that were restored, and
+    /// divided otherwise before, are not taken with keys where no read looks for them. It goes through all keys, and
+    /// reads no rows.
+    ///
+    /// Refused, in this order: more or fewer stores than the division has; a store has a row of another one's key, the
+    /// first such store and its first such key. Out of memory where it meets it. The stores of a refusal are dropped.
+    pub fn checked(
+        alloc: Global,
+        division: Division,
+        stores: Vec<Core>,
+    ) -> Result<Ranges, PlacingFault>
+        ensures ok { IfOk result (λ ranges. (ranges ≡ record { division = division; stores = stores.items })
+            × AreAllPlaced division stores.items) }
+        ensures err { IfErr result (IsRefusedPlacing division stores.items) }
+    {
+        if stores.len() != division.stores() {
+            return Err(PlacingFault::Number);
+        }
+        for store in 0..stores.len() {
+            match first_other(alloc, &division, store, &stores[store]) {
+                Ok(None) => {}
+                Ok(Some(key)) => return Err(PlacingFault::Key(store, key)),
+                Err(_) => return Err(PlacingFault::NoMemory),
+            }
+        }
+        match Ranges::of(division, stores) {
+            Some(ranges) => Ok(ranges),
+            None => Err(PlacingFault::Number),
+        }
+    }
+}
+
+/// Returns a copy of the first key of a store, in byte order, that belongs to another one.
+fn first_other(
+    alloc: Global,
+    division: &Division,
+    store: usize,
+    core: &Core,
+) -> Result<Option<Bytes>, NoMemory>
+    ensures { IfOk result (λ found. MatchOption found (ArePlaced division.now store core.now.rows)
+        (λ key. IsFirstOther division.now store core.now.rows key)) }
+{
+    let leaves = core.lent().leaves()?;
+    for at in 0..leaves.len() {
+        let leaf = leaves.at(at);
+        if let Some(place) = other_in(division, store, leaf) {
+            return Ok(Some(Bytes::from_slice(alloc, leaf.at(place).key())?));
+        }
+    }
+    Ok(None)
+}
+
+/// Returns the first place in a leaf of a column that has rows, and the key of another store.
+fn other_in(division: &Division, store: usize, leaf: &Columns<'_>) -> Option<usize>
+    ensures { MatchOption result (ArePlaced division.now store (rows_in leaf.now))
+        (IsOtherAt division.now store leaf.now) }
+{
+    for place in 0..leaf.len() {
+        let column = leaf.at(place);
+        if column.column().len() > 0 && division.store_of(column.key()) != store {
+            return Some(place);
+        }
+    }
+    None
+}
