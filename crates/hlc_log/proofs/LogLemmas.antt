@@ -129,7 +129,7 @@ applied_all core bytes rest past least many greatest end result so is made =
 -- ---- read again
 
 -- of steps that are no states each one is none
-later-begins : (step : Step) (more : List Step) → begun (step ∷ more) ≡ None → begun more ≡ None
+later-begins : (step : Step) (more : List Step) → begun (step ∷ more) ≡ [] → begun more ≡ []
 later-begins (Started nodes) more none = none
 later-begins (Began kept) more none = absurd (cc)
 later-begins (Took item) more none = none
@@ -140,7 +140,7 @@ later-begins (PartVacuumed at dropped) more none = none
 later-begins (Joined node start) more none = none
 
 -- and no state comes after something
-none-begins : (past more : List Step) → (past ≡ [] → ⊥) → IsLegal (more ++ past) → begun more ≡ None
+none-begins : (past more : List Step) → (past ≡ [] → ⊥) → IsLegal (more ++ past) → begun more ≡ []
 none-begins past [] some legal = refl
 none-begins past (Started nodes ∷ more) some legal = none-begins past more some legal.1
 none-begins past (Began kept ∷ more) some legal = absurd (some (nothing-before more past legal.0))
@@ -151,7 +151,7 @@ none-begins past (Vacuumed at ∷ more) some legal = none-begins past more some 
 none-begins past (PartVacuumed at dropped ∷ more) some legal = none-begins past more some legal.1
 none-begins past (Joined node start ∷ more) some legal = none-begins past more some legal.3
 
-numbered-grows : (past : List Step) (step : Step) (more : List Step) → begun (step ∷ more) ≡ None
+numbered-grows : (past : List Step) (step : Step) (more : List Step) → begun (step ∷ more) ≡ []
     → numbered past ≤ numbered (step ∷ past)
 numbered-grows past (Started nodes) more none = omega arith
 numbered-grows past (Began kept) more none = absurd (cc)
@@ -162,7 +162,7 @@ numbered-grows past (Vacuumed at) more none = omega arith
 numbered-grows past (PartVacuumed at dropped) more none = omega arith
 numbered-grows past (Joined node start) more none = omega arith
 
-count-grows : (n : ℕ) (past : List Step) (step : Step) (more : List Step) → begun (step ∷ more) ≡ None
+count-grows : (n : ℕ) (past : List Step) (step : Step) (more : List Step) → begun (step ∷ more) ≡ []
     → count n past ≤ count n (step ∷ past)
 count-grows n past (Started nodes) more none = omega arith
 count-grows n past (Began kept) more none = absurd (cc)
@@ -182,7 +182,7 @@ count-grows n past (PartVacuumed at dropped) more none = omega arith
 count-grows n past (Joined node start) more none = omega arith
 
 -- a record that came before has still come before after any more steps
-came-stays : (past more : List Step) (entry : Record) → begun more ≡ None → came_before past entry ≡ true
+came-stays : (past more : List Step) (entry : Record) → begun more ≡ [] → came_before past entry ≡ true
     → came_before (more ++ past) entry ≡ true
 came-stays past [] entry none came = came
 came-stays past (step ∷ more) (Item item) none came =
@@ -217,7 +217,7 @@ came-some past (Threshold at) came e = cc
 abbrev IsPassed : List Step → Record → Type 0
 IsPassed past entry = (came_before past entry ≡ true) ⊎ (step_of entry ≡ [])
 
-passed-stays : (past more : List Step) (entry : Record) → begun more ≡ None → IsPassed past entry
+passed-stays : (past more : List Step) (entry : Record) → begun more ≡ [] → IsPassed past entry
     → IsPassed (more ++ past) entry
 passed-stays past more entry steps (inl came) = inl (came-stays past more entry steps came)
 passed-stays past more entry steps (inr none) = inr none
@@ -329,7 +329,7 @@ read-again past before again rest legal =
     (all-passed again (with_records before past) (subst IsLegal e legal)))
 
 -- a record that was read once is passed over, whatever took place since, but for a state
-pub once-passed : (past more : List Step) (entry : Record) → IsLegal (with_record entry past) → begun more ≡ None
+pub once-passed : (past more : List Step) (entry : Record) → IsLegal (with_record entry past) → begun more ≡ []
     → with_record entry (more ++ with_record entry past) ≡ more ++ with_record entry past
 once-passed past more entry legal none =
     passed-is (more ++ with_record entry past) entry

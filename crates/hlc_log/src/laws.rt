@@ -1,5 +1,5 @@
 //! What is true of every log.
-ghost use Rattle.std.specs.Prelude.{◌≡◌, ◌++◌, List, None, All};
+ghost use Rattle.std.specs.Prelude.{◌≡◌, ◌++◌, List, [], All};
 ghost use Rattle.hlc_core.specs.Past.{Step, IsLegal};
 ghost use Rattle.hlc_core.specs.Replicas.{begun};
 ghost use Rattle.hlc_log.specs.declared.record.Record.{Record as ARecord};
@@ -10,7 +10,7 @@ ghost use Rattle.hlc_log.specs.Log.{with_record, with_records, IsPassedOver};
 /// So a store that is restored from a checkpoint needs no exact place in its log, only one that is not after its own.
 pub fn a_log_may_be_read_again()
     ensures passed { (past more : List Step) (entry : ARecord) → IsLegal (with_record entry past)
-        → begun more ≡ None → IsPassedOver (more ++ with_record entry past) entry }
+        → begun more ≡ [] → IsPassedOver (more ++ with_record entry past) entry }
     ensures since { (past more : List Step) (entry : ARecord) → IsLegal (more ++ with_record entry past)
         → IsPassedOver (more ++ with_record entry past) entry }
     ensures over { (past : List Step) (again rest : List ARecord) → All (IsPassedOver past) again

@@ -182,7 +182,7 @@ newest-issued layout run stamp legal cut = λ key at low.
     (subst (λ k. Contains (past_of layout k run) (Took w.item)) at' accepted) w.of)
 
 -- a write after a step is an old one, or that of the step
-pub step-writes : (step : Step) (past : List Step) (row : Row) → begun (step ∷ []) ≡ None
+pub step-writes : (step : Step) (past : List Step) (row : Row) → begun (step ∷ []) ≡ []
     → Contains (writes (step ∷ past)) row → Contains (writes past) row ⊎ Contains (step_rows step) row
 step-writes (Took item) past row none m = Contains-append_cases (writes past) (item_rows item) row m
 step-writes (Opened stamp) past row none m = inl m

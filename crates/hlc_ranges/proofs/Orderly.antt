@@ -1,6 +1,6 @@
 -- Every link of a legal run is one of its machine and its store: the store accepted the first of its items, and all
 -- others are above its head.
-use Rattle.std.proofs.Common.{◌≡◌, ℕ, false, ◌+◌, ◌<◌, ◌≤◌, List, [], ◌∷◌, length, Some, None, max, refl, ap, sym}
+use Rattle.std.proofs.Common.{◌≡◌, ℕ, false, ◌+◌, ◌<◌, ◌≤◌, List, [], ◌∷◌, length, Some, max, refl, ap, sym}
 use Rattle.std.proofs.Common.{◌∙◌, subst, inl, inr, arith}
 use Rattle.std.specs.Prelude.{Contains}
 use Rattle.std.proofs.lemmas.Bool.{cases_eq}
@@ -23,7 +23,7 @@ IsLinkOf last n items past = IsLink last (numbered past) n items (items_of n pas
 
 -- after a step of its store, which took only an item of the link
 pub link-step : (last n : ℕ) (items : ℕ → List Item) (step : Step) (past : List Step)
-    → IsLegalPast (step ∷ past) → begun (step ∷ []) ≡ None → begun past ≡ None
+    → IsLegalPast (step ∷ past) → begun (step ∷ []) ≡ [] → begun past ≡ []
     → ((item : Item) → step ≡ Took item → Contains (items item.node) item)
     → ((start : ℕ) → step ≡ Joined n start → start ≤ last)
     → IsLinkOf last n (items n) past → IsLinkOf last n (items n) (step ∷ past)

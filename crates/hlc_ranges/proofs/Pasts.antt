@@ -1,5 +1,5 @@
 -- What the accepted items of a node say of its link in a past.
-use Rattle.std.proofs.Common.{◌≡◌, ℕ, List, [], ◌∷◌, None}
+use Rattle.std.proofs.Common.{◌≡◌, ℕ, List, [], ◌∷◌}
 use Rattle.std.proofs.Common.{subst, inl, inr}
 use Rattle.std.specs.Prelude.{Contains}
 use Rattle.std.proofs.lemmas.Bool.{cases_eq}
@@ -46,7 +46,7 @@ of-more : (past : List Step) (step : Step) (row : Row) → IsOfItem past row →
 of-more past step row h =
     record { item = h.item; accepted = Contains-rest step (Took h.item) past h.accepted; of = h.of }
 
-pub writes-from : (past : List Step) (row : Row) → begun past ≡ None → Contains (writes past) row → IsOfItem past row
+pub writes-from : (past : List Step) (row : Row) → begun past ≡ [] → Contains (writes past) row → IsOfItem past row
 writes-from [] row starts m = absurd (Contains-none row m)
 writes-from (Opened stamp ∷ past) row starts m = of-more past _ row (writes-from past row starts m)
 writes-from (Started nodes ∷ past) row starts m = of-more past _ row (writes-from past row starts m)

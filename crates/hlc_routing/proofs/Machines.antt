@@ -189,7 +189,7 @@ not-raised m last (Some mark) apart = cond-false _ _ _ (ne_eqb mark.0 m (apart m
 -- a step of a store by which no node of this machine joins
 pub step-keeps : (layout : Layout) (run : List Turn) (m s : ℕ) (machine : MachineView) (step : Step)
     → IsMachineOf layout run m machine
-    → ((mark : ℕ × ℕ) → start_of layout s step ≡ Some mark → mark.0 ≢ m) → begun (step ∷ []) ≡ None
+    → ((mark : ℕ × ℕ) → start_of layout s step ≡ Some mark → mark.0 ≢ m) → begun (step ∷ []) ≡ []
     → IsMachineOf layout (Stepped s step ∷ run) m machine
 step-keeps layout run m s machine step h free none =
     let same : last_stamp layout m (Stepped s step ∷ run) ≡ last_stamp layout m run =

@@ -1,5 +1,5 @@
 -- A step of one store extends the run: the others, and their pasts, stay.
-use Rattle.std.proofs.Common.{◌≡◌, ℕ, zero, suc, ◌<◌, ◌≤◌, List, [], ◌∷◌, ◌++◌, length, Some, None, set, refl, ap, sym}
+use Rattle.std.proofs.Common.{◌≡◌, ℕ, zero, suc, ◌<◌, ◌≤◌, List, [], ◌∷◌, ◌++◌, length, Some, set, refl, ap, sym}
 use Rattle.std.proofs.Common.{◌∙◌, subst}
 use Rattle.std.proofs.Common.{inl, inr, arith, length-set}
 use Rattle.std.specs.Prelude.{slice_get}
@@ -47,7 +47,7 @@ pub some-same : {X : Type 0} (x y : X) → Some x ≡ Some y → x ≡ y
 some-same x y e = cc
 
 -- no step takes a number back, but for a state
-pub numbered-grows : (step : Step) (past : List Step) → begun (step ∷ []) ≡ None
+pub numbered-grows : (step : Step) (past : List Step) → begun (step ∷ []) ≡ []
     → numbered past ≤ numbered (step ∷ past)
 numbered-grows (Started nodes) past none = omega arith
 numbered-grows (Began kept) past none = absurd (cc)

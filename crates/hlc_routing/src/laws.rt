@@ -1,5 +1,5 @@
 //! What events at machines leave of the stores, and steps of stores of the machines.
-ghost use Rattle.std.specs.Prelude.{◌≡◌, ◌≢◌, ◌<◌, ◌≤◌, [], ◌∷◌, ℕ, List, Some, None};
+ghost use Rattle.std.specs.Prelude.{◌≡◌, ◌≢◌, ◌<◌, ◌≤◌, [], ◌∷◌, ℕ, List, Some};
 ghost use Rattle.hlc_node.specs.declared.item.Item.{Item as AnItem};
 ghost use Rattle.hlc_core.specs.Past.{Step};
 ghost use Rattle.hlc_core.specs.Replicas.{begun};
@@ -46,7 +46,7 @@ pub fn events_keep_machines()
 pub fn steps_keep_machines()
     ensures { (layout : Layout) (run : List Turn) (m s : ℕ) (machine : MachineView) (step : Step)
         → IsMachineOf layout run m machine
-        → ((mark : ℕ × ℕ) → start_of layout s step ≡ Some mark → mark.0 ≢ m) → begun (step ∷ []) ≡ None
+        → ((mark : ℕ × ℕ) → start_of layout s step ≡ Some mark → mark.0 ≢ m) → begun (step ∷ []) ≡ []
         → IsMachineOf layout (Stepped s step ∷ run) m machine }
 {}
 
