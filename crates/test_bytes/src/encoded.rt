@@ -1,5 +1,5 @@
-//! The small callers in the READMEs of `hlc_wire`, `hlc_frame`, `hlc_body`, `hlc_saved` and `hlc_log`, a message
-//! compared with bytes that were written by hand, and a checkpoint that is written in pieces.
+//! The small callers in the READMEs of `hlc_wire`, `hlc_frame`, `hlc_body`, `hlc_saved` and `hlc_log`, and a message
+//! compared with bytes that were written by hand.
 ghost use Rattle.std.specs.Prelude.{◌≡◌, ◌⊎◌, ◌++◌, ◌<◌, List, ℕ, IfOk, IfSome, OnOk, IsErrOf};
 ghost use Rattle.hlc_frame.specs.Frame.{frame_bytes};
 ghost use Rattle.hlc_frame.specs.Reading.{tag_of};
@@ -11,14 +11,12 @@ ghost use Rattle.hlc_saved.specs.Saved.{BytesRepresent, Resumes};
 ghost use Rattle.hlc_log.specs.declared.record.Record.{Record as ARecord};
 ghost use Rattle.hlc_log.specs.Log.{log_bytes, with_records};
 
-use crate::items::{new_store, says};
-use crate::parts::copied;
 use hlc_body::{Row, RowRef, append_row};
 use hlc_clock::Stamp;
-use hlc_core::{Checkpoint, Core};
+use hlc_core::Core;
 use hlc_frame::{FrameReader, FrameWriter, WireFault};
 use hlc_log::recover;
-use hlc_saved::{CheckpointReader, CheckpointWriter, ResumeError, Resumed, encode_checkpoint};
+use hlc_saved::{CheckpointReader, ResumeError, Resumed};
 use hlc_wire::{Message, decode_item, decode_message, encode_item, encode_message};
 use std::alloc::{AllocError, Global};
 use std::test::*;
@@ -99,33 +97,4 @@ fn a_message_as_bytes(rt: HostRuntime) {
     let written = encode_message(rt.alloc(), &message).expect(&rt, "memory");
     assert_eq!(rt; written.as_slice(), MESSAGE.as_slice());
     assert_eq!(rt; decode_message(&MESSAGE), Ok(message));
-}
-
-/// Writes a checkpoint in pieces, each of which is taken out before the next one is written.
-fn in_pieces(alloc: Global, checkpoint: &Checkpoint, tag: u64) -> Result<Vec<u8>, AllocError> {
-    let mut piece = Vec::new(alloc);
-    let mut whole = Vec::new(alloc);
-    let Ok(mut writer) = CheckpointWriter::begin(&mut piece, checkpoint, tag)? else {
-        return Ok(whole);
-    };
-    whole.append(&mut piece)?;
-    for row in checkpoint.rows() {
-        writer.row(&mut piece, row)?;
-        whole.append(&mut piece)?;
-    }
-    writer.end(&mut piece)?;
-    whole.append(&mut piece)?;
-    Ok(whole)
-}
-
-#[test]
-fn a_checkpoint_in_pieces(rt: HostRuntime) {
-    let mut core = new_store(&rt);
-    says(&rt, &mut core, 0, b"a", Some(b"1"));
-    says(&rt, &mut core, 1, b"b", None);
-    let checkpoint = copied(&rt, &core);
-    let pieces = in_pieces(rt.alloc(), &checkpoint, 7).expect(&rt, "memory");
-    let whole = encode_checkpoint(rt.alloc(), &checkpoint, 7).expect(&rt, "memory");
-    let whole = whole.expect(&rt, "a checkpoint");
-    assert_eq!(rt; pieces.as_slice(), whole.as_slice());
 }

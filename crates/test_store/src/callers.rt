@@ -1,4 +1,4 @@
-//! The small callers in the READMEs of the libraries below the store and of `hlc_world`.
+//! The small callers in the READMEs of the libraries below the store.
 ghost use Rattle.std.specs.Prelude.{ℕ, ◌≡◌, ◌<◌, ◌≤◌, ◌↔◌, ◌+◌, ◌++◌, ◌∷◌, []};
 ghost use Rattle.std.specs.Prelude.{List, None, Some, true};
 ghost use Rattle.std.specs.Prelude.{length, false, IsTrue, IfOk, IfSome, IsErr, OnOk, count_by, nat_le};
@@ -10,9 +10,6 @@ ghost use Rattle.hlc_rows.specs.Rows.{IsRowSet};
 ghost use Rattle.hlc_rows.specs.declared.row.Row.{Row as ARow};
 ghost use Rattle.hlc_witness.specs.Fewest.{Alike};
 ghost use Rattle.hlc_snapshot.specs.RegistryView.{stamp_in};
-ghost use Rattle.hlc_world_event.specs.Events.{Event as AnEvent};
-ghost use Rattle.hlc_world.specs.declared.reply.Reply.{Reply as AReply};
-ghost use Rattle.hlc_world.specs.WorldView.{Represents};
 
 use hlc_clock::{Clock, ClockFault, Stamp};
 use hlc_columns::Table;
@@ -24,7 +21,6 @@ use hlc_snapshot::{Registry, SnapshotFault};
 use hlc_vacuum::{apply, plan_table};
 use hlc_values::Exact;
 use hlc_witness::{Witness, check};
-use hlc_world::{Event, Reply, World};
 use std::alloc::{AllocError, AllocFailed, Global};
 
 /// Returns whether two values are equal.
@@ -83,17 +79,6 @@ pub(crate) fn open_twice(registry: &mut Registry, stamp: Stamp) -> Result<(u64, 
     let first = registry.open(stamp)?;
     let second = registry.open(stamp)?;
     Ok((first, second))
-}
-
-/// Delivers an item twice, and returns both replies.
-pub(crate) fn deliver_twice(world: &mut World, node: u16, number: u64) -> (Reply, Reply)
-    ensures { (nodes : ℕ) (schedule : List (AnEvent × AReply)) → Represents nodes world.old schedule
-        → Represents nodes world.new
-        ((Event.Deliver node number, result.1) ∷ (Event.Deliver node number, result.0) ∷ schedule) }
-{
-    let first = world.step(Event::Deliver { node, number });
-    let second = world.step(Event::Deliver { node, number });
-    (first, second)
 }
 
 /// Returns the least number of rows that give these answers, if the witnesses show it.

@@ -43,19 +43,29 @@ fn most_stores<H: Abort + AllocGlobal>(rt: &H) -> (Ranges, Machine) {
     (ranges, Machine::of(Stamp::ZERO, nodes))
 }
 
+/// Lets the machine write a key.
+fn writes<H: Abort + AllocGlobal>(rt: &H, ranges: &mut Ranges, machine: &mut Machine, key: &[u8]) {
+    let written = machine.write(ranges.division(), 5, bytes(rt, key), Some(bytes(rt, key)));
+    let (store, item) = written.ok().expect(rt, "an item");
+    assert!(rt; ranges.accept(store, item).is_ok());
+}
+
+/// Lets the machine report to each store.
+fn reports<H: Abort + AllocGlobal>(rt: &H, ranges: &mut Ranges, machine: &mut Machine) {
+    let items = machine.report_all(rt.alloc(), 6).ok().expect(rt, "reports");
+    for (store, item) in items.into_iter().enumerate() {
+        assert!(rt; ranges.accept(store, item).is_ok());
+    }
+}
+
 #[test]
 fn a_cut_of_1024_stores_is_read(rt: HostRuntime) {
     let alloc = rt.alloc();
     let (mut ranges, mut machine) = most_stores(&rt);
     for key in [b"b".as_slice(), b"foobar", b"a"] {
-        let written = machine.write(ranges.division(), 5, bytes(&rt, key), Some(bytes(&rt, key)));
-        let (store, item) = written.ok().expect(&rt, "an item");
-        assert!(&rt; ranges.accept(store, item).is_ok());
+        writes(&rt, &mut ranges, &mut machine, key);
     }
-    let reports = machine.report_all(alloc, 6).ok().expect(&rt, "reports");
-    for (store, item) in reports.into_iter().enumerate() {
-        assert!(&rt; ranges.accept(store, item).is_ok());
-    }
+    reports(&rt, &mut ranges, &mut machine);
     let snapshot = ranges.open_cut(alloc).ok().expect(&rt, "a snapshot");
     assert!(&rt; snapshot.ids().len() == 1024);
     let pairs = ranges

@@ -1,5 +1,5 @@
-//! Tests of a whole run of a world, of streams that fail, of copies and of bytes, by public calls; and the small
-//! callers in the READMEs of the libraries that need no thread. There is nothing else here.
+//! Tests of the store and of what is below it, and of several stores, by public calls; and the small callers in the
+//! READMEs of these libraries. There is nothing else here.
 #![tactic(auto)]
 
 #[cfg(test)]
@@ -7,19 +7,7 @@ mod bytes;
 #[cfg(test)]
 mod callers;
 #[cfg(test)]
-mod certificates;
-#[cfg(test)]
-mod certified;
-#[cfg(test)]
-mod changes;
-#[cfg(test)]
 mod divisions;
-#[cfg(test)]
-mod encoded;
-#[cfg(test)]
-mod failures;
-#[cfg(test)]
-mod increments;
 #[cfg(test)]
 mod items;
 #[cfg(test)]
@@ -27,16 +15,6 @@ mod keys;
 #[cfg(test)]
 mod machines;
 #[cfg(test)]
-mod parts;
-#[cfg(test)]
-mod run;
-#[cfg(test)]
-mod savings;
-#[cfg(test)]
-mod scripts;
-#[cfg(test)]
 mod stamps;
 #[cfg(test)]
 mod stores;
-#[cfg(test)]
-mod streams;

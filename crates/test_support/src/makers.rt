@@ -1,9 +1,10 @@
 //! The values that the tests pass in.
-ghost use Rattle.std.specs.Prelude.{◌≡◌, ◌+◌, ◌*◌, ◌∷◌, [], Some, IfOk};
+ghost use Rattle.std.specs.Prelude.{◌≡◌, ◌+◌, ◌*◌, ◌∷◌, [], Some, IfOk, option_copied};
+ghost use Rattle.hlc_node.specs.Items.{an_item};
 ghost use Rattle.hlc_node.specs.declared.item.Body.TheVariants.{Write as a_write};
 
 use hlc_clock::Stamp;
-use hlc_node::{Body, Bytes, Item};
+use hlc_node::{Body, Bytes, Item, ItemRef};
 use std::alloc::{AllocError, Global};
 
 /// Returns the stamp of a second, with the counter at 0.
@@ -33,6 +34,14 @@ pub fn said(node: u16, number: u8, body: Body) -> Item
         stamp: Stamp::from_bits((u64::from(number) + 1) * 65_536),
         body,
     }
+}
+
+/// Returns such an item of node 0 over slices, which writes a value to a key, or deletes the key if there is none.
+pub fn written<'a>(number: u8, key: &'a [u8], value: Option<&'a [u8]>) -> ItemRef<'a>
+    ensures { result ≡ an_item 0 number ((number + 1) * 65536) (a_write key.now (option_copied value.entry)) }
+{
+    let stamp = Stamp::from_bits((u64::from(number) + 1) * 65_536);
+    ItemRef::write(0, u64::from(number), stamp, key, value)
 }
 
 /// Returns such an item that writes a value to a key, each of one byte.

@@ -1,6 +1,6 @@
 -- Nothing stopped, so all of the log was applied.
 use Rattle.hlc_log.proofs.LogLemmas.{whole-log}
-use Rattle.test_store.proofs.encoded.restart.Goals as goal
+use Rattle.test_bytes.proofs.encoded.restart.Goals as goal
 
 pub returns-in-None : goal.returns-in-None
 returns-in-None c = λ tag past of.

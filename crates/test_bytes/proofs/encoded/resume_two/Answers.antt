@@ -1,6 +1,6 @@
 -- The reader got the first block, and then the second; or there was no memory for one of them.
 use Rattle.std.proofs.Common.{[], ◌++◌, inl, inr, rules}
-use Rattle.test_store.proofs.encoded.resume_two.Goals as goal
+use Rattle.test_bytes.proofs.encoded.resume_two.Goals as goal
 
 pub returns-in_err-feed : goal.returns-in_err-feed
 returns-in_err-feed c = inl (search rules)

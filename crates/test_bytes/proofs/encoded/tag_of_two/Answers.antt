@@ -1,6 +1,6 @@
 -- Both blocks were fed in.
 use Rattle.std.proofs.Common.{[], ◌++◌}
-use Rattle.test_store.proofs.encoded.tag_of_two.Goals as goal
+use Rattle.test_bytes.proofs.encoded.tag_of_two.Goals as goal
 
 pub returns : goal.returns
 returns c =

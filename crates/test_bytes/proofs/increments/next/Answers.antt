@@ -1,5 +1,5 @@
 -- The increment is of this store.
-use Rattle.test_store.proofs.increments.next.Goals as goal
+use Rattle.test_bytes.proofs.increments.next.Goals as goal
 
 pub returns-in-Ok-Ok : goal.returns-in-Ok-Ok
 returns-in-Ok-Ok c = λ past more h g.

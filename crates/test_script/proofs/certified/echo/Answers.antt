@@ -1,7 +1,7 @@
 -- The word is the number's spelling. What is printed is written when all is finished.
 use Rattle.std.proofs.Common.{rules}
 use Rattle.hlc_text.proofs.PrintLemmas.{printed_finished}
-use Rattle.test_store.proofs.certified.echo.Goals as goal
+use Rattle.test_script.proofs.certified.echo.Goals as goal
 
 pub returns : goal.returns
 returns g c =

@@ -1,5 +1,5 @@
 -- The second step continues where the first one ended.
-use Rattle.test_store.proofs.callers.deliver_twice.Goals as goal
+use Rattle.test_script.proofs.run.deliver_twice.Goals as goal
 
 pub returns : goal.returns
 returns c = λ nodes schedule represents. c.step-second.ensures.represents nodes _
