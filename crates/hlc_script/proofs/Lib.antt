@@ -1,4 +1,3 @@
 pub mod Going
 pub mod Taken
-pub mod Outputs
 pub mod LineParts

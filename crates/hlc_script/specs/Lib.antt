@@ -1,4 +1,3 @@
 pub mod Reply
 pub mod Run
-pub mod OneOutput
 pub mod Asked

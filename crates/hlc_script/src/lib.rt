@@ -3,11 +3,9 @@
 
 mod asked;
 mod exact;
-mod laws;
 mod reply;
 mod run;
 
 pub use asked::answer_asked;
-pub use laws::one_output_for_an_input;
 pub use reply::{put_refusal, put_reply};
 pub use run::{RunEnd, answer_input, run_script};

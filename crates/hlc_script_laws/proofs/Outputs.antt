@@ -39,7 +39,7 @@ use Rattle.hlc_text.specs.declared.input.InputFault.TheVariants.{NoMemory as not
 use Rattle.hlc_line.specs.Line.{HasHeader, header_line}
 use Rattle.hlc_script.specs.Reply.{reply_lines, reply_text}
 use Rattle.hlc_script.specs.Run.{AnswersLine, Answers, AnswersScript}
-use Rattle.hlc_script.specs.OneOutput.{ReportsNoMemory, OneOutput}
+use Rattle.hlc_script_laws.specs.OneOutput.{ReportsNoMemory, OneOutput}
 use Rattle.hlc_line.proofs.LineLemmas.{one_event, one_header}
 
 -- the two are equal, or one of them is out of memory
