@@ -7,7 +7,8 @@ Each file of the folder has what one client wrote and read (history.py). Of what
 
     a read at a stamp never changes: a key has one value in all reads at one stamp
     a read at a cut has each write at or below it that was acknowledged: its value is that of the newest such write, or
-      of a newer one at or below the cut that nobody heard of, which was sent
+      of a newer one at or below the cut that nobody heard of, which was sent; of two at one stamp, that of the greater
+      node is the newer one
     what was refused is in no read
     no read shows a part of an item: where one has a write of it, all of its writes are in the log
     the stamps of a client rise, also over its restarts: a cut that has one of its writes has all that it wrote before
@@ -22,13 +23,14 @@ import sys
 from programs import Difference
 
 UNKNOWN, ACKNOWLEDGED, SHOWN = None, "was acknowledged", "is of an item that a read shows"
+NOTHING = 0, ()  # what a process sent that sent nothing
 
 
 class Item:
-    """What a client sent at a stamp. `known` says from what it is known to be in the log, if it is."""
+    """What a node sent at a stamp. `known` says from what it is known to be in the log, if it is."""
 
-    def __init__(self, stamp, known):
-        self.stamp, self.known = stamp, known
+    def __init__(self, stamp, node, known):
+        self.stamp, self.node, self.known = stamp, node, known
 
 
 def lines_of(path):
@@ -52,6 +54,11 @@ def stamp_of(write):
     return write[0].stamp
 
 
+def order_of(write):
+    """Returns what says which of two writes of a key is the newer one: their stamps, and then their nodes."""
+    return write[0].stamp, write[0].node
+
+
 class Checker:
     def __init__(self):
         self.writes = {}  # of each key: the item and the value of each write
@@ -62,19 +69,19 @@ class Checker:
     # ---- What the files say ----
 
     def add_client(self, path):
-        sent, last = {}, {}  # of each process: what it sent, and its last stamp
+        sent, last = {}, {}  # of each process: its node and what it sent, and its last stamp
         acknowledged = 0  # the greatest stamp that any of them knows to be in the log
         for words in lines_of(path):
             by = words["by"]
             last.setdefault(by, acknowledged)
             if "sends" in words:
-                self.keep(sent.pop(by, ()), UNKNOWN)
-                sent[by] = words["sends"]
+                self.keep(*sent.pop(by, NOTHING), UNKNOWN)
+                sent[by] = words["node"], words["sends"]
                 last[by] = rise(path.name, last[by], words["sends"])
             elif "done" in words:
-                items = sent.pop(by, ())
+                node, items = sent.pop(by, NOTHING)
                 if words["done"]:
-                    self.keep(items, ACKNOWLEDGED)
+                    self.keep(node, items, ACKNOWLEDGED)
                     acknowledged = max([acknowledged, *(stamp for stamp, _ in items)])
                 else:
                     self.refuse(items)
@@ -82,15 +89,15 @@ class Checker:
                 last[by] = max(last[by], words["saw"])
             else:
                 self.reads.append(words)
-        for items in sent.values():
-            self.keep(items, UNKNOWN)
+        for node, items in sent.values():
+            self.keep(node, items, UNKNOWN)
 
     def refuse(self, items):
         self.refused.update((key, stamp, value) for stamp, writes in items for key, value in writes)
 
-    def keep(self, items, known):
+    def keep(self, node, items, known):
         for stamp, writes in items:
-            item = Item(stamp, known)
+            item = Item(stamp, node, known)
             self.together += len(writes) > 1
             for key, value in writes:
                 self.many += 1
@@ -112,7 +119,7 @@ class Checker:
 
     def check(self):
         for writes in self.writes.values():
-            writes.sort(key=stamp_of)
+            writes.sort(key=order_of)
         seen = {}
         for key, stamp, value in self.values():
             before = seen.setdefault((stamp, key), value)
@@ -136,7 +143,8 @@ class Checker:
             if written == value:
                 return
             if item.known:
-                raise Difference(f"{key} at {stamp} is {value}, and {written} at {item.stamp} {item.known}")
+                said = f"{written} of node {item.node} at {item.stamp} {item.known}"
+                raise Difference(f"{key} at {stamp} is {value}, and {said}")
         if value is not None:
             raise Difference(f"{key} at {stamp} is {value}, which nobody wrote at or below it")
 

@@ -1,6 +1,7 @@
 """The history of what a client wrote and read, for checker.py: lines of JSON in a file, which is added to.
 
-    {"sends": [[stamp, [[key, value], ..]], ..]}    items, before they are appended; a value of null is a deletion
+    {"sends": [[stamp, [[key, value], ..]], ..], "node": number}    items of a node, before they are appended; a value
+                                           of null is a deletion
     {"done": true}                         they are in the log, or with false: they were refused, and are in none
     {"saw": stamp}                         the stamp of a read of which the client knows before it writes on
     {"read": stamp, "values": [[key, value], ..], "began": time}    what a read at a stamp answered
@@ -29,8 +30,8 @@ class History:
             hexadecimal = [[key.hex(), None if value is None else value.hex()] for key, value in writes]
             self.batch.append([int(stamp), hexadecimal])
 
-    def sends(self):
-        self.say(sends=self.batch)
+    def sends(self, node):
+        self.say(sends=self.batch, node=node)
         self.batch = []
 
     def done(self, taken):

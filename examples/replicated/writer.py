@@ -214,7 +214,7 @@ class Writer:
                 while len(items) < len(of_range) and size < MOST_BYTES - 70_000:
                     items.append(self.issue(part, of_range[len(items)]))
                     size += len(items[-1])
-                self.history.sends()
+                self.history.sends(self.number)
                 try:
                     self.append(first, b"".join(items), part=part)
                 except log.Sealed:

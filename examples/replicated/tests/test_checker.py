@@ -32,10 +32,10 @@ class Histories(unittest.TestCase):
     def wrote(self, *writes, done=True):
         return self.sent(*((stamp, {KEY: value}) for stamp, value in writes), done=done)
 
-    def sent(self, *items, done=True):
+    def sent(self, *items, done=True, node=1):
         """Each item has a stamp, and values by their keys."""
-        sends = {"sends": [[stamp, [[key, value] for key, value in writes.items()]] for stamp, writes in items]}
-        return [sends] if done is None else [sends, {"done": done}]
+        sends = [[stamp, [[key, value] for key, value in writes.items()]] for stamp, writes in items]
+        return [{"sends": sends, "node": node}, *([] if done is None else [{"done": done}])]
 
     def read(self, stamp, value, key=KEY):
         return self.read_all(stamp, {key: value})
@@ -100,6 +100,18 @@ class Histories(unittest.TestCase):
         self.judge(w1=writes, reads=self.read_all(9, {KEY: "a", OTHER: None}))
         self.refuse("that a read shows", w1=writes, reads=self.read(7, "a") + self.read(9, None, OTHER))
 
+    def test_two_nodes_at_one_stamp(self):
+        """The write of the greater node is the newer one, whatever the names of the writers."""
+        for low, high in ("w1", "w2"), ("w2", "w1"):
+            for value in "b", None:
+                writes = {low: self.sent((7, {KEY: "a"})), high: self.sent((7, {KEY: value}), node=3)}
+                self.judge(**writes, reads=self.read(7, value) + self.read(9, value))
+                self.refuse("of node 3 at 7 was acknowledged", **writes, reads=self.read(8, "a"))
+                unheard = writes | {high: self.sent((7, {KEY: value}), done=None, node=3)}
+                self.judge(**unheard, reads=self.read(7, "a"))
+                self.judge(**unheard, reads=self.read(8, value))
+                self.refuse("of node 1 at 7 was acknowledged", **unheard, reads=self.read(8, "c"))
+
     def test_what_was_refused_is_in_no_read(self):
         writes = self.wrote((5, "a")) + self.wrote((7, "b"), done=False) + self.wrote((9, "b"))
         self.judge(w1=writes, reads=self.read(8, "a") + self.read(9, "b"))
@@ -126,7 +138,7 @@ class Histories(unittest.TestCase):
         path = self.folder / "w1"
         history = History(path)
         history.issue(5, [(b"k", b"a"), (b"l", None)])
-        history.sends()
+        history.sends(1)
         history.done(True)
         history.file.close()
         with open(path, "a") as file:
