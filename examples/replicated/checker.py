@@ -34,10 +34,10 @@ class Item:
 
 
 def lines_of(path):
-    """Yields the words of each whole line: the last one of a client that was killed may be none."""
+    """Yields the words of each whole line: the last one of a process that was killed may be none."""
     with open(path) as file:
         for line in file:
-            if line.endswith("\n"):
+            if line.endswith("}\n"):
                 yield json.loads(line)
 
 

@@ -14,12 +14,23 @@ import json
 import os
 
 
+def ends_a_line(path):
+    """Returns whether a file has no line that was cut short, as by a kill in the middle of it."""
+    with open(path, "rb") as file:
+        if file.seek(0, os.SEEK_END) == 0:
+            return True
+        file.seek(-1, os.SEEK_END)
+        return file.read(1) == b"\n"
+
+
 class History:
     """Where no path is given, nothing is kept."""
 
     def __init__(self, path=None):
         self.file = open(path, "a", buffering=1) if path else None
         self.batch = []
+        if path and not ends_a_line(path):
+            self.file.write("\n")
 
     def say(self, **words):
         if self.file:

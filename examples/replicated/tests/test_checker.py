@@ -144,6 +144,12 @@ class Histories(unittest.TestCase):
         with open(path, "a") as file:
             file.write('{"sends": [[9, [["6b"')
         self.assertIn("2 writes", self.judge(reads=self.read(5, b"a".hex()))[0])
+        for _ in range(2):  # the next process of this name goes on in the same file
+            history = History(path)
+            history.saw(7)
+            history.file.close()
+        self.assertIn("2 writes", self.judge(reads=self.read(5, b"a".hex()))[0])
+        self.assertEqual([line.get("saw") for line in checker.lines_of(path)], [None, None, 7, 7])
 
 
 if __name__ == "__main__":
