@@ -94,7 +94,7 @@ class Map:
         return max(self.ranges) + 1
 
     def children(self, number):
-        return [found for found in self.ranges.values() if number in found.parents]
+        return [found for found in list(self.ranges.values()) if number in found.parents]  # other threads ask, too
 
 
 def read_map(etcd):

@@ -26,6 +26,19 @@ class OfTheMap(unittest.TestCase):
         self.assertEqual((known.live, known.ranges[5]), ([3, 5], Range(5, b"g", b"", (), (4, 2))))
         self.assertEqual([known.at(key).id for key in (b"\0", b"f", b"g", b"m", b"z")], [3, 3, 5, 5, 5])
 
+    def test_what_came_from_a_range_while_the_map_grows(self):
+        """One thread of a replica asks, and another one applies an entry just then."""
+        known = ranges.Map()
+
+        class Growing:
+            @property
+            def parents(self):
+                known.ranges[max(known.ranges) + 1] = Range(9)
+                return (0,)
+
+        known.ranges[1] = found = Growing()
+        self.assertEqual(known.children(0), [found])
+
     def test_replicas_of_a_range(self):
         known = ranges.Map()
         known.apply({"range": 0, "replicas": ["r2"]})
