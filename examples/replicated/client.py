@@ -11,7 +11,7 @@ import time
 import part
 from etcd import Etcd, Refused, Stopped, Unavailable
 from history import History
-from programs import ask
+from programs import PATIENCE, Difference, ask
 from ranges import Map
 
 EACH = 0.1  # seconds from one read to the next
@@ -31,10 +31,17 @@ class Client:
         self.thread = threading.Thread(target=self.go_on, daemon=True)
         self.thread.start()
 
-    def stop(self):
+    def end(self):
+        """Lets the thread end."""
         self.ending.set()
+
+    def stop(self):
+        """Ends the thread, and waits for it. A replica closes a snapshot before it answers: none is open afterwards."""
+        self.end()
         if self.thread:
-            self.thread.join(10)
+            self.thread.join(PATIENCE)
+            if self.thread.is_alive():
+                raise Difference(f"the client's read does not end within {PATIENCE} s")
 
     def go_on(self):
         while not self.ending.is_set():

@@ -97,7 +97,7 @@ class Cluster:
                 return member
         return None
 
-    def wait(self, seconds=60):
+    def wait(self, seconds=120):
         """Waits until each running member has a leader."""
         end = time.monotonic() + seconds
         while not all((self.status(member) or {}).get("leader") for member in list(self.running)):

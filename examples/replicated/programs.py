@@ -13,7 +13,7 @@ import power
 from cluster import Cluster
 
 HERE = pathlib.Path(__file__).resolve().parent
-PATIENCE = 60  # seconds within which a program ends that was asked to
+PATIENCE = 120  # seconds after which what has to come does not: time is not what is tested, and much may run beside it
 
 
 class Difference(Exception):
@@ -55,11 +55,12 @@ class Program:
             self.seconds_to_address = time.monotonic() - self.started
             self.address = words["address"]
 
-    def wait_for_address(self, seconds=30):
+    def wait_for_address(self, seconds=PATIENCE):
         end = time.monotonic() + seconds
         while not self.address:
             if time.monotonic() > end or self.process.poll() is not None:
-                raise SystemExit(f"{self.name} did not start")
+                status = self.process.poll()
+                raise SystemExit(f"{self.name} did not start: {'it runs' if status is None else f'status {status}'}")
             time.sleep(0.005)
         return self.address
 
@@ -71,7 +72,7 @@ class Program:
         """Returns the status with which it ended, or None."""
         return self.process.poll()
 
-    def wait(self, seconds=30):
+    def wait(self, seconds=PATIENCE):
         """Returns its status once it has ended and its last line was read."""
         status = self.process.wait(seconds)
         self.reader.join()
@@ -86,7 +87,7 @@ class Program:
 
 def ask(address, path, **words):
     """Returns the status and the content of an answer. A word may be a number, bytes, or a list of bytes."""
-    connection = http.client.HTTPConnection(address, timeout=60)
+    connection = http.client.HTTPConnection(address, timeout=PATIENCE)
     try:
         connection.request("GET", path + "?" + urllib.parse.urlencode(words, doseq=True))
         answer = connection.getresponse()
@@ -179,7 +180,7 @@ class Programs:
                 self.note_appends(program)
                 self.ending.remove((program, status, end))
             elif time.monotonic() > end:
-                raise Difference(f"{program.name} does not end")
+                raise Difference(f"{program.name} does not end within {PATIENCE} s: status {status} was expected")
 
     def expect_end(self, program, status):
         self.ending.append((program, status, time.monotonic() + PATIENCE))

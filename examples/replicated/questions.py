@@ -7,10 +7,12 @@ import subprocess
 import hlcstore
 
 from programs import Difference, ask
+from unlike import shortly, statuses, unlike
 
 KEYS = 20_000
 KEYS_READ = 20
 TIMES = 10  # for which certificates are asked that differ
+ELSEWHERE = 404  # the range is at other replicas; the model has no certificates
 
 
 class Questions:
@@ -30,7 +32,7 @@ class Questions:
             try:
                 answers[name] = answer.result()
             except (OSError, http.client.HTTPException) as failure:
-                raise Difference(f"{name} does not answer: {failure!r}") from None
+                raise Difference(f"{name} does not answer {path} {words}: {failure!r}") from None
         return answers
 
     def states(self):
@@ -41,11 +43,15 @@ class Questions:
 
         A replica may refuse: its vacuum may have passed the stamp, or it may have begun again at an older checkpoint.
         """
-        answers = self.ask_all(path, **words)
+        return self.same_of(self.ask_all(path, **words), path, words)
+
+    def same_of(self, answers, path, words):
         good = {name: content for name, (status, content) in answers.items() if status == 200}
         self.refused += len(answers) - len(good)
-        if "model" not in good or any(content != good["model"] for content in good.values()):
-            raise Difference(f"{path} {words}: {good or answers}")
+        if "model" not in good:
+            raise Difference(f"{path} {shortly(words)}: {statuses(answers)}")
+        if said := unlike(good, "model"):
+            raise Difference(f"{path} {shortly(words)}: {said}")
         return good["model"] if len(good) > 1 else None
 
     def readable(self):
@@ -89,18 +95,34 @@ class Questions:
         """A replica in which another client reads just now keeps rows for it: then the certificates are asked again."""
         for _ in range(TIMES):
             answers = self.ask_all("/certificate", **words)
-            texts = [text for name, (status, text) in answers.items() if status == 200]
-            self.certificates += len(texts)
-            for text in set(texts):
-                self.check(text)
-            if len(set(texts)) <= 1:
+            texts = {name: text for name, (status, text) in answers.items() if status == 200}
+            self.check_all(texts)
+            if len(set(texts.values())) <= 1:
                 return
-        raise Difference(f"the certificates differ: {words}")
+        raise Difference(f"the certificates differ, asked {TIMES} times: {words}: {unlike(texts, min(texts))}")
 
-    def check(self, certificate):
+    def compare_certificates_at_rest(self, **words):
+        """Nobody reads, and no log goes on: each replica that has a range gives the same certificate, at once."""
+        answers = self.ask_all("/certificate", **words)
+        here = {name: answer for name, answer in answers.items() if answer[0] != ELSEWHERE}
+        if not here or any(status != 200 for status, _ in here.values()):
+            raise Difference(f"a certificate at rest is missing: {words}: {statuses(answers)}")
+        texts = {name: text for name, (_, text) in here.items()}
+        self.check_all(texts)
+        if said := unlike(texts, min(texts)):
+            raise Difference(f"the certificates at rest differ: {words}: {said}")
+
+    def check_all(self, texts):
+        self.certificates += len(texts)
+        for text in set(texts.values()):
+            self.check(text, [name for name in sorted(texts) if texts[name] == text])
+
+    def check(self, certificate, names):
+        """Checks a certificate that replicas of these names gave."""
         if not self.checker:
             hlcstore.check(certificate)
             return
         checked = subprocess.run([self.checker, "check"], input=certificate, capture_output=True)
         if checked.returncode != 0:
-            raise Difference(f"a certificate was refused: {checked.stdout[:200]}")
+            said = f"status {checked.returncode}, {shortly(checked.stdout + checked.stderr)}"
+            raise Difference(f"a certificate of {', '.join(names)} was refused: {said}")

@@ -1,9 +1,6 @@
 """Asks about several ranges at one cut: the replicas that have a range, and the model, answer alike."""
 
-from programs import Difference
-from questions import KEYS, KEYS_READ, Questions
-
-ELSEWHERE = 404  # the range is at other replicas
+from questions import ELSEWHERE, KEYS, KEYS_READ, Questions
 
 
 class RangeQuestions(Questions):
@@ -44,11 +41,7 @@ class RangeQuestions(Questions):
     def same(self, path, **words):
         answers = self.ask_all(path, **words)
         here = {name: answer for name, answer in answers.items() if answer[0] != ELSEWHERE}
-        good = {name: content for name, (status, content) in here.items() if status == 200}
-        self.refused += len(here) - len(good)
-        if "model" not in good or any(content != good["model"] for content in good.values()):
-            raise Difference(f"{path} {words}: {good or answers}")
-        return good["model"] if len(good) > 1 else None
+        return self.same_of(here, path, words)
 
     def compare_certificates(self, stamp):
         """Lets the replicas of each range vacuum to a stamp, compares the certificates, and checks one of each."""
