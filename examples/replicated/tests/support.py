@@ -28,7 +28,7 @@ from writer import Writer
 
 QUOTA = 64 << 20  # bytes of the member's database
 RETENTION = 6000  # milliseconds
-PATIENCE = 60  # seconds after which a test fails that waits for what does not come
+PATIENCE = 120  # seconds after which a test fails that waits for what does not come: much may run beside it
 
 
 class Interleaved(Etcd):

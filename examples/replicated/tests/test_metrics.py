@@ -90,7 +90,7 @@ class Answers(MemoryCase):
 
     def ask(self, answerer, *paths):
         """Returns the kind and the text of the last answer."""
-        connection = http.client.HTTPConnection(serve.start(answerer).address, timeout=10)
+        connection = http.client.HTTPConnection(serve.start(answerer).address, timeout=60)
         with contextlib.closing(connection):
             for path in paths:
                 connection.request("GET", path)

@@ -101,7 +101,7 @@ class Page(unittest.TestCase):
         self.assertNotIn("innerHTML", text)
 
     def test_it_is_served(self):
-        connection = http.client.HTTPConnection(serve.start(Drawn({"replica": STATE})).address, timeout=10)
+        connection = http.client.HTTPConnection(serve.start(Drawn({"replica": STATE})).address, timeout=60)
         with contextlib.closing(connection):
             connection.request("GET", "/")
             answer = connection.getresponse()

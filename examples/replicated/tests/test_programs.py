@@ -66,7 +66,7 @@ class Started:
 
 def ask(address, path):
     """Returns what a program answers, or None while it does not."""
-    connection = http.client.HTTPConnection(address, timeout=5)
+    connection = http.client.HTTPConnection(address, timeout=PATIENCE)
     with contextlib.closing(connection):
         try:
             connection.request("GET", path)
@@ -78,7 +78,7 @@ def ask(address, path):
 
 
 class Programs(MemberCase):
-    patience = 2 * PATIENCE
+    patience = 4 * PATIENCE
 
     def setUp(self):
         super().setUp()
@@ -184,10 +184,10 @@ class Programs(MemberCase):
         return coordinator, writers, replica, [address, listen]
 
     def assert_held_back(self, addresses):
-        """Each of two programs names the writer w1, and what cures it; so does the page."""
+        """Each of two programs names the writer w1, and what cures it; so does the page. Where much else runs, each may
+        name another one that was slow, before."""
         for asked in addresses:
-            state = self.wait_until(lambda: self.state_held_by(asked, "node"), "it names who holds the floor back")
-            self.assertEqual(state["held_back"]["name"], "w1")
+            state = self.wait_until(lambda: self.state_held_by(asked, "node", "w1"), "it says that w1 holds it back")
             self.assertIn("etcdctl put ask/lost/w1 ''", state["held_back"]["cure"])
             exposition.read(ask(asked, "/metrics"))
         if BROWSER:
@@ -225,9 +225,10 @@ class Programs(MemberCase):
     def live_ranges(self, address):
         return sum(each["live"] for each in ask(address, "/state")["ranges"])
 
-    def state_held_by(self, address, by):
+    def state_held_by(self, address, by, name=None):
         state = ask(address, "/state")
-        return state if state["held_back"]["by"] == by else None
+        held = state["held_back"]
+        return state if held["by"] == by and name in (None, held["name"]) else None
 
 
 if __name__ == "__main__":

@@ -172,7 +172,7 @@ class Beginning(MemoryCase):
         replica = self.replay().replica
         replica.seconds, replica.publish, replica.save_all = 0, lambda *_: published.release(), ended.wait
         life.essential(replica.keep_up, "address")
-        seen = [published.acquire(timeout=5) for _ in range(3)]
+        seen = [published.acquire(timeout=60) for _ in range(3)]
         ended.set()
         for thread in threading.enumerate():
             if thread.name.startswith("keep_"):

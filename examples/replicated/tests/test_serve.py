@@ -35,7 +35,7 @@ class Answers:
 
     def ask(self, path):
         """Returns the status and the content of an answer."""
-        connection = http.client.HTTPConnection(self.address, timeout=10)
+        connection = http.client.HTTPConnection(self.address, timeout=60)
         with contextlib.closing(connection):
             connection.request("GET", path)
             answer = connection.getresponse()
@@ -86,7 +86,7 @@ class Answers:
     def test_lines_that_are_no_requests(self):
         host, port = self.address.split(":")
         for line, status in (b"GET", b"400"), (b"GET /state HTTP/x", b"400"), (b"PUT /state HTTP/1.0", b"501"):
-            with socket.create_connection((host, int(port)), timeout=10) as connection:
+            with socket.create_connection((host, int(port)), timeout=60) as connection:
                 connection.sendall(line + b"\r\n\r\n")
                 self.assertIn(status, connection.recv(1 << 16))
 
