@@ -31,17 +31,17 @@ class Client:
         self.thread = threading.Thread(target=self.go_on, daemon=True)
         self.thread.start()
 
-    def end(self):
-        """Lets the thread end."""
+    def end(self, seconds):
+        """Lets the thread end, and returns whether it did within so many seconds."""
         self.ending.set()
+        if self.thread:
+            self.thread.join(seconds)
+        return not self.thread or not self.thread.is_alive()
 
     def stop(self):
-        """Ends the thread, and waits for it. A replica closes a snapshot before it answers: none is open afterwards."""
-        self.end()
-        if self.thread:
-            self.thread.join(PATIENCE)
-            if self.thread.is_alive():
-                raise Difference(f"the client's read does not end within {PATIENCE} s")
+        """Ends the thread. A replica closes a snapshot before it answers: none is open for this client afterwards."""
+        if not self.end(PATIENCE):
+            raise Difference(f"the client's read does not end within {PATIENCE} s")
 
     def go_on(self):
         while not self.ending.is_set():
