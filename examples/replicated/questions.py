@@ -3,6 +3,7 @@
 import concurrent.futures
 import http.client
 import subprocess
+import time
 
 import hlcstore
 
@@ -11,7 +12,7 @@ from unlike import shortly, statuses, unlike
 
 KEYS = 20_000
 KEYS_READ = 20
-TIMES = 10  # for which certificates are asked that differ
+TIMES, PAUSE = 10, 0.1  # how often certificates that differ are asked, and the seconds from one time to the next
 ELSEWHERE = 404  # the range is at other replicas; the model has no certificates
 
 
@@ -99,6 +100,7 @@ class Questions:
             self.check_all(texts)
             if len(set(texts.values())) <= 1:
                 return
+            time.sleep(PAUSE)  # whoever reads, ends
         raise Difference(f"the certificates differ, asked {TIMES} times: {words}: {unlike(texts, min(texts))}")
 
     def compare_certificates_at_rest(self, **words):

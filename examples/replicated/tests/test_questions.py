@@ -18,6 +18,7 @@ LATER = 503, {"refused": "no memory"}
 class Answers(unittest.TestCase):
     def setUp(self):
         self.enterContext(mock.patch("hlcstore.check"))
+        self.enterContext(mock.patch("time.sleep"))
 
     def questions(self, answers, kind=Questions):
         """Returns questions that are answered so: each name has its answers, of which the last one stays."""
