@@ -3,6 +3,7 @@
 //! the bytes that a call made.
 #![tactic(auto)]
 
+mod calling;
 mod found;
 mod loose;
 mod output;

@@ -2,12 +2,10 @@
 
 /// Makes a call on the core of an open store, and puts the core back. Returns 100 for a closed store. The words in
 /// brackets are set to 0 first.
+#[macro_export]
 macro_rules! on_core {
-    ($alloc:expr, $store:expr, [$($word:ident),*], |$core:ident| $call:expr) => {{
-        $(*$word = 0;)*
-        on_core!($alloc, $store, |$core| $call)
-    }};
-    ($alloc:expr, $store:expr, |$core:ident| $call:expr) => {
+    ($alloc:expr, $store:expr, $([$($word:ident),*],)? $core:ident => $call:expr) => {{
+        $($(*$word = 0;)*)?
         match $store.take($alloc) {
             None => 100,
             Some(taken) => {
@@ -18,17 +16,15 @@ macro_rules! on_core {
                 code
             }
         }
-    };
+    }};
 }
 
 /// Makes a call that only reads the core of an open store. Returns 100 for a closed store. The words in brackets are
 /// set to 0 first.
+#[macro_export]
 macro_rules! of_core {
-    ($reader:expr, [$($word:ident),*], |$core:ident| $call:expr) => {{
-        $(*$word = 0;)*
-        of_core!($reader, |$core| $call)
-    }};
-    ($reader:expr, |$core:ident| $call:expr) => {
+    ($reader:expr, $([$($word:ident),*],)? $core:ident => $call:expr) => {{
+        $($(*$word = 0;)*)?
         match $reader.take() {
             None => 100,
             Some(lent) => {
@@ -38,10 +34,11 @@ macro_rules! of_core {
                 code
             }
         }
-    };
+    }};
 }
 
 /// Makes a call that returns boxed bytes, for an output that has none. Returns 108, and makes no call, if it has.
+#[macro_export]
 macro_rules! into_output {
     ($alloc:expr, $output:expr, $len:expr, $call:expr) => {
         match $output.take($alloc) {
@@ -60,7 +57,3 @@ macro_rules! into_output {
         }
     };
 }
-
-pub(crate) use into_output;
-pub(crate) use of_core;
-pub(crate) use on_core;
