@@ -1,7 +1,7 @@
 -- Each key of two lists that are divided is answered as by the list that it is of. So two checkpoints whose keys are
 -- divided are together a checkpoint, whatever they took.
 use Rattle.std.proofs.Common.{◌≡◌, ℕ, Bool, true, false, List, [], ◌∷◌, ◌++◌, Less, Equal, Greater, nat_cmp}
-use Rattle.std.proofs.Common.{All, Contains, Option, refl, ap, sym, subst, ◌∙◌, append-nil}
+use Rattle.std.proofs.Common.{Ordering, All, Contains, Option, refl, ap, sym, subst, ◌∙◌, append-nil}
 use Rattle.std.specs.Prelude.{not, if◌then◌else◌, option_and_then}
 use Rattle.std.specs.Ordering.{ordering_then, ordering_reverse, is_lt}
 use Rattle.std.specs.Cmp.Lexicographic.{slice_cmp}
@@ -15,7 +15,6 @@ use Rattle.hlc_rows.proofs.NewestLemmas.{newest_after_others, newest_before_othe
 use Rattle.hlc_intake.specs.IntakeView.{IntakeView}
 use Rattle.hlc_witness.specs.Certificate.{RowsAscend, row_cmp}
 use Rattle.hlc_witness.specs.Cost.{IsInLimits}
-use Rattle.hlc_witness.proofs.Ascending.{is_lt-true}
 use Rattle.hlc_witness.proofs.CertificateLemmas.{ascending_rows_are_a_row_set}
 use Rattle.hlc_witness.proofs.ListedLemmas.{sorted_append}
 use Rattle.hlc_checkpoint.specs.StoreView.{IsUnderHead}
@@ -65,10 +64,15 @@ sides-answer left (first ∷ rest) key stamp divided =
           (ap (is_under bound) (sym e) ∙ All-contains (λ (r : Row). is_under bound r.key ≡ true) left row parts.0 m)))
     ] refl
 
+is_lt-Less : (o : Ordering) → is_lt o ≡ true → o ≡ Less
+is_lt-Less Less h = refl
+is_lt-Less Equal h = absurd (cc)
+is_lt-Less Greater h = absurd (cc)
+
 -- a key below a bound is below one that is not
 key-less : (a bound c : List ℕ) → is_under bound a ≡ true → is_from bound c ≡ true → slice_cmp nat_cmp a c ≡ Less
 key-less a bound c under from =
-    let less : slice_cmp nat_cmp a bound ≡ Less = is_lt-true (slice_cmp nat_cmp a bound) under in
+    let less : slice_cmp nat_cmp a bound ≡ Less = is_lt-Less (slice_cmp nat_cmp a bound) under in
     elim (slice_cmp nat_cmp c bound) as (λ o. slice_cmp nat_cmp c bound ≡ o → slice_cmp nat_cmp a c ≡ Less) [
       | Less ↦ λ e. absurd (not-both (is_under bound c) (ap is_lt e) from)
       | Equal ↦ λ e.

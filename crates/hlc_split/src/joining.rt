@@ -74,7 +74,7 @@ impl Error for MergeFault {}
 ///
 /// Refused for the first reason of `MergeFault`; memory is needed only after the check. Both are moved, and lost if it
 /// is refused. It looks at each link, each open snapshot and each row once, and copies no row.
-#[tactic(auto, using(crate::proofs::Joined::merged_represents, crate::proofs::Sides::merged_answers, crate::proofs::Sides::merged_is_checkpoint))]
+#[tactic(auto, using(crate::proofs::Joined::merged_represents))]
 pub fn merge(
     left: Checkpoint,
     right: Checkpoint,
