@@ -191,7 +191,7 @@ pub step-keeps : (layout : Layout) (run : List Turn) (m s : ℕ) (machine : Mach
     → IsMachineOf layout run m machine
     → ((mark : ℕ × ℕ) → start_of layout s step ≡ Some mark → mark.0 ≢ m) → begun (step ∷ []) ≡ []
     → IsMachineOf layout (Stepped s step ∷ run) m machine
-step-keeps layout run m s machine step h free none =
+step-keeps layout run m s machine step h free stateless =
     let same : last_stamp layout m (Stepped s step ∷ run) ≡ last_stamp layout m run =
     not-raised m (last_stamp layout m run) (start_of layout s step) free in
     record {
@@ -201,7 +201,7 @@ step-keeps layout run m s machine step h free none =
           record {
             inside = (let was : node.id < numbered (past_of layout t run) = is.inside in
                 let grows : numbered (past_of layout t run) ≤ numbered (past_of layout t (Stepped s step ∷ run)) =
-                numbered-later layout run s t step (numbered-grows step (past_of layout s run) none) in omega arith);
+                numbered-later layout run s t step (numbered-grows step (past_of layout s run) stateless) in omega arith);
             next = is.next;
             retired = is.retired;
           };

@@ -1,7 +1,9 @@
 -- The rows of a store, column by column: those of the columns so far are placed, and the next one's.
 use Rattle.std.proofs.Common.{◌≡◌, ℕ, zero, suc, ◌+◌, ◌<◌, ◌≤◌, ◌⊎◌, List, [], ◌∷◌, ◌++◌, length, take, drop, map, Some}
+use Rattle.std.proofs.Common.{Bool, true, false}
 use Rattle.std.proofs.Common.{refl, ap, sym, ◌∙◌, subst, inl, inr, arith, append_assoc, append-nil, add-one}
-use Rattle.std.specs.Prelude.{slice_get, All, ◌≢◌}
+use Rattle.std.specs.Prelude.{slice_get, All, ◌≢◌, ◌↔◌, IsTrue}
+use Rattle.std.proofs.lemmas.Bool.{cases_eq, cases_lt}
 use Rattle.std.specs.List.{flat_map}
 use Rattle.std.proofs.lemmas.Grind.{flat_map-append}
 use Rattle.std.proofs.lemmas.List.Elements.{All-nil, All-append, All-map}
@@ -9,12 +11,11 @@ use Rattle.hlc_rows.specs.declared.row.Row.{Row}
 use Rattle.hlc_table_column.specs.Cells.{Cell}
 use Rattle.hlc_table_column.specs.Rows.{KeyCells, row_of, rows_of, rows_in_one, rows_in}
 use Rattle.hlc_columns.specs.Table.{columns_in}
-use Rattle.hlc_core.specs.StoreView.{StoreView}
 use Rattle.hlc_routing.specs.Division.{DivisionView, store_of}
-use Rattle.hlc_routing.specs.Placing.{ArePlaced, IsFirstOther, IsOtherAt}
+use Rattle.hlc_routing.specs.Placing.{ArePlaced, IsFirstOther, IsOther, IsOtherAt, IsOtherOf}
 use Rattle.hlc_routing.proofs.Stepping.{some-same}
 
-pub split-at : {X : Type 0} (xs : List X) (i : ℕ) (x : X) → slice_get xs i ≡ Some x
+split-at : {X : Type 0} (xs : List X) (i : ℕ) (x : X) → slice_get xs i ≡ Some x
     → xs ≡ take i xs ++ x ∷ drop (suc i) xs
 split-at [] i x e = absurd (cc)
 split-at (y ∷ xs) zero x e = ap (λ z. z ∷ xs) (some-same y x e)
@@ -26,7 +27,7 @@ take-suc_at [] i x e = absurd (cc)
 take-suc_at (y ∷ xs) zero x e = ap (λ z. z ∷ []) (some-same y x e)
 take-suc_at (y ∷ xs) (suc i) x e = ap (λ zs. y ∷ zs) (take-suc_at xs i x e)
 
-pub take-next : {X : Type 0} (xs : List X) (i : ℕ) (x : X) → slice_get xs i ≡ Some x
+take-next : {X : Type 0} (xs : List X) (i : ℕ) (x : X) → slice_get xs i ≡ Some x
     → take (i + 1) xs ≡ take i xs ++ x ∷ []
 take-next xs i x e = ap (λ n. take n xs) (add-one i) ∙ take-suc_at xs i x e
 
@@ -46,6 +47,19 @@ no-rows : (division : DivisionView) (s : ℕ) (key : List ℕ) (cells : List Cel
     → ArePlaced division s (rows_of key cells)
 no-rows division s key [] none = All-nil (λ (row : Row). store_of division row.key ≡ s)
 no-rows division s key (cell ∷ cells) none = absurd (omega (arith, none))
+
+-- a column that is not another store's has no rows, or a key of this one
+pub not-other : (division : DivisionView) (s : ℕ) (one : KeyCells) (is : Bool) → is ≡ false
+    → IsTrue is ↔ IsOther division s one → (length one.cells ≡ 0) ⊎ (store_of division one.key ≡ s)
+not-other division s one is not' both =
+    elim (cases_eq (store_of division one.key) s) [
+      | inl same ↦ inr same
+      | inr other ↦
+          elim (cases_lt 0 (length one.cells)) [
+            | inl some ↦ absurd (let e : true ≡ false = sym (both.1 (some, other)) ∙ not' in cc)
+            | inr few ↦ inl (let low : length one.cells ≤ 0 = few in omega arith)
+          ]
+    ]
 
 -- a column more
 pub placed-next : (division : DivisionView) (s : ℕ) (leaf : List KeyCells) (place : ℕ) (one : KeyCells)
@@ -100,7 +114,7 @@ cut-rows before one after some = cut one.cells refl some
     )
 
 -- the first column of another store's key, in the first leaf that has one
-pub found-first : (division : DivisionView) (s : ℕ) (rows : List Row) (leaves : List (List KeyCells)) (at place : ℕ)
+found-first : (division : DivisionView) (s : ℕ) (rows : List Row) (leaves : List (List KeyCells)) (at place : ℕ)
     (leaf : List KeyCells) (key : List ℕ) → rows_in (columns_in leaves) ≡ rows → slice_get leaves at ≡ Some leaf
     → ArePlaced division s (rows_in (columns_in (take at leaves))) → (other : IsOtherAt division s leaf place)
     → other.column.key ≡ key → IsFirstOther division s rows key
@@ -118,7 +132,7 @@ found-first division s rows leaves at place leaf key are is so_far other same =
     whole ∙ ap (λ (xs : List KeyCells). before ++ (xs ++ rest)) cut
     ∙ ap (λ (xs : List KeyCells). before ++ xs) (append_assoc first (one ∷ last) rest)
     ∙ sym (append_assoc before first (one ∷ (last ++ rest))) in
-    let here = cut-rows (before ++ first) one (last ++ rest) other.some in
+    let here = cut-rows (before ++ first) one (last ++ rest) other.other.0 in
     record {
       before = rows_in (before ++ first);
       row = here.0;
@@ -128,11 +142,18 @@ found-first division s rows leaves at place leaf key are is so_far other same =
           (All-append (λ (row : Row). store_of division row.key ≡ s) (rows_in before) (rows_in first) so_far
           other.placed);
       key_is = here.3 ∙ same;
-      other = λ e. other.other (ap (store_of division) same ∙ e);
+      other = λ e. other.other.1 (ap (store_of division) same ∙ e);
     }
 
-pub all-placed : (division : DivisionView) (s : ℕ) (rows : List Row) (leaves : List (List KeyCells)) (at : ℕ)
-    → rows_in (columns_in leaves) ≡ rows → length leaves ≤ at
-    → ArePlaced division s (rows_in (columns_in (take at leaves))) → ArePlaced division s rows
-all-placed division s rows leaves at are all' so_far =
-    subst (ArePlaced division s) (ap (λ xs. rows_in (columns_in xs)) (take-all leaves at all') ∙ are) so_far
+-- the same, with the leaf and the column as they were looked up
+pub found-of : (division : DivisionView) (s : ℕ) (rows : List Row) (leaves : List (List KeyCells)) (places : ℕ × ℕ)
+    (leaf : List KeyCells) (column : KeyCells) (key : List ℕ) → rows_in (columns_in leaves) ≡ rows
+    → IsOtherOf division s leaves places → slice_get leaves places.0 ≡ Some leaf
+    → slice_get leaf places.1 ≡ Some column → key ≡ column.key → IsFirstOther division s rows key
+found-of division s rows leaves places leaf column key are found is at same =
+    let one : found.leaf ≡ leaf = some-same found.leaf leaf (sym found.at ∙ is) in
+    let here : slice_get found.leaf places.1 ≡ Some column =
+    subst (λ (l : List KeyCells). slice_get l places.1 ≡ Some column) (sym one) at in
+    let two : found.other.column ≡ column = some-same found.other.column column (sym found.other.at ∙ here) in
+    found-first division s rows leaves places.0 places.1 found.leaf key are found.at found.placed found.other
+    (ap (λ (x : KeyCells). x.key) two ∙ sym same)

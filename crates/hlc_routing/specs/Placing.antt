@@ -2,6 +2,7 @@
 use Rattle.std.specs.Prelude.{◌≡◌, ◌≢◌, ℕ, ◌<◌, List, ◌∷◌, ◌++◌, length, take, Some, slice_get, All}
 use Rattle.hlc_rows.specs.declared.row.Row.{Row}
 use Rattle.hlc_table_column.specs.Rows.{KeyCells, rows_in}
+use Rattle.hlc_columns.specs.Table.{columns_in}
 use Rattle.hlc_core.specs.StoreView.{StoreView}
 use Rattle.hlc_routing.specs.Division.{DivisionView, stores_of, store_of}
 use Rattle.hlc_routing.specs.declared.placing.PlacingFault.{PlacingFault}
@@ -16,13 +17,23 @@ abbrev pub AreAllPlaced : DivisionView → List StoreView → Type 0
 AreAllPlaced division stores =
     (s : ℕ) (store : StoreView) → slice_get stores s ≡ Some store → ArePlaced division s store.rows
 
--- the column at this place is the first of a leaf that has rows, and the key of another store
+-- the column has rows, and the key of another store
+abbrev pub IsOther : DivisionView → ℕ → KeyCells → Type 0
+IsOther division s column = (0 < length column.cells) × (store_of division column.key ≢ s)
+
+-- the column at this place is the first of a leaf that is so
 pub record IsOtherAt (division : DivisionView) (s : ℕ) (leaf : List KeyCells) (place : ℕ) : Type 0 where
   pub column : KeyCells
   pub at : slice_get leaf place ≡ Some column
-  pub some : 0 < length column.cells
-  pub other : store_of division column.key ≢ s
+  pub other : IsOther division s column
   pub placed : ArePlaced division s (rows_in (take place leaf))
+
+-- the leaf at the first place of these is the first that has such a column, and its first one is at the second place
+pub record IsOtherOf (division : DivisionView) (s : ℕ) (leaves : List (List KeyCells)) (places : ℕ × ℕ) : Type 0 where
+  pub leaf : List KeyCells
+  pub at : slice_get leaves places.0 ≡ Some leaf
+  pub other : IsOtherAt division s leaf places.1
+  pub placed : ArePlaced division s (rows_in (columns_in (take places.0 leaves)))
 
 -- the first row that has a key of another store has this key
 pub record IsFirstOther (division : DivisionView) (s : ℕ) (rows : List Row) (key : List ℕ) : Type 0 where

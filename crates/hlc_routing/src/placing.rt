@@ -1,11 +1,14 @@
 //! Whether stores have only the keys that a division gives them.
-ghost use Rattle.std.specs.Prelude.{◌≡◌, IfOk, IfErr, MatchOption};
+ghost use Rattle.std.specs.Prelude.{◌≡◌, ◌↔◌, IfOk, IfErr, IsTrue, MatchOption};
 ghost use Rattle.hlc_table_column.specs.Rows.{rows_in};
-ghost use Rattle.hlc_routing.specs.Placing.{ArePlaced, AreAllPlaced, IsFirstOther, IsOtherAt, IsRefusedPlacing};
+ghost use Rattle.hlc_columns.specs.Table.{columns_in};
+ghost use Rattle.hlc_routing.specs.Placing.{ArePlaced, AreAllPlaced, IsFirstOther, IsOther, IsOtherAt};
+ghost use Rattle.hlc_routing.specs.Placing.{IsOtherOf, IsRefusedPlacing};
 
 use crate::division::Division;
 use crate::ranges::Ranges;
-use hlc_columns::Columns;
+use hlc_checkpoint::Leaves;
+use hlc_columns::{Columns, Keyed};
 use hlc_core::Core;
 use hlc_node::Bytes;
 use hlc_values::NoMemory;
@@ -66,13 +69,27 @@ fn first_other(
         (λ key. IsFirstOther division.now store core.now.rows key)) }
 {
     let leaves = core.lent().leaves()?;
+    match other_of(division, store, &leaves) {
+        None => Ok(None),
+        Some((at, place)) => Ok(Some(Bytes::from_slice(
+            alloc,
+            leaves.at(at).at(place).key(),
+        )?)),
+    }
+}
+
+/// Returns the first leaf that has a column with rows and the key of another store, and the place of that column.
+fn other_of(division: &Division, store: usize, leaves: &Leaves<'_>) -> Option<(usize, usize)>
+    ensures { MatchOption result (ArePlaced division.now store (rows_in (columns_in leaves.now)))
+        (IsOtherOf division.now store leaves.now) }
+{
     for at in 0..leaves.len() {
-        let leaf = leaves.at(at);
-        if let Some(place) = other_in(division, store, leaf) {
-            return Ok(Some(Bytes::from_slice(alloc, leaf.at(place).key())?));
+        match other_in(division, store, leaves.at(at)) {
+            None => {}
+            Some(place) => return Some((at, place)),
         }
     }
-    Ok(None)
+    None
 }
 
 /// Returns the first place in a leaf of a column that has rows, and the key of another store.
@@ -81,10 +98,16 @@ fn other_in(division: &Division, store: usize, leaf: &Columns<'_>) -> Option<usi
         (IsOtherAt division.now store leaf.now) }
 {
     for place in 0..leaf.len() {
-        let column = leaf.at(place);
-        if column.column().len() > 0 && division.store_of(column.key()) != store {
+        if is_other(division, store, &leaf.at(place)) {
             return Some(place);
         }
     }
     None
+}
+
+/// Returns whether a column has rows, and the key of another store.
+fn is_other(division: &Division, store: usize, column: &Keyed<'_>) -> bool
+    ensures { IsTrue result ↔ IsOther division.now store column.now }
+{
+    column.column().len() > 0 && division.store_of(column.key()) != store
 }

@@ -3,9 +3,9 @@ use Rattle.std.proofs.Common.{◌≡◌, ℕ, ◌<◌, Some}
 use Rattle.std.specs.Prelude.{slice_get}
 use Rattle.hlc_core.specs.StoreView.{StoreView}
 use Rattle.hlc_routing.specs.Placing.{ArePlaced}
-use Rattle.hlc_routing.proofs.placing.Ranges.checked.Given as goal
+use Rattle.hlc_routing.proofs.ranges.Ranges.checked.Given as goal
 
 abbrev pub invariant-loop-store : goal.invariant-loop-store
 invariant-loop-store l =
     (t : ℕ) (other : StoreView) → t < l.store → slice_get l.stores.items t ≡ Some other
-    → ArePlaced l.division t other.rows
+    → ArePlaced l.fn.division t other.rows
