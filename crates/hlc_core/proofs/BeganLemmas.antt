@@ -1,7 +1,7 @@
 -- The links of a state that a past begins with, and what a checkpoint says of them.
-use Rattle.std.proofs.Common.{◌≡◌, ℕ, zero, suc, ◌<◌, ◌≤◌, ◌⊎◌, List, [], ◌∷◌, length, max, get_or, Bool, true, false}
-use Rattle.std.proofs.Common.{Some, refl, ap, sym, ◌∙◌, subst, inl, inr, arith}
-use Rattle.std.specs.Prelude.{All, Contains, nat_lt}
+use Rattle.std.proofs.Common.{◌≡◌, ℕ, zero, suc, ◌<◌, ◌≤◌, List, [], ◌∷◌, length, max, get_or, true, false}
+use Rattle.std.proofs.Common.{refl, ap, sym, ◌∙◌, subst, inl, inr, arith}
+use Rattle.std.specs.Prelude.{Contains, nat_lt}
 use Rattle.std.proofs.lemmas.Bool.{cond-true, cond-false, lt-ltb, le-ltb, cases_lt}
 use Rattle.std.proofs.lemmas.List.{get_or_default, get_or_past}
 use Rattle.std.proofs.lemmas.List.Elements.{All-contains, Contains-append_cases}
@@ -10,9 +10,9 @@ use Rattle.hlc_rows.specs.declared.row.Row.{Row}
 use Rattle.hlc_intake.specs.IntakeView.{IntakeView}
 use Rattle.hlc_heads.specs.Heads.{a_link, no_link, link_at}
 use Rattle.hlc_heads.proofs.LowLemmas.{low-same}
-use Rattle.hlc_checkpoint.specs.StoreView.{StoreView, greatest_head, HasStamps, HasLastItem, IsUnderHead}
+use Rattle.hlc_checkpoint.specs.StoreView.{StoreView, greatest_head, IsUnderHead}
 use Rattle.hlc_checkpoint.specs.Checkpoint.{IsCheckpoint, floor_in}
-use Rattle.hlc_core.specs.Past.{Step, Began, numbered, count, head, retired, top, floor, writes, link_in}
+use Rattle.hlc_core.specs.Past.{Step, Began, head, retired, floor, writes, link_in}
 use Rattle.hlc_core.specs.Past.{greatest_issued}
 
 -- the link of a node that the state does not have

@@ -33,7 +33,6 @@ use Rattle.hlc_core.specs.Past.{greatest_accepted, join_refusal, join_at_refusal
 use Rattle.hlc_heads.specs.declared.heads.TheConstants.{MAX_NODES}
 use Rattle.hlc_intake.specs.IntakeView.{IntakeView}
 use Rattle.hlc_checkpoint.specs.Checkpoint.{floor_in}
-use Rattle.hlc_core.specs.Past.{link_in}
 use Rattle.hlc_core.proofs.BeganLemmas.{link_in-out, floor-began, began-issued, began-retired, began-row, began-under}
 use Rattle.hlc_core.proofs.BeganLemmas.{began-positive}
 

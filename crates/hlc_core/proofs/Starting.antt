@@ -11,15 +11,10 @@ use Rattle.hlc_core.specs.Past.{Started, Began}
 use Rattle.hlc_core.specs.StoreView.{StoreView, Represents}
 use Rattle.hlc_core.specs.Calls.{new_refusal}
 use Rattle.hlc_core.specs.Checkpoint.{IsCheckpoint}
-use Rattle.hlc_rows.specs.declared.row.Row.{Row}
-use Rattle.hlc_witness.specs.declared.witness.Witness.{Witness}
-use Rattle.hlc_vacuum_draft.specs.Vacuumed.{rows_to}
 use Rattle.hlc_vacuum.specs.Representing.{count_above}
 use Rattle.hlc_core.proofs.Taking.{count-more}
 use Rattle.hlc_core.proofs.BeganLemmas.{began-positive}
 use Rattle.std.proofs.lemmas.Option.{slice_get-get_or}
-use Rattle.std.proofs.lemmas.List.{length-map}
-use Rattle.std.proofs.Common.{List, ◌+◌, map}
 
 abbrev pub new_core : ℕ → StoreView
 new_core many = record {

@@ -1,5 +1,5 @@
--- Part of a vacuum is a step of each history that the core represented, and so is a refusal, which is never that memory
--- runs out.
+-- Part of a vacuum is what its event asks for after each past that the core represented, and so is a refusal, which is
+-- never that memory runs out. What a core does after its past is a step of its history.
 use Rattle.std.proofs.Common.{◌≡◌, ◌∙◌, ℕ, List, Option, Some, None, Bool, true, false, inl, inr}
 use Rattle.std.proofs.Common.{sym, subst, ap}
 use Rattle.std.specs.Prelude.{Ok, Err, ◌≢◌, Result, IfOk, OnErr, if◌then◌else◌}
@@ -22,76 +22,66 @@ use Rattle.hlc_events.specs.declared.event.CoreEvent.TheVariants.{VacuumPart}
 use Rattle.hlc_vacuum_draft.specs.declared.report.Report.{Report}
 use Rattle.hlc_core.specs.declared.reply.CoreReply.{CoreReply}
 use Rattle.hlc_core.specs.declared.reply.CoreReply.TheVariants.{VacuumedPart}
-use Rattle.hlc_core.specs.StoreView.{StoreView}
+use Rattle.hlc_core.specs.StoreView.{StoreView, Represents}
 use Rattle.hlc_core.specs.Parts.{VacuumsPart}
 use Rattle.hlc_core.specs.Calls.{IsRefusal}
 use Rattle.hlc_core.specs.Past.{Step, of_body, of_room, item_refusal, join_at_refusal, open_refusal}
-use Rattle.hlc_core.specs.History.{RepresentsHistory, IsStep, Steps, IsExpected, MayRunOutOfMemory}
+use Rattle.hlc_core.specs.History.{RepresentsHistory, IsStep, Steps, IsMove, Moves, MayRunOutOfMemory}
 use Rattle.hlc_core.specs.History.{past_of, expected_refusal}
 
-pub part_is_step : (nodes : ℕ) (old new : StoreView) (at : ℕ) (after : List ℕ) (limit : ℕ)
-    (history : List (CoreEvent × CoreReply)) (report : Report) (end : Option (List ℕ))
-    → RepresentsHistory nodes old history
-    → VacuumsPart old new at after limit (past_of nodes history) (Ok (report, end))
-    → IsStep nodes old new (VacuumPart at after limit) history (VacuumedPart report end)
-part_is_step nodes old new at after limit history report end represents made =
-    let expected : IsExpected (past_of nodes history) (VacuumPart at after limit) (VacuumedPart report end) = (
-      made.0,
-      record { old = old; new = new; represents = represents.core; made = made },
-    ) in (
-      expected,
-      record {
-        legal = (expected, represents.legal);
-        core = made.2.represents;
-        left = made.2.fewest;
-      },
-      made,
-    )
+pub part_is_move : (past : List Step) (old new : StoreView) (at : ℕ) (after : List ℕ) (limit : ℕ) (report : Report)
+    (end : Option (List ℕ)) → Represents old past → VacuumsPart old new at after limit past (Ok (report, end))
+    → IsMove past old new (VacuumPart at after limit) (VacuumedPart report end)
+part_is_move past old new at after limit report end represents made = (
+  (made.0, record { old = old; new = new; represents = represents; made = made }),
+  made.2.represents,
+  made.2.fewest,
+  made,
+)
 
 -- a refusal is no step: the core is as it was
-pub refused_is_step : (nodes : ℕ) (old : StoreView) (event : CoreEvent) (history : List (CoreEvent × CoreReply))
-    (fault : CoreFault) → RepresentsHistory nodes old history
-    → expected_refusal (past_of nodes history) event ≡ Some fault
-    → IsStep nodes old old event history (Refused fault)
-refused_is_step nodes old (Accept item) history fault h is =
-    (is, record { legal = (is, h.legal); core = h.core; left = tt }, tt)
-refused_is_step nodes old Join history fault h is =
-    (is, record { legal = (is, h.legal); core = h.core; left = tt }, tt)
-refused_is_step nodes old (OpenAt at) history fault h is =
-    (is, record { legal = (is, h.legal); core = h.core; left = tt }, tt)
-refused_is_step nodes old OpenFloor history fault h is =
-    (is, record { legal = (is, h.legal); core = h.core; left = tt }, tt)
-refused_is_step nodes old (Read id key) history fault h is =
-    (is, record { legal = (is, h.legal); core = h.core; left = tt }, tt)
-refused_is_step nodes old (ListAll id) history fault h is =
-    (is, record { legal = (is, h.legal); core = h.core; left = tt }, tt)
-refused_is_step nodes old (Close id) history fault h is =
-    (is, record { legal = (is, h.legal); core = h.core; left = tt }, tt)
-refused_is_step nodes old Vacuum history fault h is =
-    (is, record { legal = (is, h.legal); core = h.core; left = tt }, tt)
-refused_is_step nodes old (JoinAt at) history fault h is =
-    (is, record { legal = (is, h.legal); core = h.core; left = tt }, tt)
-refused_is_step nodes old (VacuumTo at) history fault h is =
-    (is, record { legal = (is, h.legal); core = h.core; left = tt }, tt)
-refused_is_step nodes old (VacuumPart at after limit) history fault h is =
-    (is, record { legal = (is, h.legal); core = h.core; left = tt }, tt)
+pub refused_is_move : (past : List Step) (old : StoreView) (event : CoreEvent) (fault : CoreFault) → Represents old past
+    → expected_refusal past event ≡ Some fault → IsMove past old old event (Refused fault)
+refused_is_move past old (Accept item) fault h is = (is, h, tt, tt)
+refused_is_move past old Join fault h is = (is, h, tt, tt)
+refused_is_move past old (OpenAt at) fault h is = (is, h, tt, tt)
+refused_is_move past old OpenFloor fault h is = (is, h, tt, tt)
+refused_is_move past old (Read id key) fault h is = (is, h, tt, tt)
+refused_is_move past old (ListAll id) fault h is = (is, h, tt, tt)
+refused_is_move past old (Close id) fault h is = (is, h, tt, tt)
+refused_is_move past old Vacuum fault h is = (is, h, tt, tt)
+refused_is_move past old (JoinAt at) fault h is = (is, h, tt, tt)
+refused_is_move past old (VacuumTo at) fault h is = (is, h, tt, tt)
+refused_is_move past old (VacuumPart at after limit) fault h is = (is, h, tt, tt)
 
 -- no call is refused for memory but where memory runs out
-pub refused_steps : (nodes : ℕ) (old new : StoreView) (event : CoreEvent) (history : List (CoreEvent × CoreReply))
-    (fault : CoreFault) (result : Result CoreReply AllocError) → new ≡ old → RepresentsHistory nodes old history
-    → expected_refusal (past_of nodes history) event ≢ Some NoMemory
-    → IsRefusal (expected_refusal (past_of nodes history) event)
-    (MayRunOutOfMemory (past_of nodes history) event) fault
+pub refused_moves : (past : List Step) (old new : StoreView) (event : CoreEvent) (fault : CoreFault)
+    (result : Result CoreReply AllocError) → new ≡ old → Represents old past
+    → expected_refusal past event ≢ Some NoMemory
+    → IsRefusal (expected_refusal past event) (MayRunOutOfMemory past event) fault
     → IfOk result (λ reply. (reply ≡ Refused fault) × (fault ≢ NoMemory)) → OnErr result (fault ≡ NoMemory)
-    → Steps nodes old new event history result
-refused_steps nodes old new event history fault (Ok reply) same h never (inl expected) ok err =
-    subst (λ kept. IsStep nodes old kept event history reply) (sym same)
-    (subst (λ r. IsStep nodes old old event history r) (sym ok.0)
-    (refused_is_step nodes old event history fault h expected))
-refused_steps nodes old new event history fault (Ok reply) same h never (inr lost) ok err = absurd (ok.1 lost.1)
-refused_steps nodes old new event history fault (Err shortage) same h never (inl expected) ok err =
+    → Moves past old new event result
+refused_moves past old new event fault (Ok reply) same h never (inl expected) ok err =
+    subst (λ kept. IsMove past old kept event reply) (sym same)
+    (subst (λ r. IsMove past old old event r) (sym ok.0) (refused_is_move past old event fault h expected))
+refused_moves past old new event fault (Ok reply) same h never (inr lost) ok err = absurd (ok.1 lost.1)
+refused_moves past old new event fault (Err shortage) same h never (inl expected) ok err =
     absurd (never (expected ∙ ap Some err))
-refused_steps nodes old new event history fault (Err shortage) same h never (inr lost) ok err = (lost.0, lost.2)
+refused_moves past old new event fault (Err shortage) same h never (inr lost) ok err = (lost.0, lost.2)
+
+-- what a core does after its past is a step of its history
+pub move_is_step : (nodes : ℕ) (old new : StoreView) (event : CoreEvent) (history : List (CoreEvent × CoreReply))
+    (reply : CoreReply) → RepresentsHistory nodes old history
+    → IsMove (past_of nodes history) old new event reply → IsStep nodes old new event history reply
+move_is_step nodes old new event history reply h move =
+    (move.0, record { legal = (move.0, h.legal); core = move.1; left = move.2 }, move.3)
+
+pub moves_are_steps : (nodes : ℕ) (old new : StoreView) (event : CoreEvent) (history : List (CoreEvent × CoreReply))
+    (result : Result CoreReply AllocError) → RepresentsHistory nodes old history
+    → Moves (past_of nodes history) old new event result → Steps nodes old new event history result
+moves_are_steps nodes old new event history (Ok reply) h move =
+    move_is_step nodes old new event history reply h move
+moves_are_steps nodes old new event history (Err shortage) h move = move
 
 -- no expected refusal of an item is that memory runs out
 pub item_takes_none : (past : List Step) (item : Item) → item_refusal past item ≢ Some NoMemory

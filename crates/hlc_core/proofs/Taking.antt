@@ -14,7 +14,7 @@ use Rattle.hlc_node.specs.Items.{retires}
 use Rattle.hlc_rows.specs.Rows.{IsRowSet}
 use Rattle.hlc_intake.specs.IntakeView.{IntakeView}
 use Rattle.hlc_core.specs.Past.{Step, Took, numbered, count, head, retired, horizon, vacuumed, part_dropped}
-use Rattle.hlc_core.specs.Past.{last_id, writes, body_rows, open_snapshots, item_refusal}
+use Rattle.hlc_core.specs.Past.{writes, body_rows, open_snapshots, item_refusal}
 use Rattle.hlc_core.specs.Past.{IsLegal}
 use Rattle.hlc_core.specs.StoreView.{StoreView, Represents}
 use Rattle.hlc_vacuum.specs.Representing.{RowsRepresent, count_above}

@@ -1,5 +1,5 @@
 -- Histories of a store that began with a past, as that of a state; and what is promised of them.
-use Rattle.std.specs.Prelude.{◌≡◌, ℕ, ◌<◌, ◌≤◌, List, [], ◌∷◌, ◌++◌, Contains, length, Option, Some, None, ⊤}
+use Rattle.std.specs.Prelude.{◌≡◌, ℕ, ◌≤◌, List, [], ◌∷◌, Contains, length, Option, Some, ⊤}
 use Rattle.hlc_columns.specs.Answers.{in_part}
 use Rattle.hlc_rows.specs.declared.row.Row.{Row}
 use Rattle.hlc_rows.specs.Rows.{answer, IsRowSet}

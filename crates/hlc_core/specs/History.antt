@@ -131,6 +131,21 @@ IsPartMade old new past (VacuumPart at after limit) (VacuumedPart report end) =
     VacuumsPart old new at after limit past (Ok (report, end))
 IsPartMade old new past _ _ = ⊤
 
+-- after a past that the core represented, the reply is expected, the core represents the past with the event's step,
+-- and just after part of a vacuum it has the rows that this leaves
+abbrev pub IsMove : List Step → StoreView → StoreView → CoreEvent → CoreReply → Type 0
+IsMove past old new event reply =
+    IsExpected past event reply
+    × Represents new (with_step (step_of event reply) past)
+    × LeavesPart past event reply new.rows
+    × IsPartMade old new past event reply
+
+-- the event had its reply; or no refusal is expected, and it ran out of memory, which it may
+abbrev pub Moves : {E : Type 0} → List Step → StoreView → StoreView → CoreEvent → Result CoreReply E → Type 0
+Moves past old new event (Ok reply) = IsMove past old new event reply
+Moves past old new event (Err shortage) =
+    (expected_refusal past event ≡ None) × MayRunOutOfMemory past event
+
 -- after a history that the core represented, the reply is expected, and the core represents the history with it
 abbrev pub IsStep : ℕ → StoreView → StoreView → CoreEvent → List (CoreEvent × CoreReply) → CoreReply → Type 0
 IsStep nodes old new event history reply =

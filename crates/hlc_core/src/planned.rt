@@ -2,7 +2,8 @@
 ghost use Rattle.std.specs.Prelude.{◌≡◌, ℕ, List, None, Some, IfOk, IfErr, OnErr};
 ghost use Rattle.hlc_core.specs.Past.{Step};
 ghost use Rattle.hlc_core.specs.StoreView.{Represents};
-ghost use Rattle.hlc_core.specs.History.{RepresentsHistory, IsStep, IsVacuum, IsRefused, IsReplyTo, expected_refusal};
+ghost use Rattle.hlc_core.specs.History.{RepresentsHistory, IsStep, IsMove, IsVacuum, IsRefused, IsReplyTo};
+ghost use Rattle.hlc_core.specs.History.{expected_refusal};
 ghost use Rattle.hlc_core.specs.Planned.{IsAsked, IsPossible, IsPlannedFor, reply_of};
 ghost use Rattle.hlc_events.specs.declared.event.CoreEvent.{CoreEvent as AnEvent};
 ghost use Rattle.hlc_core.specs.declared.reply.CoreReply.{CoreReply as AReply};
@@ -108,6 +109,21 @@ impl Core {
         ensures step { (nodes : ℕ) (event : AnEvent) (history : List (AnEvent × AReply))
             → IsPlannedFor self.old event planned → RepresentsHistory nodes self.old history
             → IsStep nodes self.old self.new event history result }
+        ensures past { (event : AnEvent) (past : List Step) → IsPlannedFor self.old event planned
+            → Represents self.old past → IsMove past self.old self.new event result }
+        ensures within { IsWithin self.old.rows self.new.rows }
+        ensures reply { result ≡ reply_of planned }
+        ensures form { (event : AnEvent) → IsPlannedFor self.old event planned → IsReplyTo event result }
+        ensures refused { IsRefused result → self.new ≡ self.old }
+    {
+        self.carry_out_planned(planned)
+    }
+
+    /// Carries out what was planned for an event of this store as it is, and returns the reply.
+    fn carry_out_planned(&mut self, planned: Planned) -> CoreReply
+        requires { (event : AnEvent) × IsPlannedFor self.old event planned }
+        ensures past { (event : AnEvent) (past : List Step) → IsPlannedFor self.old event planned
+            → Represents self.old past → IsMove past self.old self.new event result }
         ensures within { IsWithin self.old.rows self.new.rows }
         ensures reply { result ≡ reply_of planned }
         ensures form { (event : AnEvent) → IsPlannedFor self.old event planned → IsReplyTo event result }

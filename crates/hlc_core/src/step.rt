@@ -1,6 +1,9 @@
 //! The calls of a core by cases, as events with replies.
 ghost use Rattle.std.specs.Prelude.{◌≡◌, ◌≢◌, ℕ, List, IfOk, IfErr, OnOk, OnErr};
-ghost use Rattle.hlc_core.specs.History.{RepresentsHistory, Steps, IsQuestion, IsVacuum, IsRefused, IsPlain, IsReplyTo};
+ghost use Rattle.hlc_core.specs.Past.{Step};
+ghost use Rattle.hlc_core.specs.StoreView.{Represents};
+ghost use Rattle.hlc_core.specs.History.{RepresentsHistory, Steps, Moves, IsQuestion, IsVacuum, IsRefused, IsPlain};
+ghost use Rattle.hlc_core.specs.History.{IsReplyTo};
 ghost use Rattle.hlc_events.specs.declared.event.CoreEvent.{CoreEvent as AnEvent};
 ghost use Rattle.hlc_core.specs.declared.reply.CoreReply.{CoreReply as AReply};
 ghost use Rattle.hlc_vacuum.specs.Representing.{IsWithin};
@@ -15,11 +18,14 @@ impl Core {
     /// Makes the call that an event asks for, and returns its reply.
     ///
     /// A refusal is a reply, except out of memory: then the error returns the event, and nothing changed. A read or a
-    /// listing changes nothing, whatever its reply.
+    /// listing changes nothing, whatever its reply. The reply is expected after each history that the store represented
+    /// since its start, and after each past, as that of a state that it was restored from.
     pub fn step(&mut self, event: CoreEvent) -> Result<CoreReply, (NoMemory, CoreEvent)>
         ensures represents { (nodes : ℕ) (history : List (AnEvent × AReply))
             → RepresentsHistory nodes self.old history
             → Steps nodes self.old self.new event history result }
+        ensures past { (past : List Step) → Represents self.old past
+            → Moves past self.old self.new event result }
         ensures within { IsVacuum event → OnOk result (IsWithin self.old.rows self.new.rows) }
         ensures err { IfErr result (λ back. (back.1 ≡ event) × (self.new ≡ self.old)) }
         ensures asked { IsQuestion event → self.new ≡ self.old }
@@ -39,6 +45,23 @@ impl Core {
         ensures represents { (nodes : ℕ) (history : List (AnEvent × AReply))
             → RepresentsHistory nodes self.old history
             → Steps nodes self.old self.new event.now history result }
+        ensures past { (past : List Step) → Represents self.old past
+            → Moves past self.old self.new event.now result }
+        ensures within { IsVacuum event.now → OnOk result (IsWithin self.old.rows self.new.rows) }
+        ensures unchanged { OnErr result (self.new ≡ self.old) }
+        ensures asked { IsQuestion event.now → self.new ≡ self.old }
+        ensures refused { IfOk result (λ reply. IsRefused reply → self.new ≡ self.old) }
+        ensures copied { IfOk result
+            (λ reply. (IsVacuum event.now → ⊥) → (IsPlain reply → ⊥) → self.new ≡ self.old) }
+        ensures form { IfOk result (λ reply. IsReplyTo event.now reply) }
+    {
+        self.make(event)
+    }
+
+    /// Makes the call that an event asks for, and returns its reply.
+    fn make(&mut self, event: &CoreEvent) -> Result<CoreReply, NoMemory>
+        ensures past { (past : List Step) → Represents self.old past
+            → Moves past self.old self.new event.now result }
         ensures within { IsVacuum event.now → OnOk result (IsWithin self.old.rows self.new.rows) }
         ensures unchanged { OnErr result (self.new ≡ self.old) }
         ensures asked { IsQuestion event.now → self.new ≡ self.old }
@@ -89,9 +112,8 @@ impl Core {
     /// Returns the reply to a vacuum, or to part of one. All memory is allocated before anything changes.
     fn vacuum_step(&mut self, event: &CoreEvent) -> Result<CoreReply, NoMemory>
         requires { IsVacuum event.now }
-        ensures represents { (nodes : ℕ) (history : List (AnEvent × AReply))
-            → RepresentsHistory nodes self.old history
-            → Steps nodes self.old self.new event.now history result }
+        ensures past { (past : List Step) → Represents self.old past
+            → Moves past self.old self.new event.now result }
         ensures within { OnOk result (IsWithin self.old.rows self.new.rows) }
         ensures unchanged { OnErr result (self.new ≡ self.old) }
         ensures refused { IfOk result (λ reply. IsRefused reply → self.new ≡ self.old) }
@@ -103,9 +125,8 @@ impl Core {
 
     /// Returns the reply to a read, with a copy of the value.
     fn read_copy(&self, id: u64, key: &[u8]) -> Result<CoreReply, NoMemory>
-        ensures represents { (nodes : ℕ) (history : List (AnEvent × AReply))
-            → RepresentsHistory nodes self.now history
-            → Steps nodes self.now self.now (CoreEvent.Read id key.now) history result }
+        ensures past { (past : List Step) → Represents self.now past
+            → Moves past self.now self.now (CoreEvent.Read id key.now) result }
         ensures form { IfOk result (λ reply. IsReplyTo (CoreEvent.Read id key.now) reply) }
     {
         match self.read(id, key) {

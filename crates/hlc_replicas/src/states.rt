@@ -5,8 +5,8 @@ ghost use Rattle.hlc_events.specs.declared.event.CoreEvent.{CoreEvent as AnEvent
 ghost use Rattle.hlc_snapshot.specs.RegistryView.{stamps};
 ghost use Rattle.hlc_vacuum.specs.Representing.{RowsRepresent};
 ghost use Rattle.hlc_core.specs.declared.reply.CoreReply.{CoreReply as AReply};
-ghost use Rattle.hlc_core.specs.From.{RepresentsFrom, IsFaithfulFrom};
-ghost use Rattle.hlc_core.specs.History.{RepresentsHistory};
+ghost use Rattle.hlc_core.specs.From.{RepresentsFrom, IsFaithfulFrom, past_from};
+ghost use Rattle.hlc_core.specs.History.{RepresentsHistory, IsMove};
 ghost use Rattle.hlc_core.specs.Past.{Step, Started, Began, IsLegal, floor, horizon, open_snapshots, writes};
 ghost use Rattle.hlc_core.specs.StoreView.{StoreView, Represents};
 
@@ -24,8 +24,8 @@ pub fn a_state_goes_on_as_its_past()
 {}
 
 /// A store is faithful to each history that it represents since a past that it began with, as that of a state: against
-/// what the past says was accepted before, and what was accepted since. Each checkpoint begins such a history, and what
-/// started with nodes represents the same one.
+/// what the past says was accepted before, and what was accepted since. Each checkpoint begins such a history, each
+/// event goes on with it (`Core::step`.`past`), and what started with nodes represents the same one.
 pub fn histories_from_states_are_faithful()
     ensures faithful { (start : List Step) (kept : StoreView)
         (history : List (AnEvent × AReply))
@@ -35,4 +35,9 @@ pub fn histories_from_states_are_faithful()
     ensures started { (nodes : ℕ) (kept : StoreView) (history : List (AnEvent × AReply))
         → RepresentsHistory nodes kept history
         → RepresentsFrom (Started nodes ∷ []) kept history }
+    ensures goes_on { (start : List Step) (old new : StoreView) (event : AnEvent)
+        (reply : AReply) (history : List (AnEvent × AReply))
+        → RepresentsFrom start old history
+        → IsMove (past_from start history) old new event reply
+        → RepresentsFrom start new ((event, reply) ∷ history) }
 {}

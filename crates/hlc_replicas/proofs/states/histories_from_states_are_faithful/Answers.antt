@@ -39,3 +39,7 @@ returns-clause-started c = λ nodes kept h represents. record {
   core = subst (λ past. Represents kept past) (same-past nodes h) represents.core;
   left = same-left nodes h kept represents.left;
 }
+
+pub returns-clause-goes_on : goal.returns-clause-goes_on
+returns-clause-goes_on c = λ start old new event reply history h move.
+    record { legal = (move.0, h.legal); core = move.1; left = move.2 }

@@ -1,6 +1,5 @@
 -- What was planned for the event is carried out.
 use Rattle.hlc_core.proofs.store.Core.vacuum_step.Goals as goal
 
-pub returns-clause-represents : goal.returns-clause-represents
-returns-clause-represents c = λ nodes history h.
-    c.finish.ensures.step nodes c.args.event.now history c.in_ok-planned.ensures.ok h
+pub returns-clause-past : goal.returns-clause-past
+returns-clause-past c = λ past h. c.finish.ensures.past c.args.event.now past c.in_ok-planned.ensures.ok h
