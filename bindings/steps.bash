@@ -23,6 +23,8 @@ step_file=$((1 << 20))
 # The address sanitiser needs more address space than there is memory, and has a limit of its own, in MiB. Valgrind
 # looks for leaks: not every machine allows the sanitiser to search for them.
 export ASAN_OPTIONS=detect_leaks=0:hard_rss_limit_mb=4096
+# A build in Rust is used once, and its failures name the line as it is.
+export CARGO_PROFILE_DEV_DEBUG=0 CARGO_INCREMENTAL=0
 
 # limited COMMAND..: runs a command or a function, without input, and within these limits. It is ended in time with all
 # that it started, so that a program that does not end fails its own step alone.

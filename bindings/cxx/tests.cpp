@@ -4,6 +4,7 @@
 // refusals as exceptions.
 #include <algorithm>
 #include <cstdio>
+#include <cstdlib>
 #include <hlcstore.hpp>
 #include <iterator>
 #include <map>
@@ -979,7 +980,9 @@ void stamps() {
 
 }  // namespace
 
-int main() {
+// Plays so many random histories, or ten.
+int main(int many, char** words) {
+  const unsigned seeds = many > 1 ? static_cast<unsigned>(std::atoi(words[1])) : 10;
   ranges();
   longest();
   ranges_back();
@@ -1005,7 +1008,7 @@ int main() {
   batches_of_themselves();
   batches();
   batches_in_logs();
-  for (unsigned seed = 1; seed <= 10; seed++) random_batches(seed);
+  for (unsigned seed = 1; seed <= seeds; seed++) random_batches(seed);
   shared_stores();
   views();
   std::puts(wrong == 0 ? "all right" : "wrong");

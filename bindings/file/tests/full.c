@@ -7,7 +7,7 @@
 enum { PAGE = 4096, MOST_VALUE = 60000, MOST_BATCHES = 500 };
 /* The pages that are left on the disk. With those that the write-ahead log has room for, some 300 at most, they are
  * fewer than a checkpoint of the first batch takes, and each end within a batch. */
-enum { FEWEST_LEFT = 20, MOST_LEFT = 30 };
+enum { FEWEST_LEFT = 20, MOST_LEFT = 30, MORE_LEFT = 3 };
 
 static const char PATH[] = "full.hlc";
 static const char FILLER[] = "filler";
@@ -237,7 +237,7 @@ static void test_all(uint32_t promise, struct shape shape, uint64_t left)
 
 static void test_pages(uint32_t promise, struct shape shape)
 {
-    for (uint64_t left = FEWEST_LEFT; left < MOST_LEFT; left++) test_all(promise, shape, left);
+    for (uint64_t left = FEWEST_LEFT; left < MOST_LEFT; left += MORE_LEFT) test_all(promise, shape, left);
 }
 
 static void test_shapes(uint32_t promise)

@@ -14,6 +14,8 @@ from hlcstore import Batch, Error, Item, Node, Store, stamp
 KEY, VALUE = b"a key of many", b"a value " * 300
 LONG_KEY = b"a long key " * 20
 TOO_LONG = bytes(65536)
+# How often every call is made in each half of the test of objects.
+ROUNDS = 500
 
 
 def refuse(kind, call, *args):
@@ -210,25 +212,25 @@ class Memory(unittest.TestCase):
         for _ in range(500):
             play()
         before = resource.getrusage(resource.RUSAGE_SELF).ru_maxrss
-        for _ in range(5000):
+        for _ in range(2500):
             play()
         grown = resource.getrusage(resource.RUSAGE_SELF).ru_maxrss - before
-        self.assertLess(grown, 1000, "KiB")
+        self.assertLess(grown, 500, "KiB")
 
     def test_no_object_stays(self):
         """What Python allocates is counted. An object that stayed in each round would have 16 bytes or more. Some are
         left in the lists of free objects, which Python keeps."""
         tracemalloc.start()
-        for _ in range(2000):
+        for _ in range(ROUNDS):
             play()
         gc.collect()
         before, _ = tracemalloc.get_traced_memory()
-        for _ in range(2000):
+        for _ in range(ROUNDS):
             play()
         gc.collect()
         after, _ = tracemalloc.get_traced_memory()
         tracemalloc.stop()
-        self.assertLess(after - before, 8 * 2000, "bytes")
+        self.assertLess(after - before, 8 * ROUNDS, "bytes")
 
     def test_references_are_dropped(self):
         """Each object that a call is passed has as many references after it as before."""
