@@ -8,6 +8,7 @@ pub use hlc_ranges::{
 pub use hlc_routing::{
     Division, MAX_STORES, Machine, MachineFault, PlacingFault, Ranges, RangesFault, RangesSnapshot,
     RefusedBatchRouting, RefusedRouting, events_keep_machines, events_keep_stores,
-    joins_make_machines, max_stores_are_1024, steps_keep_machines, the_hash_is_fnv_1a,
+    first_machines_begin_a_run, joins_make_machines, max_stores_are_1024, new_stores_begin_a_run,
+    states_begin_a_run, steps_keep_machines, the_hash_is_fnv_1a,
 };
 pub use hlc_split::{MergeFault, merge, split};

@@ -6,9 +6,9 @@ use Rattle.hlc_node.specs.Node.{NodeView, next_item, expected_issue, unless_reti
 use Rattle.hlc_node.specs.declared.item.Body.{Body}
 use Rattle.hlc_node.specs.declared.item.Item.{Item}
 use Rattle.hlc_node.specs.declared.node.NodeFault.{NodeFault}
-use Rattle.hlc_core.specs.Past.{Step}
+use Rattle.hlc_core.specs.Past.{Step, count, retired}
 use Rattle.hlc_core.specs.StoreView.{StoreView, Represents}
-use Rattle.hlc_ranges.specs.Run.{Layout, Turn, Issued, Stepped, past_of, issued, have_ended, last_stamp, IsRouted}
+use Rattle.hlc_ranges.specs.Run.{Layout, Turn, Issued, Stepped, past_of, issued, ends_with, last_stamp, IsRouted}
 use Rattle.hlc_ranges.specs.Run.{IsIssuedStep, IsLegal}
 use Rattle.hlc_core.specs.Past.{floor}
 use Rattle.hlc_ranges.specs.Run.{Sent, Received, Observed, IsMessage}
@@ -35,8 +35,13 @@ node-extends layout run s node body reading stamp legal within is clock routed e
       legal = ((within, is.inside, sym is.retired ∙ active, is.next, omega arith, routed), legal);
       after = record {
         inside = is.inside;
-        next = ap (λ k. k + 1) is.next ∙ sym (ap length one ∙ (omega arith));
-        retired = sym (ap have_ended one);
+        next =
+            (let old : node.next ≡ count node.id (layout.begun s) + length (issued s node.id run) = is.next in
+            let longer : length (issued s node.id (Issued s item ∷ run)) ≡ length (item ∷ issued s node.id run) =
+            ap length one in
+            let goal : node.next + 1
+            ≡ count node.id (layout.begun s) + length (issued s node.id (Issued s item ∷ run)) = omega arith in goal);
+        retired = sym (ap (ends_with (retired node.id (layout.begun s))) one);
       };
       clock = omega (arith, at);
     }
@@ -51,8 +56,8 @@ other-stays layout run s t item node is apart =
     ] in
     record {
       inside = is.inside;
-      next = is.next ∙ sym (ap length same);
-      retired = is.retired ∙ sym (ap have_ended same);
+      next = is.next ∙ sym (ap (λ xs. count node.id (layout.begun s) + length xs) same);
+      retired = is.retired ∙ sym (ap (ends_with (retired node.id (layout.begun s))) same);
     }
 
 pub step-extends : (layout : Layout) (run : List Turn) (s : ℕ) (step : Step) (core : StoreView) → IsLegal layout run

@@ -2,19 +2,19 @@
 use Rattle.std.proofs.Common.{◌≡◌, ℕ, ◌<◌, ◌≤◌, List, [], ◌∷◌, ◌++◌, sym, subst, inl, inr, arith}
 use Rattle.std.specs.Prelude.{Contains}
 use Rattle.std.proofs.lemmas.Bool.{cases_eq}
-use Rattle.std.proofs.lemmas.List.Elements.{Contains-append_left}
 use Rattle.hlc_values.proofs.MemberLemmas.{Contains-none}
 use Rattle.hlc_rows.specs.declared.row.Row.{Row}
 use Rattle.hlc_rows.specs.Rows.{answer}
 use Rattle.hlc_core.specs.Past.{Step, Started, Began, Took, Opened, Closed, Vacuumed, PartVacuumed, Joined, floor}
-use Rattle.hlc_core.specs.Past.{writes, item_rows}
+use Rattle.hlc_core.specs.Past.{writes}
 use Rattle.hlc_core.specs.Past.{IsLegal as IsLegalPast}
 use Rattle.hlc_core.proofs.StayLemmas.{floor-never_falls}
 use Rattle.hlc_core.proofs.PastLemmas.{above_floor, body_rows-are, writes-row_set}
 use Rattle.hlc_ranges.specs.Run.{Layout, Turn, Issued, Sent, Received, Observed, Stepped, past_of, step_rows, IsLegal}
 use Rattle.hlc_ranges.specs.Cut.{IsCut}
 use Rattle.hlc_ranges.proofs.Turns.{past-same, past-other, past-legal, stepped-none}
-use Rattle.hlc_ranges.proofs.NewestWrites.{answer-in_part, step-writes}
+use Rattle.hlc_ranges.proofs.Pasts.{step-writes, step-keeps}
+use Rattle.hlc_ranges.proofs.NewestWrites.{answer-in_part}
 
 -- the legal step of a store
 step-legal : (layout : Layout) (t s : ℕ) (step : Step) (run : List Turn) → t ≡ s
@@ -91,17 +91,6 @@ old-rows layout run (Stepped t step ∷ later) s row legal m low =
                 floor-later layout run later s legal.1 in omega arith)
           ]
     ]
-
-step-keeps : (step : Step) (past : List Step) (row : Row) → Contains (writes past) row
-    → Contains (writes (step ∷ past)) row
-step-keeps (Took item) past row m = Contains-append_left (writes past) (item_rows item) row m
-step-keeps (Joined node start) past row m = m
-step-keeps (Opened stamp) past row m = m
-step-keeps (Started nodes) past row m = m
-step-keeps (Began kept) past row m = Contains-append_left (writes past) kept.rows row m
-step-keeps (Closed id) past row m = m
-step-keeps (Vacuumed at) past row m = m
-step-keeps (PartVacuumed at dropped) past row m = m
 
 -- and an old write stays
 kept-rows : (layout : Layout) (run later : List Turn) (s : ℕ) (row : Row) → Contains (writes (past_of layout s run)) row

@@ -16,16 +16,15 @@ use Rattle.hlc_node.specs.declared.item.Body.TheVariants.{Write, Batch, Report, 
 use Rattle.hlc_rows.specs.Rows.{newest, answer, IsRowSet}
 use Rattle.hlc_rows.proofs.NewestLemmas.{newest_is_greatest, answer_none, answer_some}
 use Rattle.hlc_vacuum_draft.proofs.PartLemmas.{newest_in_part, none_in_part}
-use Rattle.hlc_core.specs.Past.{Step, Started, Began, Took, Opened, Closed, Vacuumed, PartVacuumed, Joined, writes}
-use Rattle.hlc_core.specs.Past.{body_rows, item_rows}
-use Rattle.hlc_core.specs.Replicas.{begun}
+use Rattle.hlc_core.specs.Past.{Step, Took, writes, body_rows, item_rows}
 use Rattle.hlc_core.proofs.PastLemmas.{body_rows-are, took-writes, writes-row_set}
 use Rattle.hlc_ranges.specs.Run.{Layout, Turn, Issued, Sent, Received, Observed, Stepped, past_of, issued, IsRouted}
-use Rattle.hlc_ranges.specs.Run.{IsIssuedStep, IsLegal, step_rows, issued_writes, accepted_writes}
+use Rattle.hlc_ranges.specs.Run.{IsIssuedStep, IsLegal, step_rows, begun_writes, issued_writes, accepted_writes}
 use Rattle.hlc_ranges.specs.Cut.{IsCut, AreNewestAccepted, AreNewestIssued}
-use Rattle.hlc_ranges.proofs.Pasts.{writes-from}
+use Rattle.hlc_ranges.proofs.Pasts.{of-step, step-writes}
 use Rattle.hlc_ranges.proofs.Turns.{past-same, past-other, issued-same, issued-other_node, issued-other}
-use Rattle.hlc_ranges.proofs.Turns.{past-legal, past-starts, stepped-none}
+use Rattle.hlc_ranges.proofs.Turns.{past-legal, can-begin, stepped-none}
+use Rattle.hlc_ranges.proofs.Begins.{rows-since, begun-stay, begun-from, begun-inside, begun-issued}
 use Rattle.hlc_ranges.proofs.Cuts.{issued-keeps, issued-from, complete}
 
 -- if a row set has some of the rows of a list, and the newest of a key there, it gives the same answer
@@ -71,11 +70,7 @@ row-routed layout s node stamp (Write key value) row routed m =
 -- an accepted item was issued for its store
 accepted-issued : (layout : Layout) (run : List Turn) (s : ℕ) (item : Item) → IsLegal layout run
     → Contains (past_of layout s run) (Took item) → Contains (issued s item.node run) item
-accepted-issued layout [] s item legal m =
-    elim (Contains-cons_cases (Started (layout.nodes s)) (Took item) [] m) [
-      | inl same ↦ absurd cc
-      | inr rest ↦ absurd (Contains-none (Took item) rest)
-    ]
+accepted-issued layout [] s item legal m = absurd (legal.untaken s item m)
 accepted-issued layout (Issued t x ∷ run) s item legal m =
     issued-keeps (Issued t x) run s item.node item (accepted-issued layout run s item legal.1 m)
 accepted-issued layout (Sent n st ∷ run) s item legal m = accepted-issued layout run s item legal.1 m
@@ -109,89 +104,105 @@ issued-cases t x run s n item m =
     ]
 
 -- the rows of issued items are the issued writes
-issued_writes-have : (run : List Turn) (s n : ℕ) (item : Item) (row : Row) → Contains (issued s n run) item
-    → Contains (item_rows item) row → Contains (issued_writes run) row
-issued_writes-have [] s n item row m r = absurd (Contains-none item m)
-issued_writes-have (Sent k st ∷ run) s n item row m r = issued_writes-have run s n item row m r
-issued_writes-have (Received k j st ∷ run) s n item row m r = issued_writes-have run s n item row m r
-issued_writes-have (Observed k t at st ∷ run) s n item row m r = issued_writes-have run s n item row m r
-issued_writes-have (Stepped t step ∷ run) s n item row m r = issued_writes-have run s n item row m r
-issued_writes-have (Issued t x ∷ run) s n item row m r =
+issued_writes-have : (layout : Layout) (run : List Turn) (s n : ℕ) (item : Item) (row : Row)
+    → Contains (issued s n run) item → Contains (item_rows item) row → Contains (issued_writes layout run) row
+issued_writes-have layout [] s n item row m r = absurd (Contains-none item m)
+issued_writes-have layout (Sent k st ∷ run) s n item row m r = issued_writes-have layout run s n item row m r
+issued_writes-have layout (Received k j st ∷ run) s n item row m r = issued_writes-have layout run s n item row m r
+issued_writes-have layout (Observed k t at st ∷ run) s n item row m r = issued_writes-have layout run s n item row m r
+issued_writes-have layout (Stepped t step ∷ run) s n item row m r = issued_writes-have layout run s n item row m r
+issued_writes-have layout (Issued t x ∷ run) s n item row m r =
     elim (issued-cases t x run s n item m) [
-      | inl is ↦ Contains-append_right (issued_writes run) (item_rows x) row
+      | inl is ↦ Contains-append_right (issued_writes layout run) (item_rows x) row
           (subst (λ y. Contains (item_rows y) row) (sym is) r)
-      | inr old ↦ Contains-append_left (issued_writes run) (item_rows x) row
-          (issued_writes-have run s n item row old r)
+      | inr old ↦ Contains-append_left (issued_writes layout run) (item_rows x) row
+          (issued_writes-have layout run s n item row old r)
     ]
 
--- an issued write is the row of an issued item
+-- an issued write is one that a store began with, or the row of an issued item
 record IsOfLink (run : List Turn) (row : Row) : Type 0 where
   pub store : ℕ
   pub item : Item
   pub issued : Contains (issued store item.node run) item
   pub of : Contains (item_rows item) row
 
-of_link-keeps : (turn : Turn) (run : List Turn) (row : Row) → IsOfLink run row → IsOfLink (turn ∷ run) row
-of_link-keeps turn run row h = record {
+abbrev IsIssuedRow : Layout → List Turn → Row → Type 0
+IsIssuedRow layout run row = Contains (begun_writes layout layout.stores) row ⊎ IsOfLink run row
+
+of_link-keeps : (layout : Layout) (turn : Turn) (run : List Turn) (row : Row) → IsIssuedRow layout run row
+    → IsIssuedRow layout (turn ∷ run) row
+of_link-keeps layout turn run row (inl began) = inl began
+of_link-keeps layout turn run row (inr h) = inr (record {
   store = h.store;
   item = h.item;
   issued = issued-keeps turn run h.store h.item.node h.item h.issued;
   of = h.of;
-}
+})
 
-issued_writes-from : (run : List Turn) (row : Row) → Contains (issued_writes run) row → IsOfLink run row
-issued_writes-from [] row m = absurd (Contains-none row m)
-issued_writes-from (Sent k st ∷ run) row m = of_link-keeps (Sent k st) run row (issued_writes-from run row m)
-issued_writes-from (Received k j st ∷ run) row m =
-    of_link-keeps (Received k j st) run row (issued_writes-from run row m)
-issued_writes-from (Observed k t at st ∷ run) row m =
-    of_link-keeps (Observed k t at st) run row (issued_writes-from run row m)
-issued_writes-from (Stepped t step ∷ run) row m = of_link-keeps (Stepped t step) run row (issued_writes-from run row m)
-issued_writes-from (Issued t x ∷ run) row m =
-    elim (Contains-append_cases (issued_writes run) (item_rows x) row m) [
-      | inl old ↦ of_link-keeps (Issued t x) run row (issued_writes-from run row old)
-      | inr fresh ↦ record {
+issued_writes-from : (layout : Layout) (run : List Turn) (row : Row) → Contains (issued_writes layout run) row
+    → IsIssuedRow layout run row
+issued_writes-from layout [] row m = inl m
+issued_writes-from layout (Sent k st ∷ run) row m =
+    of_link-keeps layout (Sent k st) run row (issued_writes-from layout run row m)
+issued_writes-from layout (Received k j st ∷ run) row m =
+    of_link-keeps layout (Received k j st) run row (issued_writes-from layout run row m)
+issued_writes-from layout (Observed k t at st ∷ run) row m =
+    of_link-keeps layout (Observed k t at st) run row (issued_writes-from layout run row m)
+issued_writes-from layout (Stepped t step ∷ run) row m =
+    of_link-keeps layout (Stepped t step) run row (issued_writes-from layout run row m)
+issued_writes-from layout (Issued t x ∷ run) row m =
+    elim (Contains-append_cases (issued_writes layout run) (item_rows x) row m) [
+      | inl old ↦ of_link-keeps layout (Issued t x) run row (issued_writes-from layout run row old)
+      | inr fresh ↦ inr (record {
         store = t;
         item = x;
         issued = subst (λ xs. Contains xs x) (sym (issued-same t t x.node x run refl refl))
             (Contains-first x (issued t x.node run));
         of = fresh;
-      }
+      })
     ]
+
+-- a row that a store began with, of a key, is in the key's store
+begun-here : (layout : Layout) (run : List Turn) (row : Row) (key : List ℕ) → IsLegal layout run → row.key ≡ key
+    → Contains (begun_writes layout layout.stores) row
+    → Contains (writes (past_of layout (layout.store_of key) run)) row
+begun-here layout run row key legal of_key m =
+    let can = can-begin layout run legal in
+    let h = begun-from layout layout.stores row m in
+    let at : h.store ≡ layout.store_of key =
+    sym (can.routed h.store row h.row_of) ∙ ap (λ k. layout.store_of k) of_key in
+    subst (λ k. Contains (writes (past_of layout k run)) row) at (begun-stay layout run h.store row h.row_of)
 
 -- a row of a key that was issued at or below a cut is in the key's store
 pub newest-issued : (layout : Layout) (run : List Turn) (stamp : ℕ) → IsLegal layout run → IsCut layout run stamp
     → AreNewestIssued layout run stamp
 newest-issued layout run stamp legal cut = λ key at low.
     let s : ℕ = layout.store_of key in
-    answer-in_part (writes (past_of layout s run)) (issued_writes run) key at
+    answer-in_part (writes (past_of layout s run)) (issued_writes layout run) key at
     (writes-row_set (past_of layout s run) (past-legal layout run s legal))
     (λ row m.
-    let w = writes-from (past_of layout s run) row (past-starts layout run s legal) m in
-    issued_writes-have run s w.item.node w.item row (accepted-issued layout run s w.item legal w.accepted) w.of)
+    elim (rows-since layout run s row legal m) [
+      | inl began ↦ begun-issued layout run row (begun-inside layout s row (can-begin layout run legal) began)
+      | inr w ↦
+          issued_writes-have layout run s w.item.node w.item row (accepted-issued layout run s w.item legal w.accepted)
+          w.of
+    ])
     (λ row m of_key below.
-    let w = issued_writes-from run row m in
-    let from = issued-from layout run w.store w.item.node w.item legal w.issued in
-    let at' : w.store ≡ s = sym (row-routed layout w.store w.item.node w.item.stamp w.item.body row from.routed w.of)
-    ∙ ap (λ k. layout.store_of k) of_key in
-    let e : row.stamp ≡ w.item.stamp = (body_rows-are w.item.node w.item.stamp w.item.body row w.of).1 in
-    let low' : at ≤ stamp = low in
-    let below' : row.stamp ≤ at = below in
-    let accepted = complete layout run stamp legal cut w.store w.item.node w.item w.issued (omega arith) in
-    took-writes (past_of layout s run) w.item row
-    (subst (λ k. Contains (past_of layout k run) (Took w.item)) at' accepted) w.of)
-
--- a write after a step is an old one, or that of the step
-pub step-writes : (step : Step) (past : List Step) (row : Row) → begun (step ∷ []) ≡ []
-    → Contains (writes (step ∷ past)) row → Contains (writes past) row ⊎ Contains (step_rows step) row
-step-writes (Took item) past row none m = Contains-append_cases (writes past) (item_rows item) row m
-step-writes (Opened stamp) past row none m = inl m
-step-writes (Started nodes) past row none m = inl m
-step-writes (Began kept) past row none m = absurd (cc)
-step-writes (Closed id) past row none m = inl m
-step-writes (Vacuumed at) past row none m = inl m
-step-writes (PartVacuumed at dropped) past row none m = inl m
-step-writes (Joined node start) past row none m = inl m
+    elim (issued_writes-from layout run row m) [
+      | inl began ↦ begun-here layout run row key legal of_key began
+      | inr w ↦
+          let from = issued-from layout run w.store w.item.node w.item legal w.issued in
+          let at' : w.store ≡ s =
+          sym (row-routed layout w.store w.item.node w.item.stamp w.item.body row from.routed w.of)
+          ∙ ap (λ k. layout.store_of k) of_key in
+          let e : row.stamp ≡ w.item.stamp =
+          (body_rows-are w.item.node w.item.stamp w.item.body row w.of).1 in
+          let low' : at ≤ stamp = low in
+          let below' : row.stamp ≤ at = below in
+          let accepted = complete layout run stamp legal cut w.store w.item.node w.item w.issued (omega arith) in
+          took-writes (past_of layout s run) w.item row
+          (subst (λ k. Contains (past_of layout k run) (Took w.item)) at' accepted) w.of
+    ])
 
 -- an accepted item stays one
 pub past-keeps : (layout : Layout) (t : ℕ) (step : Step) (run : List Turn) (s : ℕ) (item : Item)
@@ -206,95 +217,103 @@ past-keeps layout t step run s item m =
 
 -- the writes of a store are among the accepted ones
 accepted_writes-have : (layout : Layout) (run : List Turn) (s : ℕ) (row : Row) → IsLegal layout run
-    → Contains (writes (past_of layout s run)) row
-    → Contains (accepted_writes run) row
-accepted_writes-have layout [] s row legal m = absurd (Contains-none row m)
+    → Contains (writes (past_of layout s run)) row → Contains (accepted_writes layout run) row
+accepted_writes-have layout [] s row legal m = begun-inside layout s row legal m
 accepted_writes-have layout (Issued t x ∷ run) s row legal m = accepted_writes-have layout run s row legal.1 m
 accepted_writes-have layout (Sent k st ∷ run) s row legal m = accepted_writes-have layout run s row legal.1 m
 accepted_writes-have layout (Received k j st ∷ run) s row legal m = accepted_writes-have layout run s row legal.1 m
 accepted_writes-have layout (Observed k t at st ∷ run) s row legal m = accepted_writes-have layout run s row legal.1 m
 accepted_writes-have layout (Stepped t step ∷ run) s row legal m =
     elim (cases_eq t s) [
-      | inr other ↦ Contains-append_left (accepted_writes run) (step_rows step) row
+      | inr other ↦ Contains-append_left (accepted_writes layout run) (step_rows step) row
           (accepted_writes-have layout run s row legal.1
           (subst (λ p. Contains (writes p) row) (past-other layout s t step run other) m))
       | inl same ↦
           elim (step-writes step (past_of layout s run) row (stepped-none layout t step run legal)
           (subst (λ p. Contains (writes p) row) (past-same layout s t step run same) m)) [
-            | inl old ↦ Contains-append_left (accepted_writes run) (step_rows step) row
+            | inl old ↦ Contains-append_left (accepted_writes layout run) (step_rows step) row
                 (accepted_writes-have layout run s row legal.1 old)
-            | inr fresh ↦ Contains-append_right (accepted_writes run) (step_rows step) row fresh
+            | inr fresh ↦ Contains-append_right (accepted_writes layout run) (step_rows step) row fresh
           ]
     ]
 
--- an accepted write is the row of an item that some store accepted
+-- an accepted write is one that a store began with, or the row of an item that some store accepted
 record IsOfStore (layout : Layout) (run : List Turn) (row : Row) : Type 0 where
   pub store : ℕ
   pub item : Item
   pub accepted : Contains (past_of layout store run) (Took item)
   pub of : Contains (item_rows item) row
 
-of_store-keeps : (layout : Layout) (t : ℕ) (step : Step) (run : List Turn) (row : Row) → IsOfStore layout run row
-    → IsOfStore layout (Stepped t step ∷ run) row
-of_store-keeps layout t step run row h = record {
+abbrev IsAcceptedRow : Layout → List Turn → Row → Type 0
+IsAcceptedRow layout run row = Contains (begun_writes layout layout.stores) row ⊎ IsOfStore layout run row
+
+of_store-keeps : (layout : Layout) (t : ℕ) (step : Step) (run : List Turn) (row : Row) → IsAcceptedRow layout run row
+    → IsAcceptedRow layout (Stepped t step ∷ run) row
+of_store-keeps layout t step run row (inl began) = inl began
+of_store-keeps layout t step run row (inr h) = inr (record {
   store = h.store;
   item = h.item;
   accepted = past-keeps layout t step run h.store h.item h.accepted;
   of = h.of;
-}
+})
 
 of_store-step : (layout : Layout) (t : ℕ) (step : Step) (run : List Turn) (row : Row) → Contains (step_rows step) row
     → IsOfStore layout (Stepped t step ∷ run) row
-of_store-step layout t (Took item) run row m = record {
-  store = t;
-  item = item;
-  accepted = subst (λ p. Contains p (Took item)) (sym (past-same layout t t (Took item) run refl))
-      (Contains-first (Took item) (past_of layout t run));
-  of = m;
-}
-of_store-step layout t (Opened stamp) run row m = absurd (Contains-none row m)
-of_store-step layout t (Started nodes) run row m = absurd (Contains-none row m)
-of_store-step layout t (Began kept) run row m = absurd (Contains-none row m)
-of_store-step layout t (Closed id) run row m = absurd (Contains-none row m)
-of_store-step layout t (Vacuumed at) run row m = absurd (Contains-none row m)
-of_store-step layout t (PartVacuumed at dropped) run row m = absurd (Contains-none row m)
-of_store-step layout t (Joined node start) run row m = absurd (Contains-none row m)
+of_store-step layout t step run row m =
+    let w = of-step (past_of layout t run) step row m in record {
+      store = t;
+      item = w.item;
+      accepted = subst (λ p. Contains p (Took w.item)) (sym (past-same layout t t step run refl)) w.accepted;
+      of = w.of;
+    }
 
-accepted_writes-from : (layout : Layout) (run : List Turn) (row : Row) → Contains (accepted_writes run) row
-    → IsOfStore layout run row
-accepted_writes-from layout [] row m = absurd (Contains-none row m)
+-- what does not change a store keeps it
+of_store-same : (layout : Layout) (turn : Turn) (run : List Turn) (row : Row)
+    → ((s : ℕ) → past_of layout s run ≡ past_of layout s (turn ∷ run)) → IsAcceptedRow layout run row
+    → IsAcceptedRow layout (turn ∷ run) row
+of_store-same layout turn run row same (inl began) = inl began
+of_store-same layout turn run row same (inr w) = inr (record {
+  store = w.store;
+  item = w.item;
+  accepted = subst (λ p. Contains p (Took w.item)) (same w.store) w.accepted;
+  of = w.of;
+})
+
+accepted_writes-from : (layout : Layout) (run : List Turn) (row : Row) → Contains (accepted_writes layout run) row
+    → IsAcceptedRow layout run row
+accepted_writes-from layout [] row m = inl m
 accepted_writes-from layout (Issued t x ∷ run) row m =
-    (let w = accepted_writes-from layout run row m in
-    record { store = w.store; item = w.item; accepted = w.accepted; of = w.of })
+    of_store-same layout (Issued t x) run row (λ s. refl) (accepted_writes-from layout run row m)
 accepted_writes-from layout (Sent k st ∷ run) row m =
-    (let w = accepted_writes-from layout run row m in
-    record { store = w.store; item = w.item; accepted = w.accepted; of = w.of })
+    of_store-same layout (Sent k st) run row (λ s. refl) (accepted_writes-from layout run row m)
 accepted_writes-from layout (Received k j st ∷ run) row m =
-    (let w = accepted_writes-from layout run row m in
-    record { store = w.store; item = w.item; accepted = w.accepted; of = w.of })
+    of_store-same layout (Received k j st) run row (λ s. refl) (accepted_writes-from layout run row m)
 accepted_writes-from layout (Observed k t at st ∷ run) row m =
-    (let w = accepted_writes-from layout run row m in
-    record { store = w.store; item = w.item; accepted = w.accepted; of = w.of })
+    of_store-same layout (Observed k t at st) run row (λ s. refl) (accepted_writes-from layout run row m)
 accepted_writes-from layout (Stepped t step ∷ run) row m =
-    elim (Contains-append_cases (accepted_writes run) (step_rows step) row m) [
+    elim (Contains-append_cases (accepted_writes layout run) (step_rows step) row m) [
       | inl old ↦ of_store-keeps layout t step run row (accepted_writes-from layout run row old)
-      | inr fresh ↦ of_store-step layout t step run row fresh
+      | inr fresh ↦ inr (of_store-step layout t step run row fresh)
     ]
 
 pub newest-accepted : (layout : Layout) (run : List Turn) → IsLegal layout run → AreNewestAccepted layout run
 newest-accepted layout run legal = λ key at.
     let s : ℕ = layout.store_of key in
-    answer-in_part (writes (past_of layout s run)) (accepted_writes run) key at
+    answer-in_part (writes (past_of layout s run)) (accepted_writes layout run) key at
     (writes-row_set (past_of layout s run) (past-legal layout run s legal))
     (λ row m. accepted_writes-have layout run s row legal m)
     (λ row m of_key below.
-    let w = accepted_writes-from layout run row m in
-    let from = issued-from layout run w.store w.item.node w.item legal
-    (accepted-issued layout run w.store w.item legal w.accepted) in
-    let at' : w.store ≡ s = sym (row-routed layout w.store w.item.node w.item.stamp w.item.body row from.routed w.of)
-    ∙ ap (λ k. layout.store_of k) of_key in
-    took-writes (past_of layout s run) w.item row
-    (subst (λ k. Contains (past_of layout k run) (Took w.item)) at' w.accepted) w.of)
+    elim (accepted_writes-from layout run row m) [
+      | inl began ↦ begun-here layout run row key legal of_key began
+      | inr w ↦
+          let from = issued-from layout run w.store w.item.node w.item legal
+          (accepted-issued layout run w.store w.item legal w.accepted) in
+          let at' : w.store ≡ s =
+          sym (row-routed layout w.store w.item.node w.item.stamp w.item.body row from.routed w.of)
+          ∙ ap (λ k. layout.store_of k) of_key in
+          took-writes (past_of layout s run) w.item row
+          (subst (λ k. Contains (past_of layout k run) (Took w.item)) at' w.accepted) w.of
+    ])
 
 -- a store has no row of another store's key
 pub other-none : (layout : Layout) (run : List Turn) (s : ℕ) (key : List ℕ) (stamp : ℕ) → IsLegal layout run
@@ -306,9 +325,12 @@ other-none layout run s key stamp legal other =
       | None ↦ λ e. answer_none (writes (past_of layout s run)) key stamp e
       | Some row ↦ λ e.
           let is = newest_is_greatest (writes (past_of layout s run)) key stamp row e in
-          let w = writes-from (past_of layout s run) row (past-starts layout run s legal) is.member in
-          let from = issued-from layout run s w.item.node w.item legal
-          (accepted-issued layout run s w.item legal w.accepted) in
-          absurd (other (ap (λ k. layout.store_of k) (sym is.of_key)
-          ∙ row-routed layout s w.item.node w.item.stamp w.item.body row from.routed w.of))
+          let here : layout.store_of row.key ≡ s = elim (rows-since layout run s row legal is.member) [
+            | inl began ↦ (can-begin layout run legal).routed s row began
+            | inr w ↦
+                let from = issued-from layout run s w.item.node w.item legal
+                (accepted-issued layout run s w.item legal w.accepted) in
+                row-routed layout s w.item.node w.item.stamp w.item.body row from.routed w.of
+          ] in
+          absurd (other (ap (λ k. layout.store_of k) (sym is.of_key) ∙ here))
     ] refl

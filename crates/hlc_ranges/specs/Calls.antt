@@ -1,15 +1,15 @@
 -- A node of a store, as the run knows it: what a machine keeps for one of its links.
-use Rattle.std.specs.Prelude.{◌≡◌, ℕ, ◌<◌, ◌≤◌, List, ◌∷◌, length}
+use Rattle.std.specs.Prelude.{◌≡◌, ℕ, ◌<◌, ◌≤◌, List, ◌∷◌}
 use Rattle.hlc_node.specs.Node.{NodeView, next_item, after_issue}
 use Rattle.hlc_node.specs.declared.item.Body.{Body}
 use Rattle.hlc_core.specs.Past.{numbered}
-use Rattle.hlc_ranges.specs.Run.{Layout, Turn, Issued, past_of, issued, have_ended, last_stamp, IsLegal}
+use Rattle.hlc_ranges.specs.Run.{Layout, Turn, Issued, past_of, next_number, has_ended, last_stamp, IsLegal}
 
 -- the node has joined the store, has the next number of its link, and has retired if its last item was issued
 pub record IsNodeOf (layout : Layout) (run : List Turn) (s : ℕ) (node : NodeView) : Type 0 where
   pub inside : node.id < numbered (past_of layout s run)
-  pub next : node.next ≡ length (issued s node.id run)
-  pub retired : node.retired ≡ have_ended (issued s node.id run)
+  pub next : node.next ≡ next_number layout s node.id run
+  pub retired : node.retired ≡ has_ended layout s node.id run
 
 -- the node's clock has reached its machine's: NodeCore::raise_to lets it
 abbrev pub HasClock : Layout → List Turn → ℕ → NodeView → Type 0

@@ -1,19 +1,22 @@
 -- A run of several stores and of the machines that write to them: what took place, in order, and what it says of each
 -- store, each link and each clock.
-use Rattle.std.specs.Prelude.{◌≡◌, ℕ, false, ◌<◌, ◌≤◌, List, [], ◌∷◌, ◌++◌, length, max, Option, Some, None}
-use Rattle.std.specs.Prelude.{◌==◌, if◌then◌else◌, ⊤, Contains, All}
+use Rattle.std.specs.Prelude.{◌≡◌, ◌≢◌, ℕ, zero, suc, Bool, false, ◌+◌, ◌<◌, ◌≤◌, List, [], ◌∷◌, ◌++◌, length, max}
+use Rattle.std.specs.Prelude.{Option, Some, None, ◌==◌, if◌then◌else◌, ⊤, Contains, All}
 use Rattle.hlc_rows.specs.declared.row.Row.{Row}
 use Rattle.hlc_node.specs.declared.item.Item.{Item}
 use Rattle.hlc_node.specs.declared.item.Body.{Body}
 use Rattle.hlc_node.specs.declared.item.Body.TheVariants.{Write, Batch, Report, Retire}
-use Rattle.hlc_core.specs.Past.{Step, Started, Took, Joined, numbered, floor, item_rows, IsLegal as IsLegalPast}
-pub use Rattle.hlc_core.specs.Replicas.{have_ended}
+use Rattle.hlc_node.specs.Items.{retires}
+use Rattle.hlc_core.specs.Past.{Step, Started, Took, Joined, numbered, count, head, retired, floor, writes, item_rows}
+use Rattle.hlc_core.specs.Past.{IsLegal as IsLegalPast}
 
--- How nodes and keys are divided: the number of stores; the number of nodes at the start of each store; the machine of
--- each node of each store, which may be a machine of several nodes; and the store of each key.
+-- How nodes and keys are divided, and what the run begins with: the number of stores; the past that each of them begins
+-- with, as that of new nodes or of a state; the clock of each machine at the beginning; the machine of each node of
+-- each store, which may be a machine of several nodes; and the store of each key.
 pub record Layout : Type 0 where
   pub stores : ℕ
-  pub nodes : ℕ → ℕ
+  pub begun : ℕ → List Step
+  pub clock : ℕ → ℕ
   pub machine : ℕ → ℕ → ℕ
   pub store_of : List ℕ → ℕ
 
@@ -29,9 +32,9 @@ pub data Turn : Type 0 where
 
 -- Below, a run is the list of the turns, the last one first.
 
--- the past of a store, which starts with the nodes that the layout says
+-- the past of a store, which begins as the layout says
 abbrev pub past_of : Layout → ℕ → List Turn → List Step
-past_of layout s [] = Started (layout.nodes s) ∷ []
+past_of layout s [] = layout.begun s
 past_of layout s (Stepped t step ∷ run) = if t == s then step ∷ past_of layout s run else past_of layout s run
 past_of layout s (_ ∷ run) = past_of layout s run
 
@@ -41,6 +44,19 @@ issued s n [] = []
 issued s n (Issued t item ∷ run) =
     if t == s then (if item.node == n then item ∷ issued s n run else issued s n run) else issued s n run
 issued s n (_ ∷ run) = issued s n run
+
+-- the number of the next item of a link: of those before the run, and of those of the run
+abbrev pub next_number : Layout → ℕ → ℕ → List Turn → ℕ
+next_number layout s n run = count n (layout.begun s) + length (issued s n run)
+
+-- the last of some items of a link, which had ended before them or not, ends it
+abbrev pub ends_with : Bool → List Item → Bool
+ends_with before [] = before
+ends_with before (item ∷ items) = retires item.body
+
+-- a node has issued its last item, before the run or in it
+abbrev pub has_ended : Layout → ℕ → ℕ → List Turn → Bool
+has_ended layout s n run = ends_with (retired n (layout.begun s)) (issued s n run)
 
 -- the machine and the stamp of an event
 abbrev pub stamping_of : Layout → Turn → Option (ℕ × ℕ)
@@ -65,9 +81,10 @@ abbrev pub raised_by : ℕ → Option (ℕ × ℕ) → ℕ → ℕ
 raised_by machine None last = last
 raised_by machine (Some mark) last = if mark.0 == machine then max last mark.1 else last
 
--- the clock of a machine: the greatest stamp of its events and of the starts of its nodes
+-- the clock of a machine: the greatest of its clock at the beginning, the stamps of its events and the starts of its
+-- nodes
 abbrev pub last_stamp : Layout → ℕ → List Turn → ℕ
-last_stamp layout machine [] = 0
+last_stamp layout machine [] = layout.clock machine
 last_stamp layout machine (turn ∷ run) = raised_by machine (mark_of layout turn) (last_stamp layout machine run)
 
 -- the turn that comes after this many turns
@@ -99,7 +116,7 @@ IsIssuedStep s _ run = ⊤
 abbrev pub IsAllowed : Layout → Turn → List Turn → Type 0
 IsAllowed layout (Issued s item) run =
     (s < layout.stores) × (item.node < numbered (past_of layout s run))
-    × (have_ended (issued s item.node run) ≡ false) × (item.number ≡ length (issued s item.node run))
+    × (has_ended layout s item.node run ≡ false) × (item.number ≡ next_number layout s item.node run)
     × (last_stamp layout (layout.machine s item.node) run < item.stamp) × IsRouted layout s item.body
 IsAllowed layout (Sent machine stamp) run = last_stamp layout machine run < stamp
 IsAllowed layout (Received machine message stamp) run =
@@ -110,24 +127,40 @@ IsAllowed layout (Observed machine s at stamp) run =
 IsAllowed layout (Stepped s step) run =
     (s < layout.stores) × IsLegalPast (step ∷ past_of layout s run) × IsIssuedStep s step run
 
--- each turn followed the rules
+-- A run may begin so: each store with a legal past, in which no item is accepted, since a state stands for its items;
+-- no head above the clock of its machine; each row in the store of its key; and what is no store of the layout with
+-- nodes alone.
+pub record CanBegin (layout : Layout) : Type 0 where
+  pub legal : (s : ℕ) → IsLegalPast (layout.begun s)
+  pub some : (s : ℕ) → layout.begun s ≢ []
+  pub untaken : (s : ℕ) (item : Item) → Contains (layout.begun s) (Took item) → ⊥
+  pub reached : (s n : ℕ) → head n (layout.begun s) ≤ layout.clock (layout.machine s n)
+  pub routed : (s : ℕ) (row : Row) → Contains (writes (layout.begun s)) row → layout.store_of row.key ≡ s
+  pub none : (s : ℕ) → layout.stores ≤ s → (nodes : ℕ) × (layout.begun s ≡ Started nodes ∷ [])
+
+-- it may begin as it did, and each turn followed the rules
 abbrev pub IsLegal : Layout → List Turn → Type 0
-IsLegal layout [] = ⊤
+IsLegal layout [] = CanBegin layout
 IsLegal layout (turn ∷ run) = IsAllowed layout turn run × IsLegal layout run
 
--- all issued writes and deletions, of all machines and for all stores
-abbrev pub issued_writes : List Turn → List Row
-issued_writes [] = []
-issued_writes (Issued s item ∷ run) = issued_writes run ++ item_rows item
-issued_writes (_ ∷ run) = issued_writes run
+-- the rows that the first stores begin with
+abbrev pub begun_writes : Layout → ℕ → List Row
+begun_writes layout zero = []
+begun_writes layout (suc s) = begun_writes layout s ++ writes (layout.begun s)
+
+-- all issued writes and deletions, of all machines and for all stores, after the rows that the stores begin with
+abbrev pub issued_writes : Layout → List Turn → List Row
+issued_writes layout [] = begun_writes layout layout.stores
+issued_writes layout (Issued s item ∷ run) = issued_writes layout run ++ item_rows item
+issued_writes layout (_ ∷ run) = issued_writes layout run
 
 -- the rows of an item that a step accepted
 abbrev pub step_rows : Step → List Row
 step_rows (Took item) = item_rows item
 step_rows _ = []
 
--- all accepted writes and deletions, of all stores
-abbrev pub accepted_writes : List Turn → List Row
-accepted_writes [] = []
-accepted_writes (Stepped s step ∷ run) = accepted_writes run ++ step_rows step
-accepted_writes (_ ∷ run) = accepted_writes run
+-- all accepted writes and deletions, of all stores, after the rows that they begin with
+abbrev pub accepted_writes : Layout → List Turn → List Row
+accepted_writes layout [] = begun_writes layout layout.stores
+accepted_writes layout (Stepped s step ∷ run) = accepted_writes layout run ++ step_rows step
+accepted_writes layout (_ ∷ run) = accepted_writes layout run

@@ -14,15 +14,16 @@ use Rattle.hlc_routing.specs.declared.fault.RangesFault.TheVariants.{NoStore, Wr
 
 -- nothing took place in a store that there is not
 pub past-none : (layout : Layout) (run : List Turn) (s : ℕ) → IsLegal layout run → layout.stores ≤ s
-    → past_of layout s run ≡ Started (layout.nodes s) ∷ []
-past-none layout [] s legal past = refl
+    → (nodes : ℕ) × (past_of layout s run ≡ Started nodes ∷ [])
+past-none layout [] s legal past = legal.none s past
 past-none layout (Issued t item ∷ run) s legal past = past-none layout run s legal.1 past
 past-none layout (Sent m stamp ∷ run) s legal past = past-none layout run s legal.1 past
 past-none layout (Received m number stamp ∷ run) s legal past = past-none layout run s legal.1 past
 past-none layout (Observed m t at stamp ∷ run) s legal past = past-none layout run s legal.1 past
 past-none layout (Stepped t step ∷ run) s legal past =
     let inside : t < layout.stores = legal.0.0 in
-    past-other layout s t step run (λ e. absurd (omega (arith, e, inside, past))) ∙ past-none layout run s legal.1 past
+    let none = past-none layout run s legal.1 past in
+    (none.0, past-other layout s t step run (λ e. absurd (omega (arith, e, inside, past))) ∙ none.1)
 
 -- a store that has such a snapshot closes it; one that has none, or that there is not, stays
 pub close-is : (layout : Layout) (old new : RangesView) (run : List Turn) (s id : ℕ) (result : Result ℕ RangesFault)
@@ -34,7 +35,7 @@ close-is layout old new run s id (Err NoStore) h closes same =
     let many : length old.stores ≡ layout.stores = h.many in
     let past : length old.stores ≤ s = closes in
     let none : stamp_of id (past_of layout s run) ≡ None =
-    ap (stamp_of id) (past-none layout run s h.legal (omega (arith, many, past))) in
+    ap (stamp_of id) (past-none layout run s h.legal (omega (arith, many, past))).1 in
     subst (λ o. Represents layout new (closed_at o s id run)) (sym none)
     (subst (λ kept. Represents layout kept run) (sym same) h)
 close-is layout old new run s id (Err WrongStore) h closes same = absurd closes
@@ -52,7 +53,7 @@ was-shut layout old new run s id NoStore h closes open' =
     let many : length old.stores ≡ layout.stores = h.many in
     let past : length old.stores ≤ s = closes in
     let none : stamp_of id (past_of layout s run) ≡ None =
-    ap (stamp_of id) (past-none layout run s h.legal (omega (arith, many, past))) in
+    ap (stamp_of id) (past-none layout run s h.legal (omega (arith, many, past))).1 in
     let e : None ≡ Some open'.0 = sym none ∙ open'.1 in absurd (cc)
 was-shut layout old new run s id WrongStore h closes open' = absurd closes
 was-shut layout old new run s id (Store fault) h closes open' =

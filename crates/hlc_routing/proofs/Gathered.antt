@@ -196,7 +196,7 @@ pub gathered : (layout : Layout) (run : List Turn) (stamp : ℕ) (from : List �
     (pairs sorted : List Pair) → IsLegal layout run → AreNewestIssued layout run stamp
     → ArePairsOf layout run stamp from to layout.stores pairs → IsPermutation pairs sorted
     → (HaveKeysApart pairs → IsStrictlySortedBy (slice_cmp nat_cmp) (map (λ (pair : Pair). pair.key) sorted))
-    → IsListingBetween (issued_writes run) stamp from to sorted
+    → IsListingBetween (issued_writes layout run) stamp from to sorted
 gathered layout run stamp from to pairs sorted legal newest h moved up = record {
   ascending = up h.apart;
   exact = λ key value. (
@@ -212,7 +212,7 @@ gathered layout run stamp from to pairs sorted legal newest h moved up = record 
           | inl low ↦ low
           | inr past ↦
               absurd (let none : answer (writes (past_of layout (layout.store_of key) run)) key stamp ≡ None =
-              ap (λ p. answer (writes p) key stamp) (past-none layout run (layout.store_of key) legal past)
+              ap (λ p. answer (writes p) key stamp) (past-none layout run (layout.store_of key) legal past).1
               ∙ answer_none [] key stamp (newest_nil key stamp) in
               let e : None ≡ Some value = sym none ∙ answers' in cc)
         ] in

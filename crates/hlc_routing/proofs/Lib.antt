@@ -15,3 +15,4 @@ pub mod Gathered
 pub mod Apart
 pub mod Newcomer
 pub mod Placed
+pub mod Beginning

@@ -12,10 +12,10 @@ use Rattle.hlc_node.specs.Node.{NodeView, next_item, after_issue, expected_issue
 use Rattle.hlc_node.specs.declared.item.Item.{Item}
 use Rattle.hlc_node.specs.declared.item.Body.{Body}
 use Rattle.hlc_node.specs.declared.item.Body.TheVariants.{Report}
-use Rattle.hlc_core.specs.Past.{Step, floor, numbered}
+use Rattle.hlc_core.specs.Past.{Step, count, retired, floor, numbered}
 use Rattle.hlc_core.specs.Replicas.{begun}
 use Rattle.hlc_ranges.specs.Run.{Layout, Turn, Issued, Sent, Received, Observed, past_of, issued, last_stamp, raised_by}
-use Rattle.hlc_ranges.specs.Run.{Stepped, mark_of, start_of, turn_at, IsLegal, IsRouted, have_ended}
+use Rattle.hlc_ranges.specs.Run.{Stepped, mark_of, start_of, turn_at, IsLegal, IsRouted, ends_with}
 use Rattle.hlc_ranges.specs.Calls.{IsNodeOf, HasClock, Extends}
 use Rattle.hlc_ranges.proofs.ExtendingLemmas.{node-extends, other-stays}
 use Rattle.hlc_routing.specs.Machine.{MachineView, raised, acting, moved, Issues, Reports, IsMachineOf, GoesOn}
@@ -122,8 +122,8 @@ marked layout run m old turn stamp h up pasts links mark =
           let is = h.nodes s node there in
           record {
             inside = subst (λ past. node.id < numbered past) (sym (pasts s)) is.inside;
-            next = is.next ∙ ap length (sym (links s node.id));
-            retired = is.retired ∙ ap have_ended (sym (links s node.id));
+            next = is.next ∙ ap (λ xs. count node.id (layout.begun s) + length xs) (sym (links s node.id));
+            retired = is.retired ∙ ap (ends_with (retired node.id (layout.begun s))) (sym (links s node.id));
           };
       machines = h.machines;
       clock = omega (arith, clock_is);
@@ -201,7 +201,8 @@ step-keeps layout run m s machine step h free stateless =
           record {
             inside = (let was : node.id < numbered (past_of layout t run) = is.inside in
                 let grows : numbered (past_of layout t run) ≤ numbered (past_of layout t (Stepped s step ∷ run)) =
-                numbered-later layout run s t step (numbered-grows step (past_of layout s run) stateless) in omega arith);
+                numbered-later layout run s t step (numbered-grows step (past_of layout s run) stateless) in
+                omega arith);
             next = is.next;
             retired = is.retired;
           };

@@ -1,14 +1,16 @@
 -- A machine made of nodes that just joined all stores is the run's: none of its nodes has issued an item, and its clock
 -- is at or above their starts.
-use Rattle.std.proofs.Common.{◌≡◌, ℕ, zero, suc, ◌<◌, ◌≤◌, List, [], ◌∷◌, length, max, Some, refl, ap}
+use Rattle.std.proofs.Common.{◌≡◌, ℕ, zero, suc, ◌+◌, ◌<◌, ◌≤◌, List, [], ◌∷◌, length, max, Some, refl, ap}
 use Rattle.std.proofs.Common.{sym, ◌∙◌, subst, inl, inr, arith}
 use Rattle.std.specs.Prelude.{slice_get}
 use Rattle.std.proofs.lemmas.Bool.{cases_eq, cond-true, cond-false, eq-eqb, ne_eqb}
 use Rattle.std.proofs.lemmas.Option.{slice_get_within}
 use Rattle.hlc_node.specs.Node.{NodeView}
-use Rattle.hlc_core.specs.Past.{Step, numbered}
+use Rattle.hlc_core.specs.Past.{Step, count, retired, numbered}
+use Rattle.hlc_core.proofs.PastLemmas.{fresh as fresh-node}
 use Rattle.hlc_ranges.specs.Run.{Layout, Turn, Issued, Sent, Received, Observed, Stepped, past_of, issued, last_stamp}
-use Rattle.hlc_ranges.specs.Run.{raised_by, have_ended, IsLegal}
+use Rattle.hlc_ranges.specs.Run.{raised_by, ends_with, IsLegal}
+use Rattle.hlc_ranges.proofs.TurnLemmas.{can-begin}
 use Rattle.hlc_routing.specs.All.{each_stepped, join_step, next_join, AreJoins}
 use Rattle.hlc_routing.specs.Machine.{MachineView, IsMachineOf, IsNewMachine}
 use Rattle.hlc_routing.proofs.Stepping.{some-same, numbered-legal, numbered-later}
@@ -37,6 +39,19 @@ issued-none layout (Stepped t step ∷ run) s n legal above =
     let grows : numbered (past_of layout s run) ≤ numbered (past_of layout s (Stepped t step ∷ run)) =
     numbered-later layout run t s step (numbered-legal step (past_of layout t run) legal.0.1) in
     issued-none layout run s n legal.1 (omega arith)
+
+-- a store has at least the node numbers that it began with
+numbered-from : (layout : Layout) (run : List Turn) (s : ℕ) → IsLegal layout run
+    → numbered (layout.begun s) ≤ numbered (past_of layout s run)
+numbered-from layout [] s legal = omega arith
+numbered-from layout (Sent m stamp ∷ run) s legal = numbered-from layout run s legal.1
+numbered-from layout (Received m message stamp ∷ run) s legal = numbered-from layout run s legal.1
+numbered-from layout (Observed m t at stamp ∷ run) s legal = numbered-from layout run s legal.1
+numbered-from layout (Issued t item ∷ run) s legal = numbered-from layout run s legal.1
+numbered-from layout (Stepped t step ∷ run) s legal =
+    let before : numbered (layout.begun s) ≤ numbered (past_of layout s run) = numbered-from layout run s legal.1 in
+    let grows : numbered (past_of layout s run) ≤ numbered (past_of layout s (Stepped t step ∷ run)) =
+    numbered-later layout run t s step (numbered-legal step (past_of layout t run) legal.0.1) in omega arith
 
 -- steps issue nothing
 issued-stepped : (step : ℕ → Step) (k s n : ℕ) (run : List Turn)
@@ -94,11 +109,19 @@ new-machine layout run m made machine legal joins new on low =
           omega (arith, e)) in
           let past : past_of layout s after ≡ step s ∷ past_of layout s run =
           past-within layout step layout.stores s run is.0 in
+          let grown = numbered-from layout run s legal in
+          let unused = fresh-node (layout.begun s) node.id ((can-begin layout run legal).legal s)
+          (let e : node.id ≡ (next_join layout run s).0 = is.1 in omega (arith, e, grown)) in
           record {
             inside = subst (λ p. node.id < numbered p) (sym past)
                 (let e : node.id ≡ (next_join layout run s).0 = is.1 in omega (arith, e));
-            next = fresh.2.next ∙ ap length (sym none);
-            retired = fresh.2.retired ∙ ap have_ended (sym none);
+            next =
+                (let zero' : node.next ≡ 0 = fresh.2.next in
+                let base : count node.id (layout.begun s) ≡ 0 = unused.0 in
+                let empty : length (issued s node.id after) ≡ 0 = ap length none in
+                let goal : node.next ≡ count node.id (layout.begun s) + length (issued s node.id after) = omega arith in
+                goal);
+            retired = fresh.2.retired ∙ sym (ap (ends_with (retired node.id (layout.begun s))) none ∙ unused.1);
           };
       machines = λ s node there.
           let is = number s node there in ap (layout.machine s) is.1 ∙ on s is.0;

@@ -60,7 +60,7 @@ not-there layout kept snapshot run s h out open' =
           (let many : length kept.stores ≡ layout.stores = h.many in
           let past : length kept.stores ≤ s = high in
           let none : stamp_of open'.0 (past_of layout s run) ≡ None =
-          ap (stamp_of open'.0) (past-none layout run s h.legal (omega arith)) in
+          ap (stamp_of open'.0) (past-none layout run s h.legal (omega arith)).1 in
           let e : None ≡ Some snapshot.stamp = sym none ∙ open'.1.1 in cc)
     ]
 

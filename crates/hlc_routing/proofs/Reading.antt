@@ -11,10 +11,10 @@ pub newest : {T E : Type 0} (layout : Layout) (run : List Turn) (s id stamp : �
     → MatchOption (stamp_of id (past_of layout s run)) (IsErr result)
     (λ at. IsOkAnd result (λ value. f value ≡ answer (writes (past_of layout s run)) key at))
     → AreNewestIssued layout run stamp
-    → IsOkAnd result (λ value. f value ≡ answer (issued_writes run) key stamp)
+    → IsOkAnd result (λ value. f value ≡ answer (issued_writes layout run) key stamp)
 newest layout run s id stamp key result f routed is found all' =
     let low : stamp ≤ stamp = omega arith in
-    let same : answer (writes (past_of layout s run)) key stamp ≡ answer (issued_writes run) key stamp =
+    let same : answer (writes (past_of layout s run)) key stamp ≡ answer (issued_writes layout run) key stamp =
     ap (λ k. answer (writes (past_of layout k run)) key stamp) (sym routed) ∙ all' key stamp low in
     subst (λ a. IsOkAnd result (λ value. f value ≡ a)) same
     (subst (λ o. MatchOption o (IsErr result)

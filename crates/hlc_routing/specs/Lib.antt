@@ -5,3 +5,4 @@ pub mod All
 pub mod Listing
 pub mod Faults
 pub mod Machine
+pub mod Beginning

@@ -18,8 +18,8 @@ pub record RangesView : Type 0 where
   pub division : DivisionView
   pub stores : List StoreView
 
--- The stores represent the run: it is legal; each store represents its past, which starts with the layout's nodes; and
--- the layout's store of each key is the division's.
+-- The stores represent the run: it is legal; each store represents its past, which begins as the layout says; and the
+-- layout's store of each key is the division's.
 pub record Represents (layout : Layout) (kept : RangesView) (run : List Turn) : Type 0 where
   pub legal : IsLegal layout run
   pub many : length kept.stores ≡ layout.stores

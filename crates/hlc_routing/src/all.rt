@@ -97,7 +97,7 @@ impl Ranges {
     ) -> Result<Option<&[u8]>, NoSnapshot>
         ensures newest { (layout : Layout) (run : List Turn) → Represents layout self.now run
             → IsOpenAll layout snapshot.now run → IsOkAnd result
-            (λ value. option_copied value ≡ answer (issued_writes run) key.now snapshot.now.stamp) }
+            (λ value. option_copied value ≡ answer (issued_writes layout run) key.now snapshot.now.stamp) }
         ensures ok { (layout : Layout) (run : List Turn) → Represents layout self.now run → IfOk result (λ value.
             IsOpenAt layout snapshot.now run (store_of self.now.division key.now)
             × (option_copied value ≡ answer

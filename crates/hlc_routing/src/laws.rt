@@ -1,11 +1,14 @@
 //! What events at machines leave of the stores, and steps of stores of the machines.
-ghost use Rattle.std.specs.Prelude.{◌≡◌, ◌≢◌, ◌<◌, ◌≤◌, [], ◌∷◌, ℕ, List, Some};
+ghost use Rattle.std.specs.Prelude.{◌≡◌, ◌≢◌, ◌<◌, ◌≤◌, [], ◌∷◌, ℕ, List, Some, length, slice_get};
 ghost use Rattle.hlc_node.specs.declared.item.Item.{Item as AnItem};
-ghost use Rattle.hlc_core.specs.Past.{Step};
+ghost use Rattle.hlc_core.specs.Past.{Step, Started};
+ghost use Rattle.hlc_core.specs.StoreView.{StoreView, Represents as CoreRepresents};
 ghost use Rattle.hlc_core.specs.Replicas.{begun};
 ghost use Rattle.hlc_ranges.specs.Run.{Layout, Turn, Issued, Sent, Received, Observed, Stepped, IsLegal, start_of};
 ghost use Rattle.hlc_ranges.specs.Run.{last_stamp};
 ghost use Rattle.hlc_routing.specs.All.{each_stepped, join_step, next_join, AreJoins};
+ghost use Rattle.hlc_routing.specs.Beginning.{layout_from, AreStates, IsFirstMachine};
+ghost use Rattle.hlc_routing.specs.Division.{store_of};
 ghost use Rattle.hlc_routing.specs.Machine.{MachineView, IsMachineOf, IsNewMachine};
 ghost use Rattle.hlc_routing.specs.Ranges.{RangesView, Represents};
 
@@ -58,4 +61,28 @@ pub fn joins_make_machines()
         → ((s : ℕ) → s < layout.stores → layout.machine s (next_join layout run s).0 ≡ m)
         → last_stamp layout m run ≤ machine.last
         → IsMachineOf layout (each_stepped (join_step layout run) layout.stores run) m machine }
+{}
+
+/// New stores begin a run, in which nothing has taken place yet.
+pub fn new_stores_begin_a_run()
+    ensures { (layout : Layout) (kept : RangesView)
+        → ((s : ℕ) → (nodes : ℕ) × (layout.begun s ≡ Started nodes ∷ []))
+        → length kept.stores ≡ layout.stores
+        → ((s : ℕ) (store : StoreView) → slice_get kept.stores s ≡ Some store
+        → CoreRepresents store (layout.begun s))
+        → ((key : List ℕ) → layout.store_of key ≡ store_of kept.division key)
+        → Represents layout kept [] }
+{}
+
+/// And so do the states of stores, whoever made them: restored from checkpoints, halves of a store that was divided, or
+/// two that were joined. Each must have only rows of its keys, as `Ranges::checked` says.
+pub fn states_begin_a_run()
+    ensures { (kept : RangesView) (machine : ℕ → ℕ → ℕ) (clock : ℕ → ℕ) → AreStates kept machine clock
+        → Represents (layout_from kept machine clock) kept [] }
+{}
+
+/// A machine of nodes that the stores begin with is the run's, if it is not behind its clock at the beginning.
+pub fn first_machines_begin_a_run()
+    ensures { (layout : Layout) (m : ℕ) (machine : MachineView) → IsFirstMachine layout m machine
+        → IsMachineOf layout [] m machine }
 {}

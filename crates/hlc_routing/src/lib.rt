@@ -17,7 +17,8 @@ pub use division::{Division, MAX_STORES, max_stores_are_1024, the_hash_is_fnv_1a
 pub use fault::RangesFault;
 pub use hlc_core::{Accepted, Checkpoint, Core, CoreFault, Item, Report, Stamp};
 pub use laws::{
-    events_keep_machines, events_keep_stores, joins_make_machines, steps_keep_machines,
+    events_keep_machines, events_keep_stores, first_machines_begin_a_run, joins_make_machines,
+    new_stores_begin_a_run, states_begin_a_run, steps_keep_machines,
 };
 pub use machine::{Machine, MachineFault, RefusedBatchRouting, RefusedRouting};
 pub use placing::PlacingFault;

@@ -37,7 +37,7 @@ impl Ranges {
         to: Option<&[u8]>,
     ) -> Result<Listing, RangesFault>
         ensures ok { (layout : Layout) (run : List Turn) → Represents layout self.now run
-            → IfOk result (IsListingBetween (issued_writes run)
+            → IfOk result (IsListingBetween (issued_writes layout run)
             snapshot.now.stamp from.now (option_copied to.entry)) }
         ensures open { (layout : Layout) (run : List Turn) → Represents layout self.now run
             → OnOk result (IsOpenAll layout snapshot.now run) }

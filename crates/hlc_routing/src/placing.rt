@@ -71,10 +71,7 @@ fn first_other(
     let leaves = core.lent().leaves()?;
     match other_of(division, store, &leaves) {
         None => Ok(None),
-        Some((at, place)) => Ok(Some(Bytes::from_slice(
-            alloc,
-            leaves.at(at).at(place).key(),
-        )?)),
+        Some((at, place)) => Ok(Some(Bytes::from_slice(alloc, leaves.at(at).at(place).key())?)),
     }
 }
 

@@ -216,7 +216,7 @@ impl Ranges {
         ensures newest { (layout : Layout) (run : List Turn) (stamp : ℕ) → Represents layout self.now run
             → IsCut layout run stamp
             → stamp_of id (past_of layout (store_of self.now.division key.now) run) ≡ Some stamp
-            → IsOkAnd result (λ value. option_copied value ≡ answer (issued_writes run) key.now stamp) }
+            → IsOkAnd result (λ value. option_copied value ≡ answer (issued_writes layout run) key.now stamp) }
     {
         // The law of every cut, for the contract alone.
         cuts_are_consistent();

@@ -38,10 +38,10 @@ use Rattle.hlc_world.proofs.ScheduleLemmas.{orderly, on_link-none, on_node-none,
 use Rattle.hlc_world.proofs.ScheduleLemmas.{sight-rises}
 use Rattle.hlc_world.proofs.ScheduleLemmas.{legal-past}
 use Rattle.hlc_ranges.specs.Run.{Turn, Issued, Sent as Sends, Received as Receives, Observed as Observes, Stepped}
-use Rattle.hlc_ranges.specs.Run.{past_of, issued, have_ended, start_of, raised_by, last_stamp, turn_at, IsRouted}
-use Rattle.hlc_ranges.specs.Run.{IsIssuedStep, IsLegal as IsLegalRun}
+use Rattle.hlc_ranges.specs.Run.{past_of, issued, ends_with, start_of, raised_by, last_stamp, turn_at, IsRouted}
+use Rattle.hlc_ranges.specs.Run.{next_number, IsIssuedStep, IsLegal as IsLegalRun}
 use Rattle.hlc_ranges.proofs.TurnLemmas.{turn-keeps, raised-same, raised-other, past-same, issued-same}
-use Rattle.hlc_ranges.proofs.TurnLemmas.{issued-other_node}
+use Rattle.hlc_ranges.proofs.TurnLemmas.{issued-other_node, new-begin}
 use Rattle.hlc_world_run.specs.RunOf.{layout_of, messages, sent_at, observing, step_by, stepping, with_turn, run_of}
 
 -- the run is legal, and has this past, these items of each link, these clocks, and these messages
@@ -50,7 +50,7 @@ pub record Mirrors (nodes : ℕ) (items : ℕ → List Item) (overs : ℕ → Bo
   pub legal : IsLegalRun (layout_of nodes) run
   pub past_is : past_of (layout_of nodes) 0 run ≡ past
   pub link : (n : ℕ) → issued 0 n run ≡ reverse (items n)
-  pub over : (n : ℕ) → have_ended (issued 0 n run) ≡ overs n
+  pub over : (n : ℕ) → ends_with false (issued 0 n run) ≡ overs n
   pub clock : (n : ℕ) → last_stamp (layout_of nodes) n run ≡ lasts n
   pub many : messages run ≡ length letters
   pub each : (k : ℕ) (letter : Message) → slice_get letters k ≡ Some letter
@@ -92,12 +92,12 @@ link-item n item run items is =
           ∙ sym (ap reverse (with_item-other n item items other))
     ]
 
-over-item : (n : ℕ) (item : Item) (run : List Turn) (before : Bool) → have_ended (issued 0 n run) ≡ before
-    → have_ended (issued 0 n (Issued 0 item ∷ run)) ≡ ends n (Some item) before
+over-item : (n : ℕ) (item : Item) (run : List Turn) (before : Bool) → ends_with false (issued 0 n run) ≡ before
+    → ends_with false (issued 0 n (Issued 0 item ∷ run)) ≡ ends n (Some item) before
 over-item n item run before is =
     elim (cases_eq item.node n) [
-      | inl same ↦ ap have_ended (issued-same 0 0 n item run refl same) ∙ sym (ends-same n item before same)
-      | inr other ↦ ap have_ended (issued-other_node 0 0 n item run refl other) ∙ is
+      | inl same ↦ ap (ends_with false) (issued-same 0 0 n item run refl same) ∙ sym (ends-same n item before same)
+      | inr other ↦ ap (ends_with false) (issued-other_node 0 0 n item run refl other) ∙ is
           ∙ sym (ends-other n item before other)
     ]
 
@@ -113,13 +113,16 @@ issues nodes items overs lasts letters past run p st num body h inside active is
     let item = an_item p num st body in
     let clock : last_stamp (layout_of nodes) p run < st =
     (let e : last_stamp (layout_of nodes) p run ≡ lasts p = h.clock p in omega (arith, e, up)) in
+    let number : num ≡ next_number (layout_of nodes) 0 p run =
+    (let long : length (issued 0 p run) ≡ length (items p) = ap length (h.link p) ∙ length-reverse (items p) in
+    let goal : num ≡ 0 + length (issued 0 p run) = omega arith in goal) in
     record {
       legal = (
         (
           one,
           subst (λ x. p < numbered x) (sym h.past_is) inside,
           h.over p ∙ active,
-          is ∙ sym (ap length (h.link p) ∙ length-reverse (items p)),
+          number,
           clock,
           routed,
         ),
@@ -357,7 +360,7 @@ mirrored-entry nodes s _ _ allowed legal h = h
 pub mirrored : (nodes : ℕ) (s : List (Event × Reply)) → IsLegal nodes s → IsMirrored nodes s
 mirrored nodes [] legal =
     record {
-      legal = tt;
+      legal = new-begin (layout_of nodes) (λ s. (nodes, refl));
       past_is = refl;
       link = λ n. refl;
       over = λ n. refl;

@@ -5,7 +5,7 @@ use Rattle.hlc_node.specs.Items.{an_item}
 use Rattle.hlc_node.specs.declared.item.Body.TheVariants.{Write as a_write, Report as a_report, Retire as a_retire}
 use Rattle.hlc_events.specs.declared.event.CoreEvent.{CoreEvent}
 use Rattle.hlc_core.specs.declared.reply.CoreReply.{CoreReply}
-use Rattle.hlc_core.specs.Past.{Step, stamp_of}
+use Rattle.hlc_core.specs.Past.{Step, Started, stamp_of}
 use Rattle.hlc_core.specs.History.{step_of}
 use Rattle.hlc_world_event.specs.declared.event.Event.TheVariants.{Write, Delete, Report, Retire, Send, Receive}
 use Rattle.hlc_world_event.specs.declared.event.Event.TheVariants.{Observe}
@@ -19,7 +19,13 @@ use Rattle.hlc_ranges.specs.Run.{Stepped}
 -- one store, the one with number 0, which has every key and this many nodes at its start; each node is a machine of its
 -- own, which has the node's number
 abbrev pub layout_of : ℕ → Layout
-layout_of nodes = record { stores = 1; nodes = λ s. nodes; machine = λ s node. node; store_of = λ key. 0 }
+layout_of nodes = record {
+  stores = 1;
+  begun = λ s. Started nodes ∷ [];
+  clock = λ machine. 0;
+  machine = λ s node. node;
+  store_of = λ key. 0;
+}
 
 -- the number of the messages that were sent
 abbrev pub messages : List Turn → ℕ

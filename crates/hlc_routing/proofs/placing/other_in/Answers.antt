@@ -1,5 +1,5 @@
 -- The next column has no rows, or a key of the store.
-use Rattle.std.proofs.Common.{length, subst, arith}
+use Rattle.std.proofs.Common.{subst, arith}
 use Rattle.hlc_table_column.specs.Rows.{rows_in}
 use Rattle.hlc_routing.specs.Placing.{ArePlaced}
 use Rattle.hlc_routing.proofs.Placed.{placed-next, not-other, take-all}

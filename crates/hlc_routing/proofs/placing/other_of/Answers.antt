@@ -1,5 +1,5 @@
 -- The next leaf has no column of another store's key.
-use Rattle.std.proofs.Common.{length, subst, arith}
+use Rattle.std.proofs.Common.{subst, arith}
 use Rattle.hlc_table_column.specs.Rows.{rows_in}
 use Rattle.hlc_columns.specs.Table.{columns_in}
 use Rattle.hlc_routing.specs.Placing.{ArePlaced}
