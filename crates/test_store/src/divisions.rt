@@ -84,18 +84,26 @@ fn a_cut_of_1024_stores_is_read(rt: HostRuntime) {
     assert!(&rt; ranges.close_all(&snapshot).is_err());
 }
 
-/// Returns three stores. Each has written the same two keys, if there are any.
-fn three_stores<H: Abort + AllocGlobal>(rt: &H, keys: [Option<&[u8]>; 2]) -> Vec<Core> {
+/// Returns a division at the keys h and q.
+fn thirds<H: Abort + AllocGlobal>(rt: &H) -> Division {
+    let mut keys = Vec::new(rt.alloc());
+    assert!(rt; keys.push(bytes(rt, b"h")).is_ok());
+    assert!(rt; keys.push(bytes(rt, b"q")).is_ok());
+    Division::by_keys(keys).expect(rt, "a division")
+}
+
+/// Returns this many stores, in each of which node 0 deleted these two keys.
+fn stores_of<H: Abort + AllocGlobal>(
+    rt: &H,
+    many: usize,
+    first: &[u8],
+    second: &[u8],
+) -> Vec<Core> {
     let mut stores = Vec::new(rt.alloc());
-    for _ in 0..3 {
+    for _ in 0..many {
         let mut core = new_store(rt);
-        let mut number = 0;
-        for key in keys {
-            if let Some(key) = key {
-                says(rt, &mut core, number, key, None);
-                number += 1;
-            }
-        }
+        says(rt, &mut core, 0, first, None);
+        says(rt, &mut core, 1, second, None);
         assert!(rt; stores.push(core).is_ok());
     }
     stores
@@ -104,27 +112,20 @@ fn three_stores<H: Abort + AllocGlobal>(rt: &H, keys: [Option<&[u8]>; 2]) -> Vec
 #[test]
 fn stores_with_keys_of_others_are_not_taken(rt: HostRuntime) {
     let alloc = rt.alloc();
-    let cut = || {
-        let mut keys = Vec::new(alloc);
-        for key in [b"h".as_slice(), b"q"] {
-            assert!(&rt; keys.push(bytes(&rt, key)).is_ok());
-        }
-        Division::by_keys(keys).expect(&rt, "a division")
-    };
-    assert!(&rt; Ranges::checked(alloc, cut(), three_stores(&rt, [None, None])).is_ok());
-    let named = [
-        ([Some(b"a".as_slice()), None], 1, b"a".as_slice()),
-        ([Some(b"z"), Some(b"m")], 0, b"m"),
-        ([Some(b"g"), Some(b"h")], 0, b"h"),
-    ];
-    for (keys, store, key) in named {
-        match Ranges::checked(alloc, cut(), three_stores(&rt, keys)) {
-            Err(PlacingFault::Key(at, other)) => {
-                assert!(&rt; at == store && other.as_slice() == key);
-            }
-            _ => assert!(&rt; false),
-        }
+    for (first, second, store, key) in [
+        (b"a".as_slice(), b"b".as_slice(), 1, b"a".as_slice()),
+        (b"z", b"m", 0, b"m"),
+        (b"g", b"h", 0, b"h"),
+    ] {
+        let stores = stores_of(&rt, 3, first, second);
+        let named = match Ranges::checked(alloc, thirds(&rt), stores) {
+            Err(PlacingFault::Key(at, other)) => at == store && other.as_slice() == key,
+            _ => false,
+        };
+        assert!(&rt; named);
     }
-    let few = Ranges::checked(alloc, hashed(&rt, 2), three_stores(&rt, [None, None]));
+    let few = Ranges::checked(alloc, thirds(&rt), stores_of(&rt, 2, b"a", b"b"));
     assert!(&rt; matches!(few, Err(PlacingFault::Number)));
+    let one = Ranges::checked(alloc, hashed(&rt, 1), stores_of(&rt, 1, b"a", b"z"));
+    assert!(&rt; one.is_ok());
 }
