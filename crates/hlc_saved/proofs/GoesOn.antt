@@ -1,13 +1,11 @@
 -- What never falls while a store goes on, and what is the same if nothing rose: the links, and the open snapshots if
 -- none was opened; and then there are no more rows, and as many only if the whole state is the same.
 use Rattle.std.proofs.Common.{◌≡◌, ◌≢◌, ℕ, ◌+◌, ◌<◌, ◌≤◌, List, [], ◌∷◌, length, get_or, not, zero, suc}
-use Rattle.std.proofs.Common.{Some, None, Option, refl, ap, sym, ◌∙◌, subst, inl, inr, arith}
-use Rattle.std.specs.Prelude.{slice_get}
+use Rattle.std.proofs.Common.{None, refl, ap, sym, ◌∙◌, inl, inr, arith}
 use Rattle.std.proofs.lemmas.Bool.{cond-true, cond-false, eq-eqb, ne_eqb, cases_eq}
 use Rattle.std.proofs.lemmas.List.{ext_get_or, nil_from_length}
 use Rattle.std.proofs.lemmas.List.Sums.{sum_by-cons}
 use Rattle.std.proofs.lemmas.Option.{get_or_from_slice_get}
-use Rattle.hlc_rows.specs.declared.row.Row.{Row}
 use Rattle.hlc_intake.specs.IntakeView.{IntakeView}
 use Rattle.hlc_heads.specs.Heads.{a_link, no_link}
 use Rattle.hlc_node.specs.declared.item.Item.{Item}
@@ -17,12 +15,12 @@ use Rattle.hlc_snapshot.proofs.RegisterLemmas.{stamp_in-miss}
 use Rattle.hlc_vacuum.specs.Representing.{IsWithin}
 use Rattle.hlc_vacuum.proofs.WithinLemmas.{within-fewer, within-all}
 use Rattle.hlc_core.specs.Past.{Step, Took, Joined, Opened, Closed, Vacuumed, PartVacuumed, count, head, retired, numbered}
-use Rattle.hlc_core.specs.Past.{horizon, item_refusal}
+use Rattle.hlc_core.specs.Past.{horizon}
 use Rattle.hlc_core.specs.StoreView.{StoreView, AreLinks, Represents, with_rows, with_rows_left}
 use Rattle.hlc_core.specs.StoreView.{without_snapshots}
 use Rattle.hlc_core.proofs.PastLemmas.{inside, vacuum-above}
-use Rattle.hlc_saved.specs.GoneOn.{HasGoneOn, unchanged, accepted, joined, opened, closed, all_closed, vacuumed}
-use Rattle.hlc_saved.specs.GoneOn.{part_vacuumed, later}
+use Rattle.hlc_core.specs.GoneOn.{HasGoneOn, unchanged, accepted, joined, opened, closed, all_closed, vacuumed}
+use Rattle.hlc_core.specs.GoneOn.{part_vacuumed, later}
 use Rattle.hlc_saved.specs.Saver.{items_in, mark_of}
 use Rattle.hlc_saved.specs.declared.mark.Mark.{Mark}
 
@@ -339,10 +337,10 @@ grows-part_vacuumed old new past at dropped was is within =
 
 grows : {old new : StoreView} → HasGoneOn old new → Grows old new
 grows (unchanged {kept = kept}) = grows-same kept
-grows (accepted {old = old} {new = new} past item was is) = grows-accepted old new past item was is
-grows (joined {old = old} {new = new} past node start was is) = grows-joined old new past node start was is
-grows (opened {old = old} {new = new} past stamp was is) = grows-opened old new past stamp was is
-grows (closed {old = old} {new = new} past id was is) = grows-closed old new past id was is
+grows (accepted {old = old} {new = new} past item was is rows) = grows-accepted old new past item was is
+grows (joined {old = old} {new = new} past node start was is rows) = grows-joined old new past node start was is
+grows (opened {old = old} {new = new} past stamp was is rows) = grows-opened old new past stamp was is
+grows (closed {old = old} {new = new} past id was is rows) = grows-closed old new past id was is
 grows (all_closed {old = old}) = grows-all_closed old
 grows (vacuumed {old = old} {new = new} past at was is within) = grows-vacuumed old new past at was is within
 grows (part_vacuumed {old = old} {new = new} past at dropped was is within) =

@@ -3,4 +3,3 @@ pub mod Writing
 pub mod Saver
 pub mod Blocks
 pub mod Faults
-pub mod GoneOn

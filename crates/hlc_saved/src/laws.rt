@@ -4,7 +4,7 @@ ghost use Rattle.std.specs.List.{flat_map};
 ghost use Rattle.hlc_rows.specs.declared.row.Row.{Row as ARow};
 ghost use Rattle.hlc_core.specs.StoreView.{StoreView};
 ghost use Rattle.hlc_body.specs.Spelling.{row_bytes, saved_bytes};
-ghost use Rattle.hlc_saved.specs.GoneOn.{HasGoneOn};
+ghost use Rattle.hlc_core.specs.GoneOn.{HasGoneOn};
 ghost use Rattle.hlc_saved.specs.Saver.{mark_of, HasMade};
 ghost use Rattle.hlc_saved.specs.Writing.{begin_bytes, end_bytes};
 ghost use Rattle.hlc_saved.specs.declared.savings.Saver.{Saver as ASaver};
