@@ -28,4 +28,6 @@ pub use hlc_replicas::{
     a_state_goes_on_as_its_past, histories_from_states_are_faithful, lagging_replicas_answer_alike,
     places_of_one_log_can_meet, reports_raise_the_floor,
 };
-pub use hlc_vacuum_parts::{parts_are_a_vacuum, vacuums_leave_a_certificate};
+pub use hlc_vacuum_parts::{
+    a_pass_leaves_no_more, parts_are_a_vacuum, vacuums_leave_a_certificate,
+};

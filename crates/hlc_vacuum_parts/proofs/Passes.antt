@@ -77,7 +77,7 @@ from-above after key other (inr g) t = above other after
     (total.trans after key other (below key after g) (below other key t))
 
 -- the keys above one are those up to a later one and those above that
-halves : (after key : List ℕ) → IsFrom after key
+pub halves : (after key : List ℕ) → IsFrom after key
     → AreHalves (in_part after None) (in_part after (Some key)) (in_part key None)
 halves after key from = record {
   first_in = λ k t. ap (λ b. b && true) (and-first (is_gt (cmp k after)) (not (is_gt (cmp k key))) t);
@@ -114,7 +114,7 @@ abbrev inside : Option (List ℕ) → List ℕ
 inside None = []
 inside (Some key) = key
 
-ends-from : (kept : StoreView) (after : List ℕ) (limit : ℕ) (key : List ℕ) → EndsAt kept after limit (Some key)
+pub ends-from : (kept : StoreView) (after : List ℕ) (limit : ℕ) (key : List ℕ) → EndsAt kept after limit (Some key)
     → IsFrom after key
 ends-from kept after limit key ends =
     elim (nat_lt (length ends.columns) limit) as (λ b.
@@ -232,7 +232,7 @@ passes old at after past part (next ∷ parts) (made, on) =
     ] refl on
 
 -- the empty key is below the key of each row
-keys-above : (rows : List Row) → ((row : Row) → Contains rows row → IsInLimits row)
+pub keys-above : (rows : List Row) → ((row : Row) → Contains rows row → IsInLimits row)
     → rows_of_keys (in_part [] None) rows ≡ rows
 keys-above [] in' = refl
 keys-above (row ∷ rows) in' =

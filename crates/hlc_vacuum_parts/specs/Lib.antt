@@ -1,1 +1,2 @@
 pub mod Pass
+pub mod Between
