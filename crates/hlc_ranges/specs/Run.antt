@@ -127,7 +127,7 @@ IsAllowed layout (Observed machine s at stamp) run =
 IsAllowed layout (Stepped s step) run =
     (s < layout.stores) × IsLegalPast (step ∷ past_of layout s run) × IsIssuedStep s step run
 
--- A run may begin so: each store with a legal past, in which no item is accepted, since a state stands for its items;
+-- A run may begin so: each store with a legal past, in which no item is accepted, since a state represents its items;
 -- no head above the clock of its machine; each row in the store of its key; and what is no store of the layout with
 -- nodes alone.
 pub record CanBegin (layout : Layout) : Type 0 where

@@ -18,7 +18,7 @@ use Rattle.hlc_core.proofs.PastLemmas.{fresh, inside, head-other, head-joined_ot
 use Rattle.hlc_core.proofs.PastLemmas.{writes-row_set}
 use Rattle.hlc_core.proofs.CheckpointLemmas.{link-is}
 use Rattle.hlc_core.proofs.StayLemmas.{floor-never_falls, nothing-before}
-use Rattle.hlc_core.proofs.Taking.{rows-body}
+use Rattle.hlc_core.proofs.TakingLemmas.{rows-body}
 use Rattle.hlc_replicas.proofs.AlikeLemmas.{AreAlike, alike-took, alike-joined, alike-opened, alike-closed}
 use Rattle.hlc_replicas.proofs.AlikeLemmas.{floors-alike}
 

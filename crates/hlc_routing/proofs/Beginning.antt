@@ -9,7 +9,7 @@ use Rattle.hlc_rows.specs.declared.row.Row.{Row}
 use Rattle.hlc_node.specs.declared.item.Item.{Item}
 use Rattle.hlc_core.specs.Past.{Step, Started, Began, Took, count, head, retired, writes, IsLegal as IsLegalPast}
 use Rattle.hlc_core.specs.StoreView.{StoreView, Represents as CoreRepresents}
-use Rattle.hlc_core.proofs.Starting.{begins}
+use Rattle.hlc_core.proofs.StartingLemmas.{begins}
 use Rattle.hlc_ranges.specs.Run.{Layout, CanBegin, issued}
 use Rattle.hlc_ranges.proofs.TurnLemmas.{new-begin}
 use Rattle.hlc_routing.specs.Division.{store_of}

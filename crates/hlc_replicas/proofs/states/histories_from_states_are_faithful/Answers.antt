@@ -7,7 +7,7 @@ use Rattle.hlc_core.specs.declared.reply.CoreReply.{CoreReply}
 use Rattle.hlc_core.specs.History.{past_of, step_of, with_step, IsLegalHistory, IsExpected, IsLeft, LeavesPart}
 use Rattle.hlc_core.specs.From.{past_from, IsLegalFrom, IsLeftFrom}
 use Rattle.hlc_replicas.proofs.FaithfulFrom.{histories_are_faithful}
-use Rattle.hlc_core.proofs.Starting.{begins}
+use Rattle.hlc_core.proofs.StartingLemmas.{begins}
 use Rattle.hlc_replicas.proofs.states.histories_from_states_are_faithful.Goals as goal
 
 -- what took place since the nodes started

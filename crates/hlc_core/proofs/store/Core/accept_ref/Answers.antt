@@ -4,7 +4,7 @@ use Rattle.std.proofs.lemmas.Result.{err_from_is_err_and}
 use Rattle.hlc_node.specs.Items.{retires}
 use Rattle.hlc_heads.specs.Heads.{a_link}
 use Rattle.hlc_core.proofs.Links.{fault-expected, admitted, admitted-expected}
-use Rattle.hlc_core.proofs.Taking.{took}
+use Rattle.hlc_core.proofs.TakingLemmas.{took}
 use Rattle.hlc_core.proofs.Consistent.{consistent-accept}
 use Rattle.hlc_core.proofs.Sound.{sound-accept, sound-moved}
 use Rattle.hlc_core.proofs.Moved.{fresh, consistent-moved, represents-moved}

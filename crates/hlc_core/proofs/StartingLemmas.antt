@@ -12,7 +12,7 @@ use Rattle.hlc_core.specs.StoreView.{StoreView, Represents}
 use Rattle.hlc_core.specs.Calls.{new_refusal}
 use Rattle.hlc_core.specs.Checkpoint.{IsCheckpoint}
 use Rattle.hlc_vacuum.specs.Representing.{count_above}
-use Rattle.hlc_core.proofs.Taking.{count-more}
+use Rattle.hlc_core.proofs.TakingLemmas.{count-more}
 use Rattle.hlc_core.proofs.BeganLemmas.{began-positive}
 use Rattle.std.proofs.lemmas.Option.{slice_get-get_or}
 
