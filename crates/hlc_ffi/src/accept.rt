@@ -7,10 +7,11 @@ ghost use Rattle.hlc_calls.specs.Entries.{AreEntered};
 ghost use Rattle.hlc_node_calls.specs.Batches.{batch_in};
 ghost use Rattle.hlc_ffi.specs.Handle.{OnStorePast, IsAccepting, IsChecking, IsGivenBack};
 
+use crate::handle::{of_core, on_core};
 use hlc_calls::entries::{Entry, enter_all};
 use hlc_calls::items::{accept, check, check_plain};
 use hlc_core::{ItemRef, Stamp};
-use hlc_handle::{Reader, Slot, Store, of_core, on_core};
+use hlc_handle::{Reader, Slot, Store};
 use std::alloc::Global;
 
 /// Accepts the write that a node issued under this number. Returns 0 and its stamp, or a refusal and its word.
@@ -30,7 +31,7 @@ pub extern "C" fn hlc_store_accept_write(
     ensures unchanged { result ≢ 0 → store.new.value ≡ store.old.value }
 {
     let item = ItemRef::write(node, number, Stamp::from_bits(stamp), key, Some(value));
-    on_core!(alloc, store, [word], core => accept(core, &item, word))
+    on_core!(alloc, store, [word], |core| accept(core, &item, word))
 }
 
 /// Accepts the deletion that a node issued under this number. Returns 0 and its stamp, or a refusal and its word.
@@ -49,7 +50,7 @@ pub extern "C" fn hlc_store_accept_delete(
     ensures unchanged { result ≢ 0 → store.new.value ≡ store.old.value }
 {
     let item = ItemRef::write(node, number, Stamp::from_bits(stamp), key, None);
-    on_core!(alloc, store, [word], core => accept(core, &item, word))
+    on_core!(alloc, store, [word], |core| accept(core, &item, word))
 }
 
 /// Accepts the batch that a node issued under this number: all of its writes, or none. `writes` are its bytes, as in
@@ -79,7 +80,7 @@ pub extern "C" fn hlc_store_accept_batch(
         }
     };
     let item = ItemRef::batch(node, number, Stamp::from_bits(stamp), all);
-    on_core!(alloc, store, core => accept(core, &item, word))
+    on_core!(alloc, store, |core| accept(core, &item, word))
 }
 
 /// Accepts a node's report of this number. Returns 0 and its stamp, or a refusal and its word. It takes no memory.
@@ -96,7 +97,7 @@ pub extern "C" fn hlc_store_accept_report(
     ensures unchanged { result ≢ 0 → store.new.value ≡ store.old.value }
 {
     let item = ItemRef::report(node, number, Stamp::from_bits(stamp));
-    on_core!(alloc, store, [word], core => accept(core, &item, word))
+    on_core!(alloc, store, [word], |core| accept(core, &item, word))
 }
 
 /// Accepts a node's last item, of this number. Returns 0 and its stamp, or a refusal and its word. No memory.
@@ -113,7 +114,7 @@ pub extern "C" fn hlc_store_accept_retire(
     ensures unchanged { result ≢ 0 → store.new.value ≡ store.old.value }
 {
     let item = ItemRef::retire(node, number, Stamp::from_bits(stamp));
-    on_core!(alloc, store, [word], core => accept(core, &item, word))
+    on_core!(alloc, store, [word], |core| accept(core, &item, word))
 }
 
 /// Accepts writes and deletions in turn, until one is refused. Returns 0, or the answer for the refused one, its word,
@@ -130,7 +131,9 @@ pub extern "C" fn hlc_store_accept_all(
     ensures { OnStorePast store.old.value store.new.value ((result ≡ 100) × (count.new ≡ 0) × (word.new ≡ 0))
         (λ old new past. AreEntered new entries.now bytes.now past result count.new word.new) }
 {
-    on_core!(alloc, store, [count, word], core => enter_all(core, entries, bytes, count, word))
+    on_core!(alloc, store, [count, word], |core| {
+        enter_all(core, entries, bytes, count, word)
+    })
 }
 
 /// Returns why `hlc_store_accept_write` would refuse a write, apart from out of memory: 0, or the refusal and its word.
@@ -149,10 +152,11 @@ pub extern "C" fn hlc_store_check_write(
     ensures same { IsGivenBack store.old.room store.new.room }
 {
     let item = ItemRef::write(node, number, Stamp::from_bits(stamp), key, Some(value));
-    of_core!(store, [word], core => check(core, &item, word))
+    of_core!(store, [word], |core| check(core, &item, word))
 }
 
-/// Returns why `hlc_store_accept_delete` would refuse, apart from out of memory: 0, or the refusal and its word.
+/// Returns why `hlc_store_accept_delete` would refuse a deletion, apart from out of memory: 0, or the refusal and its
+/// word.
 #[unsafe(no_mangle)]
 pub extern "C" fn hlc_store_check_delete(
     store: &mut Reader,
@@ -167,10 +171,11 @@ pub extern "C" fn hlc_store_check_delete(
     ensures same { IsGivenBack store.old.room store.new.room }
 {
     let item = ItemRef::write(node, number, Stamp::from_bits(stamp), key, None);
-    of_core!(store, [word], core => check(core, &item, word))
+    of_core!(store, [word], |core| check(core, &item, word))
 }
 
-/// Returns why `hlc_store_accept_report`, or `hlc_store_accept_retire`, would refuse: 0, or the refusal and its word.
+/// Returns why `hlc_store_accept_report`, or `hlc_store_accept_retire`, would refuse an item: 0, or the refusal and its
+/// word.
 #[unsafe(no_mangle)]
 pub extern "C" fn hlc_store_check_report(
     store: &mut Reader,
@@ -184,5 +189,7 @@ pub extern "C" fn hlc_store_check_report(
     ensures same { IsGivenBack store.old.room store.new.room }
 {
     let stamp = Stamp::from_bits(stamp);
-    of_core!(store, [word], core => check_plain(core, node, number, stamp, word))
+    of_core!(store, [word], |core| {
+        check_plain(core, node, number, stamp, word)
+    })
 }

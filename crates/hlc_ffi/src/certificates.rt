@@ -7,9 +7,10 @@ ghost use Rattle.hlc_calls.specs.Certified.{ReturnsCertificate, ReturnsNoCertifi
 ghost use Rattle.hlc_ffi.specs.Handle.{OnReader, IsGivenBack};
 ghost use Rattle.hlc_ffi.specs.Outputs.{OnOutput};
 
+use crate::handle::{into_output, of_core};
 use hlc_calls::certificates::{certify, check};
 use hlc_core::Stamp;
-use hlc_handle::{Output, Reader, Slot, into_output, of_core};
+use hlc_handle::{Output, Reader, Slot};
 use std::alloc::Global;
 
 /// Puts the certificate of the rows at or below a stamp into an output: it changes nothing, and is what a vacuum to the
@@ -36,8 +37,14 @@ pub extern "C" fn hlc_certificate_make(
     ensures same { IsGivenBack store.old.room store.new.room }
 {
     let at = Stamp::from_bits(stamp);
-    of_core!(store, [word, kept, bytes, len], core =>
-        into_output!(alloc, output, len, certify(alloc, core, at, word, kept, bytes)))
+    of_core!(store, [word, kept, bytes, len], |core| {
+        into_output!(
+            alloc,
+            output,
+            len,
+            certify(alloc, core, at, word, kept, bytes)
+        )
+    })
 }
 
 /// Checks the text of a certificate, whoever made it. Returns 0, how many rows it shows to be the fewest, and their

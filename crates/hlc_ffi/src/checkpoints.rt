@@ -8,8 +8,9 @@ ghost use Rattle.hlc_ffi.specs.Outputs.{OnOutput};
 ghost use Rattle.hlc_split_calls.specs.Halves.{AreHalves, AreJoined, IsNotDivided, IsNotJoined};
 ghost use Rattle.hlc_split_calls.specs.Outputs.{OnOutputs};
 
+use crate::handle::{into_output, of_core};
 use hlc_calls::checkpoints::checkpoint;
-use hlc_handle::{Output, Reader, Slot, into_output, of_core};
+use hlc_handle::{Output, Reader, Slot};
 use hlc_split_calls::merge::joined;
 use hlc_split_calls::split::into_outputs;
 use std::alloc::Global;
@@ -32,7 +33,10 @@ pub extern "C" fn hlc_checkpoint_make(
     ensures same { IsGivenBack store.old.room store.new.room }
 {
     *len = 0;
-    of_core!(store, core => into_output!(alloc, output, len, checkpoint(alloc, core, tag)))
+    of_core!(
+        store,
+        |core| into_output!(alloc, output, len, checkpoint(alloc, core, tag))
+    )
 }
 
 /// Divides the bytes of a checkpoint at a key into two outputs. Returns 0, or 108, or as `halves` does.

@@ -4,8 +4,9 @@ ghost use Rattle.hlc_ffi.specs.Handle.{OnReader, IsGivenBack};
 ghost use Rattle.hlc_ffi.specs.Outputs.{OnOutput};
 ghost use Rattle.hlc_increment_calls.specs.Increments.{AreAdvanced, AreIncrementOf, IsNotAdvanced, IsRefusedIncrement};
 
+use crate::handle::{into_output, of_core};
 use hlc_core::Stamp;
-use hlc_handle::{Output, Reader, Slot, into_output, of_core};
+use hlc_handle::{Output, Reader, Slot};
 use hlc_increment_calls::apply::apply;
 use hlc_increment_calls::increment::increment;
 use std::alloc::Global;
@@ -30,8 +31,14 @@ pub extern "C" fn hlc_increment_make(
     ensures same { IsGivenBack store.old.room store.new.room }
 {
     let since = Stamp::from_bits(since);
-    of_core!(store, [len, horizon], core =>
-        into_output!(alloc, output, len, increment(alloc, core, since, tag, horizon)))
+    of_core!(store, [len, horizon], |core| {
+        into_output!(
+            alloc,
+            output,
+            len,
+            increment(alloc, core, since, tag, horizon)
+        )
+    })
 }
 
 /// Makes the bytes of the checkpoint that an older one becomes by an increment. Returns 0, or 108, or as `apply` does.

@@ -7,6 +7,7 @@ pub mod accept;
 pub mod answers;
 pub mod certificates;
 pub mod checkpoints;
+mod handle;
 pub mod increments;
 pub mod joins;
 pub mod log;

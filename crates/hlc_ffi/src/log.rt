@@ -9,12 +9,14 @@ ghost use Rattle.hlc_calls.specs.Records.{ReturnsApplied, ReturnsRecord};
 ghost use Rattle.hlc_node_calls.specs.Batches.{batch_in};
 ghost use Rattle.hlc_ffi.specs.Handle.{OnStorePast};
 
+use crate::handle::on_core;
 use hlc_calls::{log, records};
 use hlc_core::{ItemRef, Stamp};
-use hlc_handle::{Slot, Store, on_core};
+use hlc_handle::{Slot, Store};
 use std::alloc::Global;
 
-/// Writes a node's write as bytes. Returns 0, how many there are and, where they fit, them; or 12 or 13. No memory.
+/// Writes a node's write as bytes. Returns 0, how many there are and, where they fit, the bytes; or 12 or 13. No
+/// memory.
 #[unsafe(no_mangle)]
 pub extern "C" fn hlc_item_encode_write(
     node: u16,
@@ -120,8 +122,9 @@ pub extern "C" fn hlc_store_accept_items(
     ensures { OnStorePast store.old.value store.new.value ((result ≡ 100) × (used.new ≡ 0) × (count.new ≡ 0)
         × (word.new ≡ 0)) (λ old new past. AreTaken new bytes.now past result used.new count.new word.new) }
 {
-    on_core!(alloc, store, [used, count, word], core =>
-        log::take_all(core, bytes, used, count, word))
+    on_core!(alloc, store, [used, count, word], |core| {
+        log::take_all(core, bytes, used, count, word)
+    })
 }
 
 /// Writes a join as bytes. Returns 0, how many there are and, where they fit, the bytes. No memory.
@@ -162,6 +165,7 @@ pub extern "C" fn hlc_store_apply_records(
         × (threshold.new ≡ 0) × (word.new ≡ 0)) (λ old new past. ReturnsApplied new bytes.now past result
         used.new count.new threshold.new word.new) }
 {
-    on_core!(alloc, store, [used, count, threshold, word], core =>
-        records::apply_all(core, bytes, used, count, threshold, word))
+    on_core!(alloc, store, [used, count, threshold, word], |core| {
+        records::apply_all(core, bytes, used, count, threshold, word)
+    })
 }

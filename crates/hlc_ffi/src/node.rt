@@ -17,7 +17,8 @@ pub extern "C" fn hlc_node_open(id: u16, start: u64) -> NodeCore
     NodeCore::new(id, Stamp::from_bits(start))
 }
 
-/// Returns 0 and the node after a restart; or 105 and a new node, where none issued that many items up to that stamp.
+/// Returns 0 and the node after a restart; or 105, where no node issued that many items up to that stamp, and a new
+/// node.
 #[unsafe(no_mangle)]
 pub extern "C" fn hlc_node_restore(id: u16, last: u64, next: u64, node: &mut NodeCore) -> u32
     ensures restored { next ≤ last → (result ≡ 0)

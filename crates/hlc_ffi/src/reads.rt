@@ -11,9 +11,10 @@ ghost use Rattle.hlc_range_calls.specs.Changes.{ReturnsChanges};
 ghost use Rattle.hlc_range_calls.specs.Versions.{ReturnsVersions};
 ghost use Rattle.hlc_ffi.specs.Handle.{OnReader, OnReaderPast, OnLoanPast, ListsNothing, IsGivenBack};
 
+use crate::handle::of_core;
 use hlc_calls::digest::digest;
 use hlc_calls::reads::{Place, read, read_all};
-use hlc_handle::{LentBytes, Reader, of_core};
+use hlc_handle::{LentBytes, Reader};
 use hlc_handle_calls::views::view;
 use hlc_range_calls::changes::changes;
 use hlc_range_calls::list::list;
@@ -34,7 +35,7 @@ pub extern "C" fn hlc_snapshot_read(
         (λ past. ReturnsRead (stamp_of id past) (writes past) key.now result len.new out.old out.new) }
     ensures same { IsGivenBack store.old.room store.new.room }
 {
-    of_core!(store, [len], core => read(core, id, key, out, len))
+    of_core!(store, [len], |core| read(core, id, key, out, len))
 }
 
 /// Reads a key as `hlc_snapshot_read` does, without a copy. Returns 0, the value's length, and where the value lies for
@@ -81,7 +82,9 @@ pub extern "C" fn hlc_snapshot_read_all(
         (stamp_of id past) (writes past) places.now bytes.now result len.new count.new out.old out.new) }
     ensures same { IsGivenBack store.old.room store.new.room }
 {
-    of_core!(store, [len, count], core => read_all(core, id, places, bytes, out, len, count))
+    of_core!(store, [len, count], |core| {
+        read_all(core, id, places, bytes, out, len, count)
+    })
 }
 
 /// Lists the keys with a value in a snapshot, in byte order. Returns 0, how many bytes the listing has and, where they
@@ -98,7 +101,7 @@ pub extern "C" fn hlc_snapshot_list(
     ensures nothing { result ≢ 0 → (len.new ≡ 0) × (out.new ≡ out.old) }
     ensures same { IsGivenBack store.old.room store.new.room }
 {
-    of_core!(store, [len], core => list(core, id, out, len))
+    of_core!(store, [len], |core| list(core, id, out, len))
 }
 
 /// Lists keys from one on and below another, if that has bytes, as `hlc_snapshot_list`, but only as many whole pairs as
@@ -118,7 +121,9 @@ pub extern "C" fn hlc_snapshot_scan(
         (stamp_of id past) (writes past) from.now to.now result len.new count.new out.old out.new) }
     ensures same { IsGivenBack store.old.room store.new.room }
 {
-    of_core!(store, [len, count], core => scan(core, id, from, to, false, out, len, count))
+    of_core!(store, [len, count], |core| {
+        scan(core, id, from, to, false, out, len, count)
+    })
 }
 
 /// Lists such a range as `hlc_snapshot_scan` does, but the keys alone: for each its length, and the key.
@@ -139,7 +144,10 @@ pub extern "C" fn hlc_snapshot_scan_keys(
 {
     *len = 0;
     *count = 0;
-    of_core!(store, core => scan(core, id, from, to, true, out, len, count))
+    of_core!(
+        store,
+        |core| scan(core, id, from, to, true, out, len, count)
+    )
 }
 
 /// Lists such a range as `hlc_snapshot_scan` does, but the last key first, and as many whole pairs as fit from the end:
@@ -159,7 +167,9 @@ pub extern "C" fn hlc_snapshot_scan_back(
         (stamp_of id past) (writes past) from.now to.now result len.new count.new out.old out.new) }
     ensures same { IsGivenBack store.old.room store.new.room }
 {
-    of_core!(store, [len, count], core => scan_back(core, id, from, to, out, len, count))
+    of_core!(store, [len, count], |core| {
+        scan_back(core, id, from, to, out, len, count)
+    })
 }
 
 /// Lists the keys of such a range whose answers in two snapshots differ: for each its length in eight bytes, the key,
@@ -181,7 +191,9 @@ pub extern "C" fn hlc_snapshot_changes(
         from.now to.now result len.new count.new out.old out.new) }
     ensures same { IsGivenBack store.old.room store.new.room }
 {
-    of_core!(store, [len, count], core => changes(core, before, after, from, to, out, len, count))
+    of_core!(store, [len, count], |core| {
+        changes(core, before, after, from, to, out, len, count)
+    })
 }
 
 /// Returns 0 and how many keys of such a range have a value in a snapshot, 2^64 - 1 for more; or 10.
@@ -197,7 +209,9 @@ pub extern "C" fn hlc_snapshot_count(
         (λ past. ReturnsCount (stamp_of id past) (writes past) from.now to.now result count.new) }
     ensures same { IsGivenBack store.old.room store.new.room }
 {
-    of_core!(store, [count], core => hlc_range_calls::scan::count(core, id, from, to, count))
+    of_core!(store, [count], |core| {
+        hlc_range_calls::scan::count(core, id, from, to, count)
+    })
 }
 
 /// Returns 0, 32 and, where it fits, the SHA-256 of what `hlc_snapshot_list` would return for such a range; or 10.
@@ -214,7 +228,7 @@ pub extern "C" fn hlc_snapshot_digest(
         (λ past. ReturnsDigest (stamp_of id past) (writes past) from.now to.now result len.new out.old out.new) }
     ensures same { IsGivenBack store.old.room store.new.room }
 {
-    of_core!(store, [len], core => digest(core, id, from, to, out, len))
+    of_core!(store, [len], |core| digest(core, id, from, to, out, len))
 }
 
 /// Lists the stored rows of a key above one stamp and at or below another, the newest first: for each its stamp in
@@ -234,5 +248,7 @@ pub extern "C" fn hlc_store_versions(
         ReturnsVersions core key.now above to result len.new count.new out.old out.new) }
     ensures same { IsGivenBack store.old.room store.new.room }
 {
-    of_core!(store, [len, count], core => versions(core, key, above, to, out, len, count))
+    of_core!(store, [len, count], |core| {
+        versions(core, key, above, to, out, len, count)
+    })
 }

@@ -3,7 +3,8 @@ ghost use Rattle.std.specs.Prelude.{◌≡◌, None};
 ghost use Rattle.hlc_ffi.specs.Handle.{OnReader, IsGivenBack};
 ghost use Rattle.hlc_handle_calls.specs.Savings.{HasBegun, HasReadOn};
 
-use hlc_handle::{Reader, Saving, Slot, of_core};
+use crate::handle::of_core;
+use hlc_handle::{Reader, Saving, Slot};
 use hlc_handle_calls::savings::{begin, read_on};
 use std::alloc::Global;
 
@@ -21,7 +22,7 @@ pub extern "C" fn hlc_saving_start(
         saving.old.value)) (λ core. HasBegun saving.old.value saving.new.value tag core result len.new) }
     ensures same { IsGivenBack store.old.room store.new.room }
 {
-    of_core!(store, [len], core => begin(alloc, saving, core, tag, len))
+    of_core!(store, [len], |core| begin(alloc, saving, core, tag, len))
 }
 
 /// Reads the next bytes of a saving, as many as fit. Returns 0 where they are the last, and the saving has ended; or
@@ -39,7 +40,7 @@ pub extern "C" fn hlc_saving_read(
         (λ core. HasReadOn saving.old.value saving.new.value core result len.new out.old out.new) }
     ensures same { IsGivenBack store.old.room store.new.room }
 {
-    of_core!(store, [len], core => read_on(alloc, saving, core, out, len))
+    of_core!(store, [len], |core| read_on(alloc, saving, core, out, len))
 }
 
 /// Ends a saving, and frees what it has.

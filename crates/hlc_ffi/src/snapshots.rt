@@ -6,9 +6,10 @@ ghost use Rattle.hlc_calls.specs.Answers.{ReturnsOpened, ReturnsOpenedAtFloor, R
 ghost use Rattle.hlc_calls.specs.Status.{ReturnsSnapshot};
 ghost use Rattle.hlc_ffi.specs.Handle.{OnStorePast, OnReaderPast, IsGivenBack};
 
+use crate::handle::{of_core, on_core};
 use hlc_calls::snapshots::{close, open, open_floor, snapshot};
 use hlc_core::Stamp;
-use hlc_handle::{Reader, Slot, Store, of_core, on_core};
+use hlc_handle::{Reader, Slot, Store};
 use std::alloc::Global;
 
 /// Opens a snapshot at a stamp. Returns 0 and its id, or a refusal and its word.
@@ -23,7 +24,9 @@ pub extern "C" fn hlc_snapshot_open(
         (λ old new past. ReturnsOpened new stamp past result id.new) }
     ensures unchanged { result ≢ 0 → store.new.value ≡ store.old.value }
 {
-    on_core!(alloc, store, [id], core => open(core, Stamp::from_bits(stamp), id))
+    on_core!(alloc, store, [id], |core| {
+        open(core, Stamp::from_bits(stamp), id)
+    })
 }
 
 /// Opens a snapshot at the floor (closed timestamp). Returns 0, its id and its stamp, or a refusal.
@@ -41,7 +44,7 @@ pub extern "C" fn hlc_snapshot_open_at_floor(
 {
     *id = 0;
     *stamp = 0;
-    on_core!(alloc, store, core => open_floor(core, id, stamp))
+    on_core!(alloc, store, |core| open_floor(core, id, stamp))
 }
 
 /// Closes a snapshot. Returns 0 and its stamp, or 10. It takes no memory.
@@ -56,7 +59,7 @@ pub extern "C" fn hlc_snapshot_close(
         (λ old new past. ReturnsClosed new id past result stamp.new) }
     ensures unchanged { result ≢ 0 → store.new.value ≡ store.old.value }
 {
-    on_core!(alloc, store, [stamp], core => close(core, id, stamp))
+    on_core!(alloc, store, [stamp], |core| close(core, id, stamp))
 }
 
 /// Closes all open snapshots. Returns 0. It takes no memory.
@@ -65,7 +68,7 @@ pub extern "C" fn hlc_snapshot_close_all(alloc: Global, store: &mut Store) -> u3
     ensures { OnStorePast store.old.value store.new.value (result ≡ 100)
         (λ old new past. (result ≡ 0) × Represents new (closed_all old.snapshots past)) }
 {
-    on_core!(alloc, store, core => {
+    on_core!(alloc, store, |core| {
         core.close_all();
         0
     })
@@ -83,5 +86,5 @@ pub extern "C" fn hlc_snapshot_at_place(
         ReturnsSnapshot (slice_get (open_snapshots past) place) result id.new stamp.new) }
     ensures same { IsGivenBack store.old.room store.new.room }
 {
-    of_core!(store, [id, stamp], core => snapshot(core, place, id, stamp))
+    of_core!(store, [id, stamp], |core| snapshot(core, place, id, stamp))
 }

@@ -5,8 +5,9 @@ ghost use Rattle.hlc_calls.specs.Answers.{ReturnsSizes, narrowed};
 ghost use Rattle.hlc_calls.specs.Status.{ReturnsLink, ReturnsHolder};
 ghost use Rattle.hlc_ffi.specs.Handle.{OnReader, OnReaderPast, IsGivenBack};
 
+use crate::handle::of_core;
 use hlc_calls::status;
-use hlc_handle::{Reader, of_core};
+use hlc_handle::Reader;
 
 /// Returns 0 and the floor. It takes no memory.
 #[unsafe(no_mangle)]
@@ -15,7 +16,7 @@ pub extern "C" fn hlc_store_floor(store: &mut Reader, stamp: &mut u64) -> u32
         (λ past. (result ≡ 0) × (stamp.new ≡ floor past)) }
     ensures same { IsGivenBack store.old.room store.new.room }
 {
-    of_core!(store, [stamp], core => {
+    of_core!(store, [stamp], |core| {
         *stamp = core.floor().bits();
         0
     })
@@ -28,7 +29,7 @@ pub extern "C" fn hlc_store_horizon(store: &mut Reader, stamp: &mut u64) -> u32
         (λ past. (result ≡ 0) × (stamp.new ≡ horizon past)) }
     ensures same { IsGivenBack store.old.room store.new.room }
 {
-    of_core!(store, [stamp], core => {
+    of_core!(store, [stamp], |core| {
         *stamp = core.horizon().bits();
         0
     })
@@ -41,7 +42,7 @@ pub extern "C" fn hlc_store_rows(store: &mut Reader, rows: &mut u64) -> u32
         (λ core. (result ≡ 0) × (rows.new ≡ narrowed (length core.rows))) }
     ensures same { IsGivenBack store.old.room store.new.room }
 {
-    of_core!(store, [rows], core => {
+    of_core!(store, [rows], |core| {
         *rows = status::rows(core);
         0
     })
@@ -61,7 +62,7 @@ pub extern "C" fn hlc_store_size(
         × ReturnsSizes core.rows rows.new keys.new key_bytes.new value_bytes.new) }
     ensures same { IsGivenBack store.old.room store.new.room }
 {
-    of_core!(store, [rows, keys, key_bytes, value_bytes], core => {
+    of_core!(store, [rows, keys, key_bytes, value_bytes], |core| {
         status::sizes(core, rows, keys, key_bytes, value_bytes);
         0
     })
@@ -74,7 +75,7 @@ pub extern "C" fn hlc_store_nodes(store: &mut Reader, count: &mut u64) -> u32
         (λ past. (result ≡ 0) × (count.new ≡ numbered past)) }
     ensures same { IsGivenBack store.old.room store.new.room }
 {
-    of_core!(store, [count], core => {
+    of_core!(store, [count], |core| {
         *count = status::nodes(core);
         0
     })
@@ -96,7 +97,7 @@ pub extern "C" fn hlc_store_link(
     *next = 0;
     *head = 0;
     *retired = false;
-    of_core!(store, core => status::link(core, node, next, head, retired))
+    of_core!(store, |core| status::link(core, node, next, head, retired))
 }
 
 /// Returns 0 and the first node that holds the floor back: its head is the floor. Or 115: all nodes have retired.
@@ -106,5 +107,5 @@ pub extern "C" fn hlc_store_floor_node(store: &mut Reader, node: &mut u64) -> u3
         (λ past. ReturnsHolder past result node.new) }
     ensures same { IsGivenBack store.old.room store.new.room }
 {
-    of_core!(store, [node], core => status::floor_node(core, node))
+    of_core!(store, [node], |core| status::floor_node(core, node))
 }

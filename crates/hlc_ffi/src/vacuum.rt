@@ -6,9 +6,10 @@ ghost use Rattle.hlc_calls.specs.Answers.{ReturnsVacuumedAtFloor, ReturnsVacuume
 ghost use Rattle.hlc_calls.specs.Answers.{ReturnsVacuumedPart};
 ghost use Rattle.hlc_ffi.specs.Handle.{OnStore, OnReader, IsGivenBack};
 
+use crate::handle::{of_core, on_core};
 use hlc_calls::vacuum::{check_vacuum, vacuum, vacuum_part, vacuum_to};
 use hlc_core::Stamp;
-use hlc_handle::{Reader, Slot, Store, of_core, on_core};
+use hlc_handle::{Reader, Slot, Store};
 use std::alloc::Global;
 
 /// Drops the rows that no reader needs. Returns 0, the floor, the rows kept up to it, their cost, those dropped; or 15.
@@ -27,8 +28,9 @@ pub extern "C" fn hlc_store_vacuum(
     ensures nothing { result ≢ 0 → (floor.new ≡ 0) × (kept.new ≡ 0) × (bytes.new ≡ 0) × (dropped.new ≡ 0) }
     ensures unchanged { result ≢ 0 → store.new.value ≡ store.old.value }
 {
-    on_core!(alloc, store, [floor, kept, bytes, dropped], core =>
-        vacuum(core, floor, kept, bytes, dropped))
+    on_core!(alloc, store, [floor, kept, bytes, dropped], |core| {
+        vacuum(core, floor, kept, bytes, dropped)
+    })
 }
 
 /// Drops the rows at or below a stamp that no reader needs. Returns 0, the stamp, how many rows up to it were kept,
@@ -50,8 +52,9 @@ pub extern "C" fn hlc_store_vacuum_to(
     ensures unchanged { result ≢ 0 → store.new.value ≡ store.old.value }
 {
     let at = Stamp::from_bits(at);
-    on_core!(alloc, store, [word, kept, bytes, dropped], core =>
-        vacuum_to(core, at, word, kept, bytes, dropped))
+    on_core!(alloc, store, [word, kept, bytes, dropped], |core| {
+        vacuum_to(core, at, word, kept, bytes, dropped)
+    })
 }
 
 /// Makes a part of `hlc_store_vacuum_to`, of the first keys above `after`, at most `limit` keys. Returns what that
@@ -82,11 +85,15 @@ pub extern "C" fn hlc_store_vacuum_part(
 {
     *more = false;
     let at = Stamp::from_bits(at);
-    on_core!(alloc, store, [word, kept, bytes, dropped, len], core =>
-        vacuum_part(core, at, after, limit, word, kept, bytes, dropped, out, len, more))
+    on_core!(alloc, store, [word, kept, bytes, dropped, len], |core| {
+        vacuum_part(
+            core, at, after, limit, word, kept, bytes, dropped, out, len, more
+        )
+    })
 }
 
-/// Returns why `hlc_store_vacuum_to` would refuse: 0, or 8 and the floor, or 9 and the horizon. It takes no memory.
+/// Returns why `hlc_store_vacuum_to` would refuse: 0, or 8 and the floor, or 9 and the horizon (GC threshold). No
+/// memory.
 #[unsafe(no_mangle)]
 pub extern "C" fn hlc_store_check_vacuum(store: &mut Reader, at: u64, word: &mut u64) -> u32
     ensures answer { OnReader store.old.room.value ((result ≡ 100) × (word.new ≡ 0)) (λ core. (past : List Step)
@@ -94,5 +101,5 @@ pub extern "C" fn hlc_store_check_vacuum(store: &mut Reader, at: u64, word: &mut
     ensures same { IsGivenBack store.old.room store.new.room }
 {
     let at = Stamp::from_bits(at);
-    of_core!(store, [word], core => check_vacuum(core, at, word))
+    of_core!(store, [word], |core| check_vacuum(core, at, word))
 }

@@ -3,7 +3,6 @@
 //! the bytes that a call made.
 #![tactic(auto)]
 
-mod calling;
 mod found;
 mod loose;
 mod output;

@@ -2,10 +2,12 @@
 
 /// Makes a call on the core of an open store, and puts the core back. Returns 100 for a closed store. The words in
 /// brackets are set to 0 first.
-#[macro_export]
 macro_rules! on_core {
-    ($alloc:expr, $store:expr, $([$($word:ident),*],)? $core:ident => $call:expr) => {{
-        $($(*$word = 0;)*)?
+    ($alloc:expr, $store:expr, [$($word:ident),*], |$core:ident| $call:expr) => {{
+        $(*$word = 0;)*
+        on_core!($alloc, $store, |$core| $call)
+    }};
+    ($alloc:expr, $store:expr, |$core:ident| $call:expr) => {
         match $store.take($alloc) {
             None => 100,
             Some(taken) => {
@@ -16,15 +18,17 @@ macro_rules! on_core {
                 code
             }
         }
-    }};
+    };
 }
 
 /// Makes a call that only reads the core of an open store. Returns 100 for a closed store. The words in brackets are
 /// set to 0 first.
-#[macro_export]
 macro_rules! of_core {
-    ($reader:expr, $([$($word:ident),*],)? $core:ident => $call:expr) => {{
-        $($(*$word = 0;)*)?
+    ($reader:expr, [$($word:ident),*], |$core:ident| $call:expr) => {{
+        $(*$word = 0;)*
+        of_core!($reader, |$core| $call)
+    }};
+    ($reader:expr, |$core:ident| $call:expr) => {
         match $reader.take() {
             None => 100,
             Some(lent) => {
@@ -34,11 +38,10 @@ macro_rules! of_core {
                 code
             }
         }
-    }};
+    };
 }
 
 /// Makes a call that returns boxed bytes, for an output that has none. Returns 108, and makes no call, if it has.
-#[macro_export]
 macro_rules! into_output {
     ($alloc:expr, $output:expr, $len:expr, $call:expr) => {
         match $output.take($alloc) {
@@ -57,3 +60,7 @@ macro_rules! into_output {
         }
     };
 }
+
+pub(crate) use into_output;
+pub(crate) use of_core;
+pub(crate) use on_core;
