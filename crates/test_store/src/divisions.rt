@@ -109,21 +109,26 @@ fn stores_of<H: Abort + AllocGlobal>(
     stores
 }
 
+/// Returns whether three stores with these keys are refused, with the first store that has a key of another, and it.
+fn are_refused_for<H: Abort + AllocGlobal>(
+    rt: &H,
+    first: &[u8],
+    second: &[u8],
+    store: usize,
+    key: &[u8],
+) -> bool {
+    match Ranges::checked(rt.alloc(), thirds(rt), stores_of(rt, 3, first, second)) {
+        Err(PlacingFault::Key(at, other)) => at == store && other.as_slice() == key,
+        _ => false,
+    }
+}
+
 #[test]
 fn stores_with_keys_of_others_are_not_taken(rt: HostRuntime) {
     let alloc = rt.alloc();
-    for (first, second, store, key) in [
-        (b"a".as_slice(), b"b".as_slice(), 1, b"a".as_slice()),
-        (b"z", b"m", 0, b"m"),
-        (b"g", b"h", 0, b"h"),
-    ] {
-        let stores = stores_of(&rt, 3, first, second);
-        let named = match Ranges::checked(alloc, thirds(&rt), stores) {
-            Err(PlacingFault::Key(at, other)) => at == store && other.as_slice() == key,
-            _ => false,
-        };
-        assert!(&rt; named);
-    }
+    assert!(&rt; are_refused_for(&rt, b"a", b"b", 1, b"a"));
+    assert!(&rt; are_refused_for(&rt, b"z", b"m", 0, b"m"));
+    assert!(&rt; are_refused_for(&rt, b"g", b"h", 0, b"h"));
     let few = Ranges::checked(alloc, thirds(&rt), stores_of(&rt, 2, b"a", b"b"));
     assert!(&rt; matches!(few, Err(PlacingFault::Number)));
     let one = Ranges::checked(alloc, hashed(&rt, 1), stores_of(&rt, 1, b"a", b"z"));
