@@ -24,8 +24,9 @@ static const double MOST_OF_PEAK = 1.2;
 /* The most of the peak of a saving in pieces: what part of the store. */
 static const double MOST_OF_SAVING = 0.05;
 /* The most of the peaks of an increment that is applied, of a checkpoint that is divided, and of parts that are joined:
- * how many times the bytes of the checkpoint. A tenth is room, since the kernel counts resident pages by processor, and
- * sums them up now and then. One more copy of the rows would take a whole. */
+ * how many times the bytes of the checkpoint. Some 7 % are room for split and merge: the same code was within 4.1 and 3.8
+ * on one machine, and is at 4.13 and 3.86 on another, the same to the byte in each run: why is not known. One more copy
+ * of the rows would take a whole. */
 static const double MOST_OF_INCREMENT = 3.8, MOST_OF_SPLIT = 4.4, MOST_OF_MERGE = 4.1;
 
 static int wrong;
