@@ -1,7 +1,7 @@
 -- Bits of some words, one after another: their number, the first and the others, one of them, and one that is set. Each
 -- is shown by going through the bits.
-use Rattle.std.proofs.Common.{◌≡◌, ◌≢◌, ◌≤◌, ◌<◌, ◌+◌, ◌-◌, ◌∙◌, ◌∷◌, ◌++◌, [], ℕ, zero, suc, Bool, true, false}
-use Rattle.std.proofs.Common.{List, refl, sym, ap, ap₂, arith, length, take, drop, get_or, set}
+use Rattle.std.proofs.Common.{◌≡◌, ◌≢◌, ◌≤◌, ◌<◌, ◌+◌, ◌-◌, ◌∙◌, ◌∷◌, ◌++◌, [], ℕ, zero, suc, Bool, true, false, List}
+use Rattle.std.proofs.Common.{refl, sym, ap, ap₂, arith, length, take, drop, get_or, set}
 use Rattle.hlc_table_flags.specs.Bits.{bit_in, bits_in}
 
 pub bits_length : (words : List ℕ) (from count : ℕ) → length (bits_in words from count) ≡ count
@@ -18,8 +18,7 @@ bits_append words from zero more =
 bits_append words from (suc count) more =
     let all : suc count + more ≡ suc (count + more) = omega arith in
     let at : suc from + count ≡ from + suc count = omega arith in
-    ap (bits_in words from) all
-    ∙ ap (λ bits. bit_in words from ∷ bits) (bits_append words (suc from) count more
+    ap (bits_in words from) all ∙ ap (λ bits. bit_in words from ∷ bits) (bits_append words (suc from) count more
     ∙ ap (λ f. bits_in words (suc from) count ++ bits_in words f more) at)
 
 pub bits_take : (words : List ℕ) (from count first : ℕ) → first ≤ count
@@ -79,8 +78,7 @@ pub bits_more : (words more : List ℕ) (len : ℕ) (flags : List Bool) → bit_
     → bits_in more 0 (len + 1) ≡ flags ++ false ∷ []
 bits_more words more len flags unset same are =
     let last : 0 + len ≡ len = omega arith in
-    bits_append more 0 len 1
-    ∙ ap₂ (λ front back. front ++ back) (bits_same more words 0 len (λ at _ _. same at) ∙ are)
+    bits_append more 0 len 1 ∙ ap₂ (λ front back. front ++ back) (bits_same more words 0 len (λ at _ _. same at) ∙ are)
     (ap (λ bit. bit ∷ []) (ap (bit_in more) last ∙ same len ∙ unset))
 
 pub set_last : (flags : List Bool) (n : ℕ) → length flags ≡ n → set (flags ++ false ∷ []) n true ≡ flags ++ true ∷ []

@@ -1,6 +1,6 @@
 -- The first flags of a run, and the others, are runs. Each is shown by going through the flags that are set.
-use Rattle.std.proofs.Common.{◌≡◌, ◌≤◌, ◌<◌, ◌+◌, ◌-◌, ◌∙◌, ◌∷◌, ◌++◌, ℕ, zero, suc, Bool, true, false}
-use Rattle.std.proofs.Common.{List, ap, ap₂, arith, take, drop, replicate}
+use Rattle.std.proofs.Common.{◌≡◌, ◌≤◌, ◌<◌, ◌+◌, ◌-◌, ◌∙◌, ◌∷◌, ◌++◌, ℕ, zero, suc, Bool, true, false, List, ap, ap₂}
+use Rattle.std.proofs.Common.{arith, take, drop, replicate}
 use Rattle.std.proofs.lemmas.List.{take-replicate, drop-replicate}
 
 -- a number of set flags, then a number of unset ones
@@ -28,8 +28,7 @@ pub run_drop : (set unset count first others : ℕ) → first + others ≡ count
 run_drop zero unset count zero others e le few none =
     let n : count ≡ others = omega (arith, e) in
     let z : 0 ≡ 0 - 0 = omega arith in
-    ap (λ n. drop n (replicate unset false)) n ∙ drop-replicate others unset false
-    ∙ ap (λ s. run s (unset - others)) z
+    ap (λ n. drop n (replicate unset false)) n ∙ drop-replicate others unset false ∙ ap (λ s. run s (unset - others)) z
 run_drop (suc set) unset zero zero others e le few none =
     let s : suc set ≡ suc set - 0 = omega arith in
     let u : unset ≡ unset - others = omega (arith, e) in
@@ -41,5 +40,4 @@ run_drop (suc set) unset zero (suc first) others e le few none = absurd (omega (
 run_drop (suc set) unset (suc count) (suc first) others e le few none =
     let s : set - first ≡ suc set - suc first = omega arith in
     run_drop set unset count first others (omega (arith, e)) (omega (arith, le)) few
-    (λ lt. none (omega (arith, lt)))
-    ∙ ap (λ s. run s (unset - others)) s
+    (λ lt. none (omega (arith, lt))) ∙ ap (λ s. run s (unset - others)) s

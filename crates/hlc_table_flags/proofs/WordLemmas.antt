@@ -1,10 +1,10 @@
 -- A bit that is set in its word, and a word without bits at the end.
 use Rattle.std.proofs.Common.{◌≡◌, ◌≢◌, ◌<◌, ◌+◌, ◌*◌, ◌^◌, ◌/◌, ◌%◌, ◌∙◌, ◌∷◌, ◌++◌, [], ℕ, zero, suc, Bool, true}
-use Rattle.std.proofs.Common.{false, List, refl, sym, ap, arith, length, get_or, set, inl, inr, w64}
-use Rattle.std.specs.Prelude.{nat_eq, bit_or}
+use Rattle.std.proofs.Common.{nat_eq, bit_or, get_or-set_same, get_or-set_other, false, List, refl, sym, ap, arith}
+use Rattle.std.proofs.Common.{length, get_or, set, inl, inr, w64}
 use Rattle.std.specs.Int.{bit_at}
 use Rattle.std.proofs.lemmas.Bool.{cases_order}
-use Rattle.std.proofs.lemmas.List.{get_or-set_same, get_or-set_other, get_or_default}
+use Rattle.std.proofs.lemmas.List.{get_or_default}
 use Rattle.std.proofs.lemmas.Nat.Bits.{bit_at_set_same, bit_at_set_other, bit_at-zero}
 use Rattle.hlc_table_flags.specs.Bits.{bit_in, bits_in, NoneFrom}
 use Rattle.hlc_table_flags.proofs.BitLemmas.{bits_set}
@@ -60,11 +60,9 @@ pub set_flag : (words new : List ℕ) (at len : ℕ) (flags : List Bool) → new
     → at / 64 < length words → at < len → bits_in words 0 len ≡ flags → bits_in new 0 len ≡ set flags at true
 set_flag words new at len flags is lt below are =
     let here : at ≡ 0 + at = omega arith in
-    ap (λ ws. bits_in ws 0 len) is
-    ∙ bits_set words (with_bit words at) 0 len at below
+    ap (λ ws. bits_in ws 0 len) is ∙ bits_set words (with_bit words at) 0 len at below
     (ap (bit_in (with_bit words at)) (sym here) ∙ with_bit-same words at lt)
-    (λ place other. with_bit-other words at place lt (λ e. other (e ∙ here)))
-    ∙ ap (λ fs. set fs at true) are
+    (λ place other. with_bit-other words at place lt (λ e. other (e ∙ here))) ∙ ap (λ fs. set fs at true) are
 
 -- words with another of zero after them
 pub get_zero : (words : List ℕ) (k : ℕ) → get_or (words ++ 0 ∷ []) k 0 ≡ get_or words k 0

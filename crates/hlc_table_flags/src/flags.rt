@@ -1,6 +1,6 @@
 //! Lent flags.
-ghost use Rattle.std.specs.Prelude.{◌≡◌, ◌≤◌, ◌<◌, ◌-◌, ◌*◌, ◌/◌, length, take, drop, slice_index_or, false};
-ghost use Rattle.std.specs.Prelude.{count_by, not, ◌+◌, ◌^◌, ◌++◌, replicate, true};
+ghost use Rattle.std.specs.Prelude.{◌≡◌, ◌≤◌, ◌<◌, ◌-◌, ◌*◌, ◌/◌, length, take, drop, slice_index_or, false, count_by};
+ghost use Rattle.std.specs.Prelude.{not, ◌+◌, ◌^◌, ◌++◌, replicate, true};
 ghost use Rattle.std.specs.List.{list_all};
 ghost use Rattle.hlc_table_flags.specs.Bits.{bit_in, bits_in};
 

@@ -1,6 +1,5 @@
 -- How many of the first flags are not set.
-use Rattle.std.proofs.Common.{◌≡◌, ◌≤◌, not, take}
-use Rattle.std.specs.Prelude.{count_by}
+use Rattle.std.proofs.Common.{◌≡◌, ◌≤◌, not, take, count_by}
 use Rattle.hlc_table_flags.proofs.flags.Flags.count_unset.Given as goal
 
 abbrev pub invariant-loop-at : goal.invariant-loop-at

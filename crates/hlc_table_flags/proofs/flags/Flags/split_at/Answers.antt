@@ -1,8 +1,8 @@
 -- The bits up to a position, and those from there on; of a run two runs.
 use Rattle.std.proofs.Common.{◌≡◌, ◌+◌, ◌-◌, ◌*◌, ◌^◌, ◌<◌, ◌≤◌, ◌∙◌, ap, sym, subst, arith, length, take, drop}
+use Rattle.std.proofs.Common.{replicate, true, false, length-append}
 use Rattle.hlc_table_flags.specs.Bits.{bits_in}
 use Rattle.hlc_table_flags.specs.Forms.{flags_in, IsInWords}
-use Rattle.std.proofs.Common.{replicate, true, false, length-append}
 use Rattle.std.proofs.lemmas.List.{length-replicate}
 use Rattle.hlc_table_flags.proofs.BitLemmas.{bits_length, bits_take, bits_drop}
 use Rattle.hlc_table_flags.proofs.RunLemmas.{run, run_take, run_drop}
@@ -66,8 +66,7 @@ returns-in-Bits-clause-others c =
     let at = (goal.at.returns-in-Bits-clause-others c).In-Bits in
     let rest : c.in-Bits.to - (c.in-Bits.from + c.args.count) ≡ c.in-Bits.to - c.in-Bits.from - c.args.count =
     omega arith in
-    c.of_bits-in-Bits.ensures
-    ∙ ap (bits_in c.in-Bits.words.now (c.in-Bits.from + c.args.count)) rest
+    c.of_bits-in-Bits.ensures ∙ ap (bits_in c.in-Bits.words.now (c.in-Bits.from + c.args.count)) rest
     ∙ sym (bits_drop c.in-Bits.words.now c.in-Bits.from (c.in-Bits.to - c.in-Bits.from) c.args.count (few at))
     ∙ ap (drop c.args.count) (bits_are at)
 

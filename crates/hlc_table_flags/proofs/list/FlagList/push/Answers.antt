@@ -41,8 +41,7 @@ set-requires c =
 pub returns-then-flag-clause-ok : goal.returns-then-flag-clause-ok
 returns-then-flag-clause-ok c =
     let at = (goal.at.returns-then-flag-clause-ok c).Joined-self-eq0 in
-    c.set.ensures
-    ∙ ap (λ flags. set flags (c.in_ok-len.len - 1) true) (grown at)
+    c.set.ensures ∙ ap (λ flags. set flags (c.in_ok-len.len - 1) true) (grown at)
     ∙ set_last c.args.self.now (c.in_ok-len.len - 1) (many at)
     ∙ ap (λ flag. c.args.self.now ++ flag ∷ []) (sym c.if-flag.true)
 

@@ -1,6 +1,5 @@
 -- One bit of one word is set.
-use Rattle.std.proofs.Common.{◌+◌, ◌<◌, ◌/◌, ◌%◌, ◌*◌, ◌^◌, ◌∙◌, ℕ, ap, arith, length, length-set}
-use Rattle.std.specs.Prelude.{bit_or}
+use Rattle.std.proofs.Common.{◌+◌, ◌<◌, ◌/◌, ◌%◌, ◌*◌, ◌^◌, ◌∙◌, ℕ, ap, arith, length, length-set, bit_or}
 use Rattle.hlc_table_flags.proofs.BitLemmas.{bits_length}
 use Rattle.hlc_table_flags.proofs.WordLemmas.{set_word, set_none, set_flag}
 use Rattle.hlc_table_flags.proofs.list.FlagList.set_after.Goals as goal
