@@ -1,13 +1,11 @@
 -- The newest of some first positions, together with the newest of the rest, is the newest of all.
-use Rattle.std.proofs.Common.{◌≡◌, ℕ, ◌+◌, ◌-◌, ◌<◌, ◌≤◌, List, Option, Some}
-use Rattle.std.proofs.Common.{None, length, get_or, drop, take}
-use Rattle.std.proofs.Common.{sym, ap, ◌∙◌, subst, ◌⊎◌, inl, inr, arith}
-use Rattle.std.specs.Prelude.{IfSome, MatchOption}
+use Rattle.std.proofs.Common.{◌≡◌, ℕ, ◌+◌, ◌-◌, ◌<◌, ◌≤◌, List, Option, Some, IfSome, MatchOption, get_or-drop}
+use Rattle.std.proofs.Common.{length-drop, take_all, None, length, get_or, drop, take, sym, ap, ◌∙◌, subst, ◌⊎◌, inl}
+use Rattle.std.proofs.Common.{inr, arith}
 use Rattle.std.proofs.lemmas.Bool.{cases_lt}
-use Rattle.std.proofs.lemmas.List.{get_or-drop, get_or_default, length-drop, take_all}
+use Rattle.std.proofs.lemmas.List.{get_or_default}
 use Rattle.std.proofs.lemmas.Option.{none-some, same_Some}
 use Rattle.hlc_lanes.specs.Newest.{IsNewest}
-use Rattle.hlc_lanes.specs.Places.{IsGreatestNode, IsPlace}
 use Rattle.hlc_table_order.specs.Newest.{NotAbove, IsNewestBelow, IsGreatestAt}
 
 pub not_above_itself : (ss ns : List ℕ) (p : ℕ) → NotAbove ss ns p p
@@ -51,8 +49,7 @@ best_stays ss ns bound m n (Some p) (inside, within, top) le further = (
 
 -- the better of the first and of the best later row
 pub best_joins : (ss ns : List ℕ) (bound m n t r : ℕ) (first : Option ℕ) → IsNewestBelow ss ns bound m first → m ≤ t
-    → t < n → get_or ss t 0 ≤ bound
-    → ((q : ℕ) → m ≤ q → q < n → get_or ss q 0 ≤ bound → NotAbove ss ns q t)
+    → t < n → get_or ss t 0 ≤ bound → ((q : ℕ) → m ≤ q → q < n → get_or ss q 0 ≤ bound → NotAbove ss ns q t)
     → (r ≡ t) ⊎ (first ≡ Some r) → NotAbove ss ns t r → IfSome first (λ p. NotAbove ss ns p r)
     → IsNewestBelow ss ns bound n (Some r)
 best_joins ss ns bound m n t r None best le lt seen top one later other =
@@ -123,8 +120,7 @@ no_top ss ns bound stamp (member, r, t) nowhere =
 pub top_of_rest : (ss ns : List ℕ) (bound m stamp i r : ℕ) (first : Option ℕ) → m ≤ length ss → length ns ≡ length ss
     → IsNewestBelow ss ns bound m first → IsNewest (drop m ss) bound (Some stamp)
     → IsGreatestAt (drop m ss) (drop m ns) stamp (Some i) → (r ≡ m + i) ⊎ (first ≡ Some r) → NotAbove ss ns (m + i) r
-    → IfSome first (λ p. NotAbove ss ns p r)
-    → IsNewestBelow ss ns bound (length ss) (Some r)
+    → IfSome first (λ p. NotAbove ss ns p r) → IsNewestBelow ss ns bound (length ss) (Some r)
 top_of_rest ss ns bound m stamp i r first le beside best (member, within, top) (inside, is, great) one later other =
     let here : get_or ss (m + i) 0 ≡ stamp = sym (get_or-drop m ss i 0) ∙ is in
     let node : get_or (drop m ns) i 0 ≡ get_or ns (m + i) 0 = get_or-drop m ns i 0 in
@@ -143,22 +139,6 @@ top_of_rest ss ns bound m stamp i r first le beside best (member, within, top) (
       λ same alike. let h = (great (q - m) l (e ∙ same ∙ here)).1 (f ∙ alike ∙ sym node) in omega (arith, h, from),
     ))
     one later other
-
--- the result of the kernels for one stamp
-pub top_found : (ss ns : List ℕ) (stamp node : ℕ) (place : Option ℕ) → IsGreatestNode ss ns stamp (Some node)
-    → IsPlace ss ns stamp node place → IsGreatestAt ss ns stamp place
-top_found ss ns stamp node None (holds, great) nowhere = absurd (nowhere holds.0 (omega arith) holds.1 holds.2 holds.3)
-top_found ss ns stamp node (Some i) (holds, great) (from, l, is_stamp, is_node, nowhere) = (
-  l,
-  is_stamp,
-  λ p lt same. (
-    subst (λ n. get_or ns p 0 ≤ n) (sym is_node) (great p lt same),
-    λ alike. elim (cases_lt p i) [
-      | inl below ↦ absurd (nowhere p (omega arith) below same (alike ∙ is_node))
-      | inr above ↦ above
-    ],
-  ),
-)
 
 pub rest_of : (xs : List ℕ) (m : ℕ) → take (length xs - m) (drop m xs) ≡ drop m xs
 rest_of xs m = take_all _ _ (omega (arith, length-drop m xs))

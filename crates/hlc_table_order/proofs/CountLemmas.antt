@@ -1,11 +1,10 @@
 -- An index has each of the first positions once, so its count is the count of a pass over the first rows.
 use Rattle.std.proofs.Common.{◌≡◌, ℕ, zero, suc, ◌+◌, ◌-◌, ◌<◌, ◌≤◌, true, false, Bool, List, [], ◌∷◌, ◌++◌, length}
-use Rattle.std.proofs.Common.{get_or}
-use Rattle.std.proofs.Common.{take, drop, refl, sym, ap, ◌∙◌, subst, inl, inr, arith, Contains, leb, cond}
+use Rattle.std.proofs.Common.{take_all, take-append-drop, length-append, length-take-le, length-drop, get_or, take}
+use Rattle.std.proofs.Common.{drop, refl, sym, ap, ◌∙◌, subst, inl, inr, arith, Contains, leb, cond}
 use Rattle.std.specs.List.{count_by, sum_by}
 use Rattle.std.specs.List.Sorted.{IsPartitionPoint}
-use Rattle.std.proofs.lemmas.List.{take_more, drop_more, take_all, take-append-drop, length-append, length-take-le}
-use Rattle.std.proofs.lemmas.List.{length-drop}
+use Rattle.std.proofs.lemmas.List.{take_more, drop_more}
 use Rattle.std.proofs.lemmas.List.Sums.{count_by_more_yes, count_by_more_no, sum_by-append, sum_by-take-drop}
 use Rattle.std.proofs.lemmas.List.Elements.{Contains-append_cases, Contains-append_left, Contains-append_right}
 use Rattle.hlc_values.proofs.MemberLemmas.{Contains-cons_cases}
@@ -13,8 +12,7 @@ use Rattle.hlc_table_order.specs.Order.{IsIndex}
 
 -- a sum over the positions below n, in any order, is the sum over the first n
 summed : (ss : List ℕ) (g : ℕ → ℕ) (n : ℕ) (xs : List ℕ) → n ≤ length ss → length xs ≡ n
-    → ((p : ℕ) → p < n → Contains xs p)
-    → sum_by (λ p. g (get_or ss p 0)) xs ≡ sum_by g (take n ss)
+    → ((p : ℕ) → p < n → Contains xs p) → sum_by (λ p. g (get_or ss p 0)) xs ≡ sum_by g (take n ss)
 summed ss g zero [] le long every = refl
 summed ss g zero (x ∷ xs) le long every = absurd (omega (arith, long))
 summed ss g (suc n) xs le long every =

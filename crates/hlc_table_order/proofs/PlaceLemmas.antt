@@ -1,18 +1,17 @@
 -- An index: its members, the result of a binary search in it, and how it stays an index when rows are added. Its order
 -- is total, so a sorted list ascends.
 use Rattle.std.proofs.Common.{◌≡◌, ℕ, ◌+◌, ◌-◌, ◌<◌, ◌≤◌, true, false, List, [], ◌∷◌, ◌++◌, Some, None, length, get_or}
-use Rattle.std.proofs.Common.{take, drop, refl, sym, ap, ◌∙◌, subst, inl, inr, arith, Contains, All, true≢false, leb}
+use Rattle.std.proofs.Common.{get_or-take, get_or-drop, length-drop, length-take-le, take-append-drop, length-append}
+use Rattle.std.proofs.Common.{append_assoc, take, drop, refl, sym, ap, ◌∙◌, subst, inl, inr, arith, Contains, All, leb}
 use Rattle.std.proofs.Common.{ltb, Bool}
 use Rattle.std.specs.List.Sorted.{IsPartitionedBy, IsPartitionPoint, IsPermutation, IsSortedBy}
 use Rattle.std.specs.Cmp.{IsTotalOrder}
-use Rattle.std.specs.Ordering.{nat_cmp, ordering_then, is_lt, MatchOrdering}
-use Rattle.std.specs.declared.cmp.Ordering.TheVariants.{Less, Equal, Greater}
-use Rattle.std.proofs.lemmas.Cmp.{then_total, on_total, back_total, nat_cmp_total, ranked}
+use Rattle.std.specs.Ordering.{nat_cmp, ordering_then, is_lt}
+use Rattle.std.proofs.lemmas.Cmp.{then_total, on_total, back_total, nat_cmp_total}
 use Rattle.std.proofs.lemmas.Bool.{cases_lt}
 use Rattle.std.proofs.lemmas.Bool.Decides.{nat_tests}
-use Rattle.std.proofs.lemmas.List.{get_or_default, get_or_append_left, get_or-append_right, get_or-take, get_or-drop}
-use Rattle.std.proofs.lemmas.List.{length-drop, length-take-le, take-append-le, take-append-drop, length_push}
-use Rattle.std.proofs.lemmas.List.{get_or_push, length-append, append_assoc, append-nil}
+use Rattle.std.proofs.lemmas.List.{get_or_default, get_or_append_left, get_or-append_right, take-append-le, length_push}
+use Rattle.std.proofs.lemmas.List.{get_or_push}
 use Rattle.std.proofs.lemmas.List.Sorted.{All-permutation, Contains-permutation, IsPermutation-append_right}
 use Rattle.std.proofs.lemmas.List.Sorted.{length_permutation, sorted_far, ranks_by}
 use Rattle.hlc_table_order.specs.Newest.{NotAbove, IsNewestBelow}
@@ -69,8 +68,7 @@ within_more ss order bound count first here i lt = elim (cases_lt i count) [
 
 -- the first are at or below the bound, and the next is not
 pub point_after : (ss ns order : List ℕ) (bound count : ℕ) → IsIndex ss ns order → count ≤ length order
-    → AreFirstWithin ss order bound count
-    → (count < length order → bound < get_or ss (get_or order count 0) 0)
+    → AreFirstWithin ss order bound count → (count < length order → bound < get_or ss (get_or order count 0) 0)
     → IsPartitionPoint (λ p. leb (get_or ss p 0) bound ≡ true) (λ p. leb (get_or ss p 0) bound ≡ false) order count
 point_after ss ns order bound count (long, below, every, rises) some first next = (
   λ i d least lt.
@@ -124,24 +122,8 @@ place_order ss ns =
 
 not_less : (s t m n p q : ℕ) → is_lt (ordering_then (ordering_then (nat_cmp s t) (nat_cmp m n)) (nat_cmp p q)) ≡ false
     → (t ≤ s) × (t ≡ s → n ≤ m) × (t ≡ s → n ≡ m → q ≤ p)
-not_less s t m n p q =
-    elim (nat_cmp s t) as (λ o. MatchOrdering o (s < t) (s ≡ t) (t < s)
-    → is_lt (ordering_then (ordering_then o (nat_cmp m n)) (nat_cmp p q)) ≡ false
-    → (t ≤ s) × (t ≡ s → n ≤ m) × (t ≡ s → n ≡ m → q ≤ p)) [
-      | Less ↦ λ h e. absurd (true≢false e)
-      | Equal ↦ λ h. elim (nat_cmp m n) as (λ o. MatchOrdering o (m < n) (m ≡ n) (n < m)
-          → is_lt (ordering_then o (nat_cmp p q)) ≡ false → (t ≤ s) × (t ≡ s → n ≤ m) × (t ≡ s → n ≡ m → q ≤ p)) [
-            | Less ↦ λ k e. absurd (true≢false e)
-            | Equal ↦ λ k. elim (nat_cmp p q) as (λ o. MatchOrdering o (p < q) (p ≡ q) (q < p) → is_lt o ≡ false
-                → (t ≤ s) × (t ≡ s → n ≤ m) × (t ≡ s → n ≡ m → q ≤ p)) [
-                  | Less ↦ λ l e. absurd (true≢false e)
-                  | Equal ↦ λ l e. (omega (arith, h), λ x. omega (arith, k), λ x y. omega (arith, l))
-                  | Greater ↦ λ l e. (omega (arith, h), λ x. omega (arith, k), λ x y. omega (arith, l))
-                ] (ranked p q _ refl)
-            | Greater ↦ λ k e. (omega (arith, h), λ x. omega (arith, k), λ x y. absurd (omega (arith, k, y)))
-          ] (ranked m n _ refl)
-      | Greater ↦ λ h e. (omega (arith, h), λ x. absurd (omega (arith, h, x)), λ x y. absurd (omega (arith, h, x)))
-    ] (ranked s t _ refl)
+not_less s t m n p q h =
+    (grind (arith, nat_tests), λ x. grind (arith, nat_tests), λ x y. grind (arith, nat_tests))
 
 pub sorted_rises : (ss ns order : List ℕ) → IsSortedBy (λ p q. is_lt (place_cmp ss ns p q)) order → Rises ss ns order
 sorted_rises ss ns order sorted i j le lt =
@@ -152,8 +134,7 @@ sorted_rises ss ns order sorted i j le lt =
 
 -- all positions below the length, in ascending order of the rows
 pub risen_index : (ss ns xs ys : List ℕ) → IsPermutation xs ys → length xs ≤ length ss → All (λ p. p < length xs) xs
-    → ((p : ℕ) → p < length xs → Contains xs p)
-    → Rises ss ns ys → IsIndex ss ns ys
+    → ((p : ℕ) → p < length xs → Contains xs p) → Rises ss ns ys → IsIndex ss ns ys
 risen_index ss ns xs ys moved long below every rises =
     let same : length ys ≡ length xs = length_permutation xs ys moved in (
       omega (arith, same, long),
@@ -195,8 +176,7 @@ joined_rises ss ns front tail stamp rises risen under over i j le lt =
 
 -- all positions below the length, sorted
 pub sorted_index : (ss ns xs ys : List ℕ) → IsPermutation xs ys → length xs ≤ length ss → All (λ p. p < length xs) xs
-    → ((p : ℕ) → p < length xs → Contains xs p)
-    → IsSortedBy (λ p q. is_lt (place_cmp ss ns p q)) ys → IsIndex ss ns ys
+    → ((p : ℕ) → p < length xs → Contains xs p) → IsSortedBy (λ p q. is_lt (place_cmp ss ns p q)) ys → IsIndex ss ns ys
 sorted_index ss ns xs ys moved long below every sorted =
     risen_index ss ns xs ys moved long below every (sorted_rises ss ns ys sorted)
 
@@ -237,9 +217,6 @@ take_front (x ∷ xs) ys = ap (λ (l : List ℕ). x ∷ l) (take_front xs ys)
 
 pub numbered_front : (old new : List ℕ) (count : ℕ) → IsNumbered old new count → take (length old) new ≡ old
 numbered_front old new count (front, long, numbers) = ap (take (length old)) front.1 ∙ take_front old front.0
-
-pub numbered_nothing : (old : List ℕ) → IsNumbered old old (length old)
-numbered_nothing old = (([], sym (append-nil old)), refl, λ p le lt. absurd (omega (arith, le, lt)))
 
 pub numbered_more : (old new : List ℕ) (count : ℕ) → IsNumbered old new count
     → IsNumbered old (new ++ count ∷ []) (count + 1)

@@ -1,7 +1,6 @@
 //! The position of the newest of some stamps and nodes, which are side by side.
 ghost use Rattle.std.specs.Prelude.{◌≡◌, ◌↔◌, ◌≤◌, ◌<◌, ◌-◌, ◌⊎◌, IsTrue, Some, IfSome, MatchOption, length};
-ghost use Rattle.std.specs.Prelude.{slice_index};
-ghost use Rattle.std.specs.Prelude.{take, count_by, nat_le, false};
+ghost use Rattle.std.specs.Prelude.{slice_index, take, count_by, nat_le, false};
 ghost use Rattle.std.specs.List.Sorted.{IsPartitionPoint};
 ghost use Rattle.hlc_table_order.specs.Newest.{NotAbove, IsNewestBelow, IsGreatestAt};
 ghost use Rattle.hlc_table_order.specs.Order.{IsIndex, AreFirstWithin};

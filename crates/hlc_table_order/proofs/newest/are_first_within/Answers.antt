@@ -1,6 +1,5 @@
 -- The last of them is above none before it.
-use Rattle.std.proofs.Common.{◌≡◌, ◌∙◌, ◌≤◌, ◌<◌, ◌-◌, length, get_or, ap, sym, subst, arith}
-use Rattle.std.proofs.lemmas.Bool.{ltb-true, leb-true}
+use Rattle.std.proofs.Common.{◌≡◌, ◌∙◌, ◌≤◌, ◌<◌, ◌-◌, length, get_or, ap, sym, subst, arith, ltb-true, leb-true}
 use Rattle.std.proofs.lemmas.List.{get_or_default}
 use Rattle.hlc_table_order.proofs.PlaceLemmas.{first_within}
 use Rattle.hlc_table_order.proofs.newest.are_first_within.Goals as goal

@@ -1,7 +1,7 @@
 -- The front is below the least new stamp and does not change; the end is not below it, and is sorted. If memory runs
 -- out, the positions that were added are cut off.
 use Rattle.std.proofs.Common.{◌≡◌, ◌≤◌, ◌<◌, ◌∙◌, ℕ, List, length, get_or, subst, sym, ap, take, drop, arith}
-use Rattle.std.proofs.lemmas.List.{length-drop}
+use Rattle.std.proofs.Common.{length-drop}
 use Rattle.std.proofs.lemmas.List.Sorted.{length_permutation}
 use Rattle.hlc_table_order.specs.Order.{IsIndex, IsNumbered}
 use Rattle.hlc_table_order.proofs.PlaceLemmas.{numbered_front, tail_index}

@@ -1,7 +1,6 @@
 -- The row is above the last of the index, and so above all of it.
 use Rattle.std.proofs.Common.{◌≡◌, ◌-◌, ◌∷◌, ◌++◌, [], ◌∙◌, ℕ, List, length, get_or, subst, sym, arith, cond, true}
-use Rattle.std.proofs.Common.{false}
-use Rattle.std.specs.Prelude.{is_ok}
+use Rattle.std.proofs.Common.{is_ok, false}
 use Rattle.std.proofs.lemmas.List.{get_or_default}
 use Rattle.hlc_table_order.specs.Newest.{NotAbove}
 use Rattle.hlc_table_order.specs.Order.{IsIndex}
