@@ -1,12 +1,10 @@
 -- The newest row is the greatest one. It is found by going down the list: a row that is no candidate changes nothing,
 -- and for a candidate the result is the later of it and the newest of the rest. Two greatest rows are one version, so
 -- in a row set they are one row.
-use Rattle.std.proofs.Common.{◌≡◌, ℕ, ◌<◌, ◌≤◌, List, [], ◌∷◌, true, false, Some}
-use Rattle.std.proofs.Common.{None, Option, refl, ap, sym, ◌∙◌, subst, inl, inr, arith}
-use Rattle.std.specs.Prelude.{Contains, ◌==◌, nat_lt}
-use Rattle.std.proofs.lemmas.Bool.{cases_Bool, cond-true, cond-false, and_parts, and_from, or_cases}
-use Rattle.std.proofs.lemmas.Bool.{ltb-true, lt-ltb, eqb-true, eq-eqb, both_ways, cases_lt, cases_order, or_left}
-use Rattle.std.proofs.lemmas.Bool.{or_right}
+use Rattle.std.proofs.Common.{◌≡◌, ℕ, ◌≤◌, List, [], ◌∷◌, true, false, Some, Contains, None, Option, refl, ap, sym, ◌∙◌}
+use Rattle.std.proofs.Common.{subst, inl, inr, arith}
+use Rattle.std.proofs.lemmas.Bool.Decides.{nat_tests}
+use Rattle.std.proofs.lemmas.Bool.{cases_Bool, cond-true, cond-false, both_ways, cases_lt}
 use Rattle.hlc_values.proofs.MemberLemmas.{Contains-none, Contains-first, Contains-rest, Contains-cons_cases}
 use Rattle.hlc_rows.specs.declared.row.Row.{Row}
 use Rattle.hlc_rows.specs.Rows.{is_candidate, is_before, later, newest, IsNoLater, IsNewest, IsSameVersion, IsRowSet}
@@ -14,27 +12,16 @@ use Rattle.hlc_rows.proofs.CandidateLemmas.{candidate_true, candidate_from}
 
 -- a row that the test puts before another is no later than it
 before-true : (a b : Row) → is_before a b ≡ true → IsNoLater a b
-before-true a b h =
-    elim (or_cases _ _ h) [
-      | inl lt ↦ inl (ltb-true _ _ lt)
-      | inr both ↦
-          let parts : ((a.stamp == b.stamp) ≡ true) × (nat_lt a.node b.node ≡ true) = and_parts _ _ both in
-          let less : a.node < b.node = ltb-true _ _ parts.1 in
-          inr (eqb-true _ _ parts.0, omega arith)
-    ]
+before-true a b h = elim (cases_lt a.stamp b.stamp) [
+  | inl less ↦ inl less
+  | inr more ↦ inr (grind (arith, nat_tests), grind (arith, nat_tests))
+]
 
 before-false : (a b : Row) → is_before a b ≡ false → IsNoLater b a
-before-false a b h =
-    elim (cases_order a.stamp b.stamp) [
-      | inl same ↦
-          elim (cases_lt a.node b.node) [
-            | inl less ↦ absurd (both_ways (is_before a b) h
-                (or_right (nat_lt a.stamp b.stamp) _ (and_from _ _ (eq-eqb _ _ same) (lt-ltb _ _ less))))
-            | inr more ↦ inr (sym same, more)
-          ]
-      | inr (inl less) ↦ absurd (both_ways (is_before a b) h (or_left (nat_lt a.stamp b.stamp) _ (lt-ltb _ _ less)))
-      | inr (inr more) ↦ inl more
-    ]
+before-false a b h = elim (cases_lt b.stamp a.stamp) [
+  | inl less ↦ inl less
+  | inr more ↦ inr (grind (arith, nat_tests), grind (arith, nat_tests))
+]
 
 no_later-trans : (a b c : Row) → IsNoLater a b → IsNoLater b c → IsNoLater a c
 no_later-trans a b c (inl l) (inl m) = inl (omega arith)
@@ -49,9 +36,6 @@ no_later-self a = inr (refl, omega arith)
 abbrev pub NewestSays : List Row → List ℕ → ℕ → Option Row → Type 0
 NewestSays rows key bound None = (row : Row) → Contains rows row → row.key ≡ key → row.stamp ≤ bound → ⊥
 NewestSays rows key bound (Some row) = IsNewest rows key bound row
-
-at_same : (a b : Row) → a ≡ b → IsNoLater b a
-at_same a b e = subst (λ x. IsNoLater x a) e (no_later-self a)
 
 greatest-of_two : (first row : Row) (rows : List Row) (key : List ℕ) (bound : ℕ) → IsNoLater first row
     → ((other : Row) → Contains rows other → other.key ≡ key → other.stamp ≤ bound → IsNoLater other row)

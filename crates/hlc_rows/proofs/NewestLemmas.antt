@@ -2,9 +2,8 @@
 -- it stays the same if no row of the key is between two stamps, and rows of other keys do not count. The same is true
 -- of the answer, which is its value.
 use Rattle.std.proofs.Common.{◌≡◌, ◌≢◌, ℕ, ◌≤◌, List, [], ◌∷◌, ◌++◌, Some, None, refl, ap, sym, ◌∙◌, inl, inr, arith}
-use Rattle.std.specs.Prelude.{Contains, option_and_then, if◌then◌else◌}
+use Rattle.std.proofs.Common.{Contains, option_and_then, if◌then◌else◌, append-nil}
 use Rattle.std.proofs.lemmas.Bool.{cond-false}
-use Rattle.std.proofs.lemmas.List.{append-nil}
 use Rattle.hlc_values.proofs.MemberLemmas.{Contains-first, Contains-rest}
 use Rattle.hlc_rows.specs.declared.row.Row.{Row}
 use Rattle.hlc_rows.specs.Rows.{is_candidate, later, newest, answer, IsNewest, IsNoLater, IsRowSet}

@@ -8,8 +8,7 @@ writes_count zero bytes = refl
 writes_count (suc count) bytes = ap suc (writes_count count (value_in (key_in bytes).1).1)
 
 -- the first of them, and the others
-pub writes_first : (count : ℕ) (bytes : List ℕ) → (count ≡ 0 → ⊥)
-    → writes_in count bytes
+pub writes_first : (count : ℕ) (bytes : List ℕ) → (count ≡ 0 → ⊥) → writes_in count bytes
     ≡ a_write (key_in bytes).0 (value_in (key_in bytes).1).0 ∷ writes_in (count - 1) (value_in (key_in bytes).1).1
 unfolding writes_in
 writes_first zero bytes some = absurd (some refl)

@@ -1,10 +1,9 @@
 -- Writes of different keys, found by the marks of their keys.
 use Rattle.std.proofs.Common.{◌≡◌, ◌≢◌, ◌∙◌, ◌⊎◌, ℕ, zero, suc, ◌+◌, ◌-◌, ◌<◌, List, [], ◌∷◌, ◌++◌, length}
-use Rattle.std.proofs.Common.{take, set, get_or}
-use Rattle.std.proofs.Common.{Bool, true, false, Option, None, Some, ◌||◌, bytes_eq, refl, sym, ap, subst, inl, inr}
-use Rattle.std.proofs.Common.{arith, length-append}
-use Rattle.std.proofs.lemmas.Bool.{cases_Bool, or_parts, false≢true}
-use Rattle.std.proofs.lemmas.List.{append_assoc, append-nil, take_at, get_or-set_same, get_or-set_other, length-set}
+use Rattle.std.proofs.Common.{append_assoc, take_at, get_or-set_same, get_or-set_other, length-set, take, set, get_or}
+use Rattle.std.proofs.Common.{Bool, true, false, Option, None, Some, bytes_eq, refl, sym, ap, subst, inl, inr, arith}
+use Rattle.std.proofs.Common.{length-append}
+use Rattle.std.proofs.lemmas.Bool.{or_parts, or_cases, or_left, or_right, or_from, false_from_ne_true, false≢true}
 use Rattle.std.proofs.lemmas.Bool.{cases_eq}
 use Rattle.std.proofs.lemmas.Slice.Eq.{bytes_eq-Decides}
 use Rattle.hlc_rows.specs.declared.write.Write.{Write}
@@ -19,23 +18,6 @@ take-more (suc n) x xs some =
     let less : suc n - 1 ≡ n = omega arith in
     rw less refl
 
--- one of the two is true
-or-true : (x y : Bool) → (x || y) ≡ true → (x ≡ true) ⊎ (y ≡ true)
-or-true true y h = inl refl
-or-true false y h = inr h
-
-or-right : (x y : Bool) → y ≡ true → (x || y) ≡ true
-or-right true y h = refl
-or-right false y h = h
-
-or-left : (x y : Bool) → x ≡ true → (x || y) ≡ true
-or-left true y h = refl
-or-left false y h = absurd (false≢true h)
-
-or-none : (x y : Bool) → x ≡ false → y ≡ false → (x || y) ≡ false
-or-none true y h k = absurd (false≢true (sym h))
-or-none false y h k = k
-
 same : (a b : List ℕ) → bytes_eq a b ≡ true → a ≡ b
 same a b h = (bytes_eq-Decides a b).0 h
 
@@ -43,38 +25,34 @@ same-key : (a b : List ℕ) → a ≡ b → bytes_eq a b ≡ true
 same-key a b h = (bytes_eq-Decides a b).1 h
 
 apart : (a b : List ℕ) → bytes_eq a b ≡ false → bytes_eq b a ≡ false
-apart a b h =
-    elim (cases_Bool (bytes_eq b a)) [
-      | inl is ↦ absurd (false≢true (sym h ∙ same-key a b (sym (same b a is))))
-      | inr not ↦ not
-    ]
+apart a b h = false_from_ne_true (bytes_eq b a) (λ is. false≢true (sym h ∙ same-key a b (sym (same b a is))))
 
 -- a write that is among others is of its key
 within : (key : List ℕ) (before : List Write) (write : Write) (after : List Write) → write.key ≡ key
     → writes_key key (before ++ write ∷ after) ≡ true
-within key [] write after is = or-left (bytes_eq write.key key) (writes_key key after) (same-key write.key key is)
+within key [] write after is = or_left (bytes_eq write.key key) (writes_key key after) (same-key write.key key is)
 within key (first ∷ before) write after is =
-    or-right (bytes_eq first.key key) (writes_key key (before ++ write ∷ after)) (within key before write after is)
+    or_right (bytes_eq first.key key) (writes_key key (before ++ write ∷ after)) (within key before write after is)
 
 -- a write whose key one before it has
 found : (before : List Write) (write : Write) (after : List Write) → writes_key write.key before ≡ true
     → writes_twice (before ++ write ∷ after) ≡ true
 found [] write after h = absurd (false≢true h)
 found (first ∷ before) write after h =
-    elim (or-true (bytes_eq first.key write.key) (writes_key write.key before) h) [
-      | inl is ↦ or-left (writes_key first.key (before ++ write ∷ after)) (writes_twice (before ++ write ∷ after))
+    elim (or_cases (bytes_eq first.key write.key) (writes_key write.key before) h) [
+      | inl is ↦ or_left (writes_key first.key (before ++ write ∷ after)) (writes_twice (before ++ write ∷ after))
           (within first.key before write after (sym (same first.key write.key is)))
-      | inr later ↦ or-right (writes_key first.key (before ++ write ∷ after)) (writes_twice (before ++ write ∷ after))
+      | inr later ↦ or_right (writes_key first.key (before ++ write ∷ after)) (writes_twice (before ++ write ∷ after))
           (found before write after later)
     ]
 
 -- one more write, of another key
 no-more : (key : List ℕ) (before : List Write) (write : Write) → writes_key key before ≡ false
     → bytes_eq write.key key ≡ false → writes_key key (before ++ write ∷ []) ≡ false
-no-more key [] write none other = or-none (bytes_eq write.key key) false other refl
+no-more key [] write none other = or_from (bytes_eq write.key key) false other refl
 no-more key (first ∷ before) write none other =
     let parts = or_parts (bytes_eq first.key key) (writes_key key before) none in
-    or-none (bytes_eq first.key key) (writes_key key (before ++ write ∷ [])) parts.0
+    or_from (bytes_eq first.key key) (writes_key key (before ++ write ∷ [])) parts.0
     (no-more key before write parts.1 other)
 
 still-once : (before : List Write) (write : Write) → writes_twice before ≡ false → writes_key write.key before ≡ false
@@ -83,23 +61,23 @@ still-once [] write once none = refl
 still-once (first ∷ before) write once none =
     let parts = or_parts (writes_key first.key before) (writes_twice before) once in
     let keys = or_parts (bytes_eq first.key write.key) (writes_key write.key before) none in
-    or-none (writes_key first.key (before ++ write ∷ [])) (writes_twice (before ++ write ∷ []))
+    or_from (writes_key first.key (before ++ write ∷ [])) (writes_twice (before ++ write ∷ []))
     (no-more first.key before write parts.0 (apart first.key write.key keys.0)) (still-once before write parts.1 keys.1)
 
 -- of one more write, the key is that of the last one or of one before
 last-or-before : (key : List ℕ) (before : List Write) (write : Write) → writes_key key (before ++ write ∷ []) ≡ true
     → (writes_key key before ≡ true) ⊎ (write.key ≡ key)
 last-or-before key [] write h =
-    elim (or-true (bytes_eq write.key key) false h) [
+    elim (or_cases (bytes_eq write.key key) false h) [
       | inl is ↦ inr (same write.key key is)
       | inr not ↦ absurd (false≢true not)
     ]
 last-or-before key (first ∷ before) write h =
-    elim (or-true (bytes_eq first.key key) (writes_key key (before ++ write ∷ [])) h) [
-      | inl is ↦ inl (or-left (bytes_eq first.key key) (writes_key key before) is)
+    elim (or_cases (bytes_eq first.key key) (writes_key key (before ++ write ∷ [])) h) [
+      | inl is ↦ inl (or_left (bytes_eq first.key key) (writes_key key before) is)
       | inr later ↦
           elim (last-or-before key before write later) [
-            | inl earlier ↦ inl (or-right (bytes_eq first.key key) (writes_key key before) earlier)
+            | inl earlier ↦ inl (or_right (bytes_eq first.key key) (writes_key key before) earlier)
             | inr last ↦ inr last
           ]
     ]
@@ -129,15 +107,6 @@ pub record Passed (writes : List Write) (marks : List Bool) (rest : List Write) 
   pub room : length marks ≡ 4096
   pub marked : (key : List ℕ) → writes_key key before ≡ true
       → IsSet marks (marks_of key).0 × IsSet marks (marks_of key).1
-
-pub passed-none : (writes : List Write) (marks : List Bool) → length marks ≡ 4096 → Passed writes marks writes
-passed-none writes marks room = record {
-  before = [];
-  parts = refl;
-  once = refl;
-  room = room;
-  marked = λ key h. absurd (false≢true h);
-}
 
 -- how many writes there are before the next one
 pub passed-count : (writes : List Write) (marks : List Bool) (rest : List Write) (write : Write) (others : List Write)
@@ -170,18 +139,13 @@ pub passed-more : (writes : List Write) (marks : List Bool) (rest : List Write) 
     (many : ℕ) (at : ℕ × ℕ) → Passed writes marks rest → rest ≡ write ∷ others
     → many ≡ length writes - 1 - length others → at ≡ marks_of write.key → at.0 < 4096 → at.1 < 4096
     → (get_or marks at.0 false ≡ false) ⊎ ((get_or marks at.1 false ≡ false)
-    ⊎ (writes_key write.key (take many writes) ≡ false))
-    → Passed writes (set (set marks at.0 true) at.1 true) others
+    ⊎ (writes_key write.key (take many writes) ≡ false)) → Passed writes (set (set marks at.0 true) at.1 true) others
 passed-more writes marks rest write others many at p is count of one two new =
     let low : at.0 < length marks = omega (arith, one, p.room) in
     let low' : at.1 < length (set marks at.0 true) = omega (arith, two, p.room, length-set marks at.0 true) in
     let unseen : (mark : ℕ) → (writes_key write.key p.before ≡ true → IsSet marks mark)
     → get_or marks mark false ≡ false → writes_key write.key p.before ≡ false =
-    λ mark seen unset.
-    elim (cases_Bool (writes_key write.key p.before)) [
-      | inl h ↦ absurd (false≢true (sym unset ∙ seen h))
-      | inr h ↦ h
-    ] in
+    λ mark seen unset. false_from_ne_true (writes_key write.key p.before) (λ h. false≢true (sym unset ∙ seen h)) in
     let none : writes_key write.key p.before ≡ false =
     elim new [
       | inl unset ↦ unseen at.0 (λ h. subst (λ m. IsSet marks m.0) (sym of) ((p.marked write.key h).0)) unset
@@ -207,13 +171,6 @@ passed-more writes marks rest write others many at p is count of one two new =
                 )
           ];
     }
-
--- all writes were passed
-pub passed-all : (writes : List Write) (marks : List Bool) (rest : List Write) → (p : Passed writes marks rest)
-    → rest ≡ [] → writes_twice writes ≡ false
-passed-all writes marks rest p is =
-    let all' : writes ≡ p.before = p.parts ∙ ap (λ (xs : List Write). p.before ++ xs) is ∙ append-nil p.before in
-    subst (λ xs. writes_twice xs ≡ false) (sym all') p.once
 
 -- the reason of one more write, after the reason so far
 pub one-more : (found : Option BodyFault) (writes rest : List Write) (write : Write) (others : List Write)

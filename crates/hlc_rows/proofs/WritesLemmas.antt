@@ -1,7 +1,7 @@
 -- A batch that is not refused has writes, at most 256, of different keys, and none of them is refused.
-use Rattle.std.proofs.Common.{◌≡◌, ◌≤◌, List, Bool, true, false, cond, eqb, ltb, length, Option, Some, None}
+use Rattle.std.proofs.Common.{◌≡◌, ◌≤◌, List, Bool, true, false, cond, eqb, ltb, length, Option, Some, None, ltb-false}
 use Rattle.std.proofs.Common.{refl}
-use Rattle.std.proofs.lemmas.Bool.{eqb-false, ltb-false}
+use Rattle.std.proofs.lemmas.Bool.{eqb-false}
 use Rattle.hlc_rows.specs.declared.write.Write.{Write}
 use Rattle.hlc_rows.specs.declared.limits.BodyFault.{BodyFault}
 use Rattle.hlc_rows.specs.declared.limits.BodyFault.TheVariants.{NoWrites, TooManyWrites, KeyTwice}

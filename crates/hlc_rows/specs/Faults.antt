@@ -1,13 +1,8 @@
 -- The refusals of an item's body: the number and the text of each.
 use Rattle.std.specs.Prelude.{ℕ, List, codes}
 use Rattle.hlc_rows.specs.declared.limits.BodyFault.{BodyFault}
-use Rattle.hlc_rows.specs.declared.limits.BodyFault.TheVariants.{
-  BadKey,
-  ValueTooLong,
-  NoWrites,
-  TooManyWrites,
-  KeyTwice,
-}
+use Rattle.hlc_rows.specs.declared.limits.BodyFault.TheVariants.{BadKey, ValueTooLong, NoWrites, TooManyWrites}
+use Rattle.hlc_rows.specs.declared.limits.BodyFault.TheVariants.{KeyTwice}
 
 -- the number of a refusal of a body
 abbrev pub body_code : BodyFault → ℕ

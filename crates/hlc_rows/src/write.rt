@@ -1,9 +1,8 @@
 //! A write of a batch: several keys at one stamp.
 ghost use Rattle.std.specs.Prelude.{◌≡◌, ◌+◌, ◌<◌, ◌≤◌, length, option_copied, take};
 ghost use Rattle.hlc_rows.specs.Limits.{write_refusal};
-ghost use Rattle.hlc_rows.specs.Writes.{all_refusal, batch_refusal, eight_at, first_of, marks_of};
-ghost use Rattle.hlc_rows.specs.Writes.{number_of, short_number};
-ghost use Rattle.hlc_rows.specs.Writes.{writes_key};
+ghost use Rattle.hlc_rows.specs.Writes.{all_refusal, batch_refusal, eight_at, first_of, marks_of, number_of};
+ghost use Rattle.hlc_rows.specs.Writes.{short_number, writes_key};
 
 use crate::limits::{BodyFault, MAX_WRITES, write_fault};
 use crate::writes::Writes;

@@ -1,5 +1,5 @@
 -- The writes that are left decide whether two are of one key, and, after the reason so far, why one is refused.
-use Rattle.std.specs.Prelude.{◌≡◌, length}
+use Rattle.std.proofs.Common.{◌≡◌, length}
 use Rattle.hlc_rows.specs.Writes.{first_of, writes_refusal, writes_twice}
 use Rattle.hlc_rows.proofs.write.few_fault.Given as goal
 

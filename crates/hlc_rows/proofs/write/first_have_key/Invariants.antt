@@ -1,5 +1,5 @@
 -- Whether one of the first writes is of the key is decided by those of them that are left.
-use Rattle.std.specs.Prelude.{◌≡◌, length, take}
+use Rattle.std.proofs.Common.{◌≡◌, length, take}
 use Rattle.hlc_rows.specs.Writes.{writes_key}
 use Rattle.hlc_rows.proofs.write.first_have_key.Given as goal
 

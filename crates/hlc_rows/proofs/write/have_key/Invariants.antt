@@ -1,5 +1,5 @@
 -- Whether a write is of the key is decided by the writes that are left.
-use Rattle.std.specs.Prelude.{◌≡◌, length}
+use Rattle.std.proofs.Common.{◌≡◌, length}
 use Rattle.hlc_rows.specs.Writes.{writes_key}
 use Rattle.hlc_rows.proofs.write.have_key.Given as goal
 

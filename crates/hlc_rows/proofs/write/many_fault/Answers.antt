@@ -4,11 +4,9 @@ use Rattle.hlc_rows.specs.Spelled.{write_seen}
 use Rattle.hlc_rows.specs.Limits.{write_refusal}
 use Rattle.hlc_rows.specs.Writes.{first_of}
 use Rattle.hlc_rows.proofs.TwiceLemmas.{one-more, passed-found, passed-more, refused-twice}
-use Rattle.hlc_rows.proofs.write.many_fault.Goals.{
-  else-marks-one-via-then-marks-one+then-marks-two+else-first_have_key,
-  else-marks-one-via-then-marks-one+else-marks-two,
-  else-marks-one-via-else-marks-one,
-}
+use Rattle.hlc_rows.proofs.write.many_fault.Goals.{else-marks-one-via-then-marks-one+then-marks-two+else-first_have_key}
+use Rattle.hlc_rows.proofs.write.many_fault.Goals.{else-marks-one-via-then-marks-one+else-marks-two}
+use Rattle.hlc_rows.proofs.write.many_fault.Goals.{else-marks-one-via-else-marks-one}
 use Rattle.hlc_rows.proofs.write.many_fault.Goals as goal
 
 pub returns-then-first_have_key : goal.returns-then-first_have_key

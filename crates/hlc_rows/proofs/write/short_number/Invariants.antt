@@ -1,5 +1,5 @@
 -- The number so far and the bytes that are left give the number of the key.
-use Rattle.std.specs.Prelude.{◌≡◌, length}
+use Rattle.std.proofs.Common.{◌≡◌, length}
 use Rattle.hlc_rows.specs.Writes.{number_from, short_number}
 use Rattle.hlc_rows.proofs.write.short_number.Given as goal
 
