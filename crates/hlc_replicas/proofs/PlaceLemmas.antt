@@ -6,133 +6,82 @@ use Rattle.hlc_node.specs.Items.{retires}
 use Rattle.hlc_heads.proofs.LowLemmas.{low-same}
 use Rattle.hlc_core.specs.Past.{Step, Started, Began, Took, Opened, Closed, Vacuumed, PartVacuumed, Joined}
 use Rattle.hlc_core.specs.Past.{initial_nodes, numbered, count, head, retired, top, floor, item_refusal, IsLegal}
-use Rattle.hlc_core.specs.Replicas.{items_of, joins_of, begun, CanMeet}
+use Rattle.hlc_core.specs.Replicas.{items_of, joins_of, begun, AreReplicas, CanMeet}
 use Rattle.hlc_replicas.specs.Places.{log_of}
 
-initial-log : (past : List Step) → initial_nodes (log_of past) ≡ initial_nodes past
-initial-log [] = refl
-initial-log (Started nodes ∷ past) = refl
-initial-log (Began kept ∷ past) = refl
-initial-log (Took item ∷ past) = initial-log past
-initial-log (Opened stamp ∷ past) = initial-log past
-initial-log (Closed id ∷ past) = initial-log past
-initial-log (Vacuumed at ∷ past) = initial-log past
-initial-log (PartVacuumed at dropped ∷ past) = initial-log past
-initial-log (Joined node start ∷ past) = initial-log past
+-- Two pasts have the same start, joins, number of node numbers and greatest head, and of each node the same items,
+-- their number, its head, and whether it retired.
+abbrev pub HaveOneLog : List Step → List Step → Type 0
+HaveOneLog past other =
+    (begun past ≡ begun other) × (initial_nodes past ≡ initial_nodes other) × (joins_of past ≡ joins_of other)
+    × (numbered past ≡ numbered other) × (top past ≡ top other)
+    × ((n : ℕ) → (items_of n past ≡ items_of n other) × (count n past ≡ count n other)
+    × (head n past ≡ head n other) × (retired n past ≡ retired n other))
 
-numbered-log : (past : List Step) → numbered (log_of past) ≡ numbered past
-numbered-log [] = refl
-numbered-log (Started nodes ∷ past) = ap (λ k. k + nodes) (numbered-log past)
-numbered-log (Began kept ∷ past) = refl
-numbered-log (Took item ∷ past) = numbered-log past
-numbered-log (Opened stamp ∷ past) = numbered-log past
-numbered-log (Closed id ∷ past) = numbered-log past
-numbered-log (Vacuumed at ∷ past) = numbered-log past
-numbered-log (PartVacuumed at dropped ∷ past) = numbered-log past
-numbered-log (Joined node start ∷ past) = ap (λ k. k + 1) (numbered-log past)
-
-count-log : (n : ℕ) (past : List Step) → count n (log_of past) ≡ count n past
-count-log n [] = refl
-count-log n (Started nodes ∷ past) = count-log n past
-count-log n (Began kept ∷ past) = refl
-count-log n (Took item ∷ past) = ap (λ k. if item.node == n then k + 1 else k) (count-log n past)
-count-log n (Opened stamp ∷ past) = count-log n past
-count-log n (Closed id ∷ past) = count-log n past
-count-log n (Vacuumed at ∷ past) = count-log n past
-count-log n (PartVacuumed at dropped ∷ past) = count-log n past
-count-log n (Joined node start ∷ past) = count-log n past
-
-head-log : (n : ℕ) (past : List Step) → head n (log_of past) ≡ head n past
-head-log n [] = refl
-head-log n (Started nodes ∷ past) = head-log n past
-head-log n (Began kept ∷ past) = refl
-head-log n (Took item ∷ past) = ap (λ k. if item.node == n then item.stamp else k) (head-log n past)
-head-log n (Opened stamp ∷ past) = head-log n past
-head-log n (Closed id ∷ past) = head-log n past
-head-log n (Vacuumed at ∷ past) = head-log n past
-head-log n (PartVacuumed at dropped ∷ past) = head-log n past
-head-log n (Joined node start ∷ past) = ap (λ k. if node == n then start else k) (head-log n past)
-
-retired-log : (n : ℕ) (past : List Step) → retired n (log_of past) ≡ retired n past
-retired-log n [] = refl
-retired-log n (Started nodes ∷ past) = retired-log n past
-retired-log n (Began kept ∷ past) = refl
-retired-log n (Took item ∷ past) =
-    ap (λ (b : Bool). if item.node == n then retires item.body else b) (retired-log n past)
-retired-log n (Opened stamp ∷ past) = retired-log n past
-retired-log n (Closed id ∷ past) = retired-log n past
-retired-log n (Vacuumed at ∷ past) = retired-log n past
-retired-log n (PartVacuumed at dropped ∷ past) = retired-log n past
-retired-log n (Joined node start ∷ past) = retired-log n past
-
-top-log : (past : List Step) → top (log_of past) ≡ top past
-top-log [] = refl
-top-log (Started nodes ∷ past) = top-log past
-top-log (Began kept ∷ past) = refl
-top-log (Took item ∷ past) = ap (λ k. max k item.stamp) (top-log past)
-top-log (Opened stamp ∷ past) = top-log past
-top-log (Closed id ∷ past) = top-log past
-top-log (Vacuumed at ∷ past) = top-log past
-top-log (PartVacuumed at dropped ∷ past) = top-log past
-top-log (Joined node start ∷ past) = ap (λ k. max k start) (top-log past)
-
-joins-log : (past : List Step) → joins_of (log_of past) ≡ joins_of past
-joins-log [] = refl
-joins-log (Started nodes ∷ past) = joins-log past
-joins-log (Began kept ∷ past) = joins-log past
-joins-log (Took item ∷ past) = joins-log past
-joins-log (Opened stamp ∷ past) = joins-log past
-joins-log (Closed id ∷ past) = joins-log past
-joins-log (Vacuumed at ∷ past) = joins-log past
-joins-log (PartVacuumed at dropped ∷ past) = joins-log past
-joins-log (Joined node start ∷ past) = ap (λ (js : List (ℕ × ℕ)). (node, start) ∷ js) (joins-log past)
-
-items-log : (n : ℕ) (past : List Step) → items_of n (log_of past) ≡ items_of n past
-items-log n [] = refl
-items-log n (Started nodes ∷ past) = items-log n past
-items-log n (Began kept ∷ past) = items-log n past
-items-log n (Took item ∷ past) =
-    ap (λ (is : List Item). if item.node == n then item ∷ is else is) (items-log n past)
-items-log n (Opened stamp ∷ past) = items-log n past
-items-log n (Closed id ∷ past) = items-log n past
-items-log n (Vacuumed at ∷ past) = items-log n past
-items-log n (PartVacuumed at dropped ∷ past) = items-log n past
-items-log n (Joined node start ∷ past) = items-log n past
-
-begun-log : (past : List Step) → begun (log_of past) ≡ begun past
-begun-log [] = refl
-begun-log (Started nodes ∷ past) = begun-log past
-begun-log (Began kept ∷ past) = ap (λ ks. kept ∷ ks) (begun-log past)
-begun-log (Took item ∷ past) = begun-log past
-begun-log (Opened stamp ∷ past) = begun-log past
-begun-log (Closed id ∷ past) = begun-log past
-begun-log (Vacuumed at ∷ past) = begun-log past
-begun-log (PartVacuumed at dropped ∷ past) = begun-log past
-begun-log (Joined node start ∷ past) = begun-log past
-
-floor-log : (past : List Step) → floor (log_of past) ≡ floor past
-floor-log past =
-    low-same (λ k. head k (log_of past)) (λ k. head k past) (λ k. retired k (log_of past)) (λ k. retired k past)
-    (numbered (log_of past)) (numbered past) (top (log_of past)) (top past) (numbered-log past) (top-log past)
-    (λ k within. (head-log k past, retired-log k past))
-
-item-log : (past : List Step) (item : Item) → item_refusal (log_of past) item ≡ item_refusal past item
-item-log past item =
-    rw (numbered-log past, retired-log item.node past, count-log item.node past, head-log item.node past) refl
+-- a past and its log do
+pub log-same : (past : List Step) → HaveOneLog (log_of past) past
+log-same [] = (refl, refl, refl, refl, refl, λ n. (refl, refl, refl, refl))
+log-same (Started nodes ∷ past) =
+    let so = log-same past in (so.0, refl, so.2, ap (λ k. k + nodes) so.3, so.4, so.5)
+log-same (Began kept ∷ past) =
+    let so = log-same past in
+    (ap (λ ks. kept ∷ ks) so.0, refl, so.2, refl, refl, λ n. ((so.5 n).0, refl, refl, refl))
+log-same (Took item ∷ past) =
+    let so = log-same past in (
+      so.0,
+      so.1,
+      so.2,
+      so.3,
+      ap (λ k. max k item.stamp) so.4,
+      λ n. (
+        ap (λ (is : List Item). if item.node == n then item ∷ is else is) (so.5 n).0,
+        ap (λ k. if item.node == n then k + 1 else k) (so.5 n).1,
+        ap (λ k. if item.node == n then item.stamp else k) (so.5 n).2,
+        ap (λ (b : Bool). if item.node == n then retires item.body else b) (so.5 n).3,
+      ),
+    )
+log-same (Opened stamp ∷ past) = log-same past
+log-same (Closed id ∷ past) = log-same past
+log-same (Vacuumed at ∷ past) = log-same past
+log-same (PartVacuumed at dropped ∷ past) = log-same past
+log-same (Joined node start ∷ past) =
+    let so = log-same past in (
+      so.0,
+      so.1,
+      ap (λ (js : List (ℕ × ℕ)). (node, start) ∷ js) so.2,
+      ap (λ k. k + 1) so.3,
+      ap (λ k. max k start) so.4,
+      λ n. let at = so.5 n in (at.0, at.1, ap (λ k. if node == n then start else k) at.2, at.3),
+    )
 
 -- pasts with one log are alike in all that an item or a join is refused by
-items-alike : (past other : List Step) (item : Item) → log_of past ≡ log_of other
+one-log : (past other : List Step) → log_of past ≡ log_of other → HaveOneLog past other
+one-log past other e =
+    let a = log-same past in
+    let b = log-same other in (
+      sym a.0 ∙ ap begun e ∙ b.0,
+      sym a.1 ∙ ap initial_nodes e ∙ b.1,
+      sym a.2 ∙ ap joins_of e ∙ b.2,
+      sym a.3 ∙ ap numbered e ∙ b.3,
+      sym a.4 ∙ ap top e ∙ b.4,
+      λ n. (
+        sym (a.5 n).0 ∙ ap (items_of n) e ∙ (b.5 n).0,
+        sym (a.5 n).1 ∙ ap (count n) e ∙ (b.5 n).1,
+        sym (a.5 n).2 ∙ ap (head n) e ∙ (b.5 n).2,
+        sym (a.5 n).3 ∙ ap (retired n) e ∙ (b.5 n).3,
+      ),
+    )
+
+items-alike : (past other : List Step) (item : Item) → HaveOneLog past other
     → item_refusal past item ≡ item_refusal other item
-items-alike past other item e =
-    sym (item-log past item) ∙ ap (λ (p : List Step). item_refusal p item) e ∙ item-log other item
+items-alike past other item are = let at = are.5 item.node in rw (are.3, at.3, at.1, at.2) refl
 
-numbered-alike : (past other : List Step) → log_of past ≡ log_of other → numbered past ≡ numbered other
-numbered-alike past other e = sym (numbered-log past) ∙ ap numbered e ∙ numbered-log other
+floor-alike : (past other : List Step) → HaveOneLog past other → floor past ≡ floor other
+floor-alike past other are =
+    low-same (λ k. head k past) (λ k. head k other) (λ k. retired k past) (λ k. retired k other) (numbered past)
+    (numbered other) (top past) (top other) are.3 are.4 (λ k within. ((are.5 k).2, (are.5 k).3))
 
-floor-alike : (past other : List Step) → log_of past ≡ log_of other → floor past ≡ floor other
-floor-alike past other e = sym (floor-log past) ∙ ap floor e ∙ floor-log other
-
-log-append : (more past : List Step) → log_of (more ++ past) ≡ log_of more ++ log_of past
+pub log-append : (more past : List Step) → log_of (more ++ past) ≡ log_of more ++ log_of past
 log-append [] past = refl
 log-append (Started nodes ∷ more) past = ap (λ (p : List Step). Started nodes ∷ p) (log-append more past)
 log-append (Began kept ∷ more) past = ap (λ (p : List Step). Began kept ∷ p) (log-append more past)
@@ -154,59 +103,55 @@ twice (Vacuumed at ∷ past) = twice past
 twice (PartVacuumed at dropped ∷ past) = twice past
 twice (Joined node start ∷ past) = ap (λ (p : List Step). Joined node start ∷ p) (twice past)
 
-legal-log : (past : List Step) → IsLegal past → IsLegal (log_of past)
+pub legal-log : (past : List Step) → IsLegal past → IsLegal (log_of past)
 legal-log [] legal = legal
 legal-log (Started nodes ∷ past) legal = (ap log_of legal.0, legal-log past legal.1)
 legal-log (Began kept ∷ past) legal = (ap log_of legal.0, legal-log past legal.1, legal.2)
-legal-log (Took item ∷ past) legal = (item-log past item ∙ legal.0, legal-log past legal.1)
+legal-log (Took item ∷ past) legal =
+    (items-alike (log_of past) past item (log-same past) ∙ legal.0, legal-log past legal.1)
 legal-log (Opened stamp ∷ past) legal = legal-log past legal.1
 legal-log (Closed id ∷ past) legal = legal-log past legal.1
 legal-log (Vacuumed at ∷ past) legal = legal-log past legal.1
 legal-log (PartVacuumed at dropped ∷ past) legal = legal-log past legal.1
-legal-log (Joined node start ∷ past) legal = (
-  rw (numbered-log past) legal.0,
-  legal.1 ∙ sym (numbered-log past),
-  subst (λ f. f ≤ start) (sym (floor-log past)) legal.2,
-  legal-log past legal.3,
-)
+legal-log (Joined node start ∷ past) legal =
+    let so = log-same past in (
+      rw so.3 legal.0,
+      legal.1 ∙ sym so.3,
+      subst (λ f. f ≤ start) (sym (floor-alike (log_of past) past so)) legal.2,
+      legal-log past legal.3,
+    )
 
-nothing-below : (more past : List Step) → more ++ past ≡ [] → past ≡ []
-nothing-below [] past none = none
-nothing-below (step ∷ more) past none = absurd (cc)
+-- no start comes later
+starts-once : (more past : List Step) → 0 < initial_nodes past → more ++ log_of past ≡ [] → ⊥
+starts-once [] past some none =
+    let zero : initial_nodes (log_of past) ≡ 0 = ap initial_nodes none in
+    let same = (log-same past).1 in omega (arith, some, zero, same)
+starts-once (step ∷ more) past some none = absurd (cc)
 
-one-log : (more past : List Step) → log_of (log_of more ++ past) ≡ log_of (log_of more ++ log_of past)
-one-log more past =
-    log-append (log_of more) past ∙ ap (λ (p : List Step). log_of (log_of more) ++ p) (sym (twice past))
-    ∙ sym (log-append (log_of more) (log_of past))
+on-log : (more past : List Step) → HaveOneLog (log_of more ++ past) (log_of more ++ log_of past)
+on-log more past =
+    one-log (log_of more ++ past) (log_of more ++ log_of past) (log-append (log_of more) past
+    ∙ ap (λ (p : List Step). log_of (log_of more) ++ p) (sym (twice past))
+    ∙ sym (log-append (log_of more) (log_of past)))
 
 -- a store that is behind can take the rest of the log
 goes-on : (more past : List Step) → 0 < initial_nodes past → IsLegal past
     → IsLegal (log_of more ++ log_of past) → IsLegal (log_of more ++ past)
 goes-on [] past some legal h = legal
-goes-on (Started nodes ∷ more) past some legal h =
-    absurd (let none : log_of past ≡ [] = nothing-below (log_of more) (log_of past) h.0 in
-    let zero : initial_nodes (log_of past) ≡ 0 = ap initial_nodes none in
-    let same = initial-log past in omega (arith, some, zero, same))
-goes-on (Began kept ∷ more) past some legal h =
-    absurd (let none : log_of past ≡ [] = nothing-below (log_of more) (log_of past) h.0 in
-    let zero : initial_nodes (log_of past) ≡ 0 = ap initial_nodes none in
-    let same = initial-log past in omega (arith, some, zero, same))
-goes-on (Took item ∷ more) past some legal h = (
-  items-alike (log_of more ++ past) (log_of more ++ log_of past) item (one-log more past) ∙ h.0,
-  goes-on more past some legal h.1,
-)
+goes-on (Started nodes ∷ more) past some legal h = absurd (starts-once (log_of more) past some h.0)
+goes-on (Began kept ∷ more) past some legal h = absurd (starts-once (log_of more) past some h.0)
+goes-on (Took item ∷ more) past some legal h =
+    let so = on-log more past in
+    (items-alike (log_of more ++ past) (log_of more ++ log_of past) item so ∙ h.0, goes-on more past some legal h.1)
 goes-on (Opened stamp ∷ more) past some legal h = goes-on more past some legal h
 goes-on (Closed id ∷ more) past some legal h = goes-on more past some legal h
 goes-on (Vacuumed at ∷ more) past some legal h = goes-on more past some legal h
 goes-on (PartVacuumed at dropped ∷ more) past some legal h = goes-on more past some legal h
 goes-on (Joined node start ∷ more) past some legal h =
-    let here : List Step = log_of more ++ past in
-    let there : List Step = log_of more ++ log_of past in
-    let many : numbered here ≡ numbered there = numbered-alike here there (one-log more past) in
-    let low : floor here ≡ floor there = floor-alike here there (one-log more past) in (
-      rw many h.0,
-      h.1 ∙ sym many,
-      subst (λ f. f ≤ start) (sym low) h.2,
+    let so = on-log more past in (
+      rw so.3 h.0,
+      h.1 ∙ sym so.3,
+      subst (λ f. f ≤ start) (sym (floor-alike (log_of more ++ past) (log_of more ++ log_of past) so)) h.2,
       goes-on more past some legal h.3,
     )
 
@@ -214,17 +159,12 @@ pub can-meet : (past other more : List Step) → 0 < initial_nodes past → IsLe
     → log_of other ≡ log_of more ++ log_of past → CanMeet past other
 can-meet past other more some legal legal' is =
     let here : List Step = log_of more ++ past in
-    let e : log_of here ≡ log_of other =
-    log-append (log_of more) past ∙ ap (λ (p : List Step). p ++ log_of past) (twice more) ∙ sym is in
+    let so = one-log here other
+    (log-append (log_of more) past ∙ ap (λ (p : List Step). p ++ log_of past) (twice more) ∙ sym is) in
     record {
       more = log_of more;
       rest = [];
       legal = goes-on more past some legal (subst IsLegal is (legal-log other legal'));
       other_legal = legal';
-      meet = record {
-        begun = sym (begun-log here) ∙ ap begun e ∙ begun-log other;
-        initial_nodes = sym (initial-log here) ∙ ap initial_nodes e ∙ initial-log other;
-        joins = sym (joins-log here) ∙ ap joins_of e ∙ joins-log other;
-        items = λ n. sym (items-log n here) ∙ ap (items_of n) e ∙ items-log n other;
-      };
+      meet = record { begun = so.0; initial_nodes = so.1; joins = so.2; items = λ n. (so.5 n).0 };
     }

@@ -21,7 +21,7 @@ use Rattle.hlc_core.specs.Past.{Step, Started, Began, Took, Opened, Closed, Vacu
 use Rattle.hlc_core.specs.Past.{numbered, count, head, retired, top, floor, horizon, open_snapshots, writes, item_rows}
 use Rattle.hlc_core.specs.Past.{initial_nodes, link_in, item_refusal, join_at_refusal, IsLegal}
 use Rattle.hlc_core.specs.StoreView.{StoreView, Represents}
-use Rattle.hlc_core.specs.Replicas.{items_of, have_ended, joins_of, begun, AreReplicas, CanMeet}
+use Rattle.hlc_core.specs.Replicas.{items_of, joins_of, begun, AreReplicas, CanMeet}
 use Rattle.hlc_core.proofs.PastLemmas.{inside, head-same, head-other, head-joined, head-joined_other}
 use Rattle.hlc_core.proofs.PastLemmas.{retired-same, retired-other, count-other, body_rows-are, writes-row_set}
 use Rattle.hlc_core.proofs.CheckpointLemmas.{heads-low, top-at}
@@ -120,7 +120,7 @@ head-by (Took item ∷ past) n legal =
     ]
 
 -- a node retired if its last accepted item is its last one
-pub retired-by : (past : List Step) (n : ℕ) → IsLegal past
+retired-by : (past : List Step) (n : ℕ) → IsLegal past
     → retired n past ≡ ended_by n (items_of n past) (begun past)
 retired-by [] n legal = refl
 retired-by (Opened stamp ∷ past) n legal = retired-by past n legal.1
@@ -140,7 +140,7 @@ retired-by (Took item ∷ past) n legal =
           ∙ sym (ap (λ items. ended_by n items (begun past)) (items-other n item past other))
     ]
 
-pub count-by : (past : List Step) (n : ℕ) → IsLegal past
+count-by : (past : List Step) (n : ℕ) → IsLegal past
     → count n past ≡ counted n (begun past) + length (items_of n past)
 count-by [] n legal = omega arith
 count-by (Opened stamp ∷ past) n legal = count-by past n legal.1
@@ -169,21 +169,6 @@ count-by (Took item ∷ past) n legal =
           let goal : count n (Took item ∷ past)
           ≡ counted n (begun past) + length (items_of n (Took item ∷ past)) = omega arith in goal
     ]
-
--- of a past that begins with nodes these are the items alone
-ended-none : (n : ℕ) (items : List Item) → ended_by n items [] ≡ have_ended items
-ended-none n [] = refl
-ended-none n (item ∷ items) = refl
-
-pub started-retired : (past : List Step) (n : ℕ) → IsLegal past → begun past ≡ []
-    → retired n past ≡ have_ended (items_of n past)
-started-retired past n legal none =
-    retired-by past n legal ∙ ap (ended_by n (items_of n past)) none ∙ ended-none n (items_of n past)
-
-pub started-count : (past : List Step) (n : ℕ) → IsLegal past → begun past ≡ []
-    → count n past ≡ length (items_of n past)
-started-count past n legal none =
-    count-by past n legal ∙ ap (λ start. counted n start + length (items_of n past)) none ∙ (omega arith)
 
 numbered-by : (past : List Step) → IsLegal past
     → numbered past ≡ based (initial_nodes past) (begun past) + length (joins_of past)
