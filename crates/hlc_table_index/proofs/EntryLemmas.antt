@@ -1,12 +1,9 @@
 -- For callers: the entry of a key at a slot of a leaf.
-use Rattle.std.proofs.Common.{◌≡◌, ◌+◌, ◌++◌, ℕ, List, [], Some, get_or, refl}
-use Rattle.std.specs.Prelude.{slice_get}
-use Rattle.std.specs.Map.{lookup, set_value, remove_entry}
+use Rattle.std.proofs.Common.{◌≡◌, ℕ, List, [], Some, get_or, refl, slice_get}
+use Rattle.std.specs.Map.{lookup, set_value}
 use Rattle.std.specs.List.Sorted.{IsStrictlySortedBy}
 use Rattle.hlc_table_index.specs.Entries.{keys_in, key_cmp, is_key, entries_in, with_value_in, IsEntryAt}
-use Rattle.hlc_table_index.specs.Entries.{entries_before, entries_from}
 use Rattle.hlc_table_index.proofs.Values.{valued_is, there_is}
-use Rattle.hlc_table_index.proofs.RemovalLemmas.{removed_is}
 
 module _ {V : Type 0} (leaves : List (List (List ℕ × V))) where
   module _ (key : List ℕ) (at slot : ℕ) (there : IsEntryAt leaves key at slot)
@@ -21,8 +18,3 @@ module _ {V : Type 0} (leaves : List (List (List ℕ × V))) where
     pub entry_written : (v : V)
         → entries_in (with_value_in leaves at slot v) ≡ set_value (is_key key) (entries_in leaves) v
     entry_written v = valued_is leaves at slot there.0 there.1 (entries_in leaves) key v ascend there.2 refl
-
-    -- the entries before it and those after it are all but the entry of the key
-    pub entry_removed : entries_before leaves at slot ++ entries_from leaves at (slot + 1)
-        ≡ remove_entry (is_key key) (entries_in leaves)
-    entry_removed = removed_is leaves at slot key there.0 there.1 there.2 ascend

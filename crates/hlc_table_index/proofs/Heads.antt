@@ -1,20 +1,15 @@
 -- Heads are ordered as the keys: if the heads differ, the first byte that differs is among the bytes of the heads.
 use Rattle.std.proofs.Common.{◌≡◌, ◌≤◌, ◌<◌, ◌+◌, ◌-◌, ◌*◌, ◌^◌, ◌∙◌, ℕ, zero, suc, List, [], ◌∷◌, get_or, length}
-use Rattle.std.proofs.Common.{arith, refl, ap, sym}
-use Rattle.std.proofs.lemmas.Bool.{cases_lt}
-use Rattle.std.proofs.Common.{inl, inr, All, subst, nat_cmp, Less, Greater, Equal}
-use Rattle.std.specs.Cmp.Lexicographic.{slice_cmp}
-use Rattle.std.specs.Ordering.{ordering_then, ordering_reverse}
-use Rattle.std.proofs.lemmas.Bool.Decides.{nat_tests}
-use Rattle.std.specs.Cmp.Lexicographic.{nat_list_cmp_total}
-use Rattle.std.specs.Cmp.Lexicographic.{texts_ties}
-use Rattle.std.specs.Ordering.{is_eq}
-use Rattle.std.proofs.lemmas.Slice.Eq.{bytes_eq-Decides}
-use Rattle.std.proofs.lemmas.List.{get_or-map, length-map, get_or-drop, drop_all, get_or_past}
+use Rattle.std.proofs.Common.{get_or-drop, arith, refl, ap, sym, inl, inr, All, subst, nat_cmp, Less, Greater, Equal}
 use Rattle.std.proofs.Common.{map, drop, ap₂}
-use Rattle.hlc_table_index.specs.Entries.{IsBelowAt, IsAboveAt}
+use Rattle.std.proofs.lemmas.Bool.{cases_lt}
+use Rattle.std.specs.Cmp.Lexicographic.{slice_cmp, nat_list_cmp_total, texts_ties}
+use Rattle.std.specs.Ordering.{ordering_then, ordering_reverse, is_eq}
+use Rattle.std.proofs.lemmas.Bool.Decides.{nat_tests}
+use Rattle.std.proofs.lemmas.Slice.Eq.{bytes_eq-Decides}
+use Rattle.std.proofs.lemmas.List.{get_or-map, length-map, drop_all, get_or_past}
+use Rattle.hlc_table_index.specs.Entries.{IsBelowAt, IsAboveAt, key_cmp, keys_in}
 use Rattle.hlc_table_index.specs.Head.{head_of, head_upto, AreBytes}
-use Rattle.hlc_table_index.specs.Entries.{key_cmp, keys_in}
 
 -- 256 ^ n
 abbrev most : ℕ → ℕ
@@ -194,8 +189,7 @@ same_upto [] [] f = refl
 same_upto [] (y ∷ ys) f = grind (arith, nat_tests)
 same_upto (x ∷ xs) [] f = grind (arith, nat_tests)
 same_upto (x ∷ xs) (y ∷ ys) f =
-    ap (λ o. ordering_then o (slice_cmp nat_cmp xs ys)) (is_equal x y (f 0))
-    ∙ same_upto xs ys (λ i. f (suc i))
+    ap (λ o. ordering_then o (slice_cmp nat_cmp xs ys)) (is_equal x y (f 0)) ∙ same_upto xs ys (λ i. f (suc i))
     ∙ grind (arith, nat_tests)
 
 -- keys that are no longer than a head compare by their heads and then by their lengths

@@ -1,12 +1,11 @@
 -- The entries of leaves, one leaf after another: one more entry in a leaf, and a leaf split into two.
 use Rattle.std.proofs.Common.{◌≡◌, ◌≤◌, ◌<◌, ◌+◌, ◌-◌, ◌++◌, ◌∷◌, ◌∙◌, ℕ, zero, suc, List, [], get_or, set, length}
-use Rattle.std.proofs.Common.{arith, ap, ap₂, sym, take, drop}
-use Rattle.std.proofs.Common.{append_assoc}
+use Rattle.std.proofs.Common.{drop-set-lt, length-take, take-append-drop, length-append, length-drop, arith, ap, ap₂}
+use Rattle.std.proofs.Common.{sym, take, drop, append_assoc}
 use Rattle.std.specs.List.{insert}
 use Rattle.std.proofs.lemmas.List.Concat.{flat_map-append}
-use Rattle.std.proofs.lemmas.List.{set_split, take_more_set, drop-set-lt, get_or_at, set_at, length-take}
-use Rattle.std.proofs.lemmas.List.{take-append-drop, drop_more, take-append-le, drop-append-le, length-append}
-use Rattle.std.proofs.lemmas.List.{length-drop}
+use Rattle.std.proofs.lemmas.List.{set_split, take_more_set, get_or_at, set_at, drop_more, take-append-le}
+use Rattle.std.proofs.lemmas.List.{drop-append-le}
 use Rattle.hlc_table_index.specs.Entries.{entries_in, entries_with}
 
 -- an entry inserted into the first of two lists, or into the second
@@ -32,9 +31,7 @@ module _ {V : Type 0} where
   joined_two : (front : List (List (List ℕ × V))) (x y : List (List ℕ × V)) (back : List (List (List ℕ × V)))
       → entries_in (front ++ x ∷ y ∷ back) ≡ entries_in front ++ (x ++ y) ++ entries_in back
   joined_two front x y back =
-      joined front x (y ∷ back) ∙ append_assoc (entries_in front) x (y ++ entries_in back)
-      ∙ ap (λ zs. entries_in front ++ zs) (sym (append_assoc x y (entries_in back)))
-      ∙ sym (append_assoc (entries_in front) (x ++ y) (entries_in back))
+      flat_map-append (λ (leaf : List (List ℕ × V)). leaf) front (x ∷ y ∷ back) ∙ simp append_assoc
 
   pub joined_set : (ls : List (List (List ℕ × V))) (at : ℕ) (x : List (List ℕ × V)) → at < length ls
       → entries_in (set ls at x) ≡ entries_in (take at ls) ++ x ++ entries_in (drop (at + 1) ls)
@@ -53,8 +50,7 @@ module _ {V : Type 0} where
       (is : now ≡ insert (set ls at (take cut (get_or ls at []))) (at + 1) (drop cut (get_or ls at []))) where
     two : now ≡ take at ls ++ take cut (get_or ls at []) ∷ drop cut (get_or ls at []) ∷ drop (at + 1) ls
     two =
-        is
-        ∙ ap₂ (λ us vs. us ++ drop cut (get_or ls at []) ∷ vs)
+        is ∙ ap₂ (λ us vs. us ++ drop cut (get_or ls at []) ∷ vs)
         (take_more_set ls at (take cut (get_or ls at [])) inside)
         (drop-set-lt (at + 1) ls at (take cut (get_or ls at [])) (omega arith))
         ∙ append_assoc (take at ls) (take cut (get_or ls at []) ∷ []) (drop cut (get_or ls at []) ∷ drop (at + 1) ls)
@@ -67,8 +63,7 @@ module _ {V : Type 0} where
         let e = length-take at ls in
         let f = length-drop (at + 1) ls in
         ap length two ∙ length-append (take at ls) (take cut (get_or ls at []) ∷ drop cut (get_or ls at []) ∷ drop (at +
-        1) ls)
-        ∙ omega (arith, e, f, inside)
+        1) ls) ∙ omega (arith, e, f, inside)
 
     pub front_is : get_or now at [] ≡ take cut (get_or ls at [])
     front_is = ap (λ zs. get_or zs at []) two
@@ -95,8 +90,7 @@ module _ {V : Type 0} where
     pub cut_same : entries_in now ≡ entries_in ls
     cut_same =
         ap entries_in two ∙ joined_two (take at ls) (take cut (get_or ls at [])) (drop cut (get_or ls at [])) (drop (at
-        + 1) ls)
-        ∙ ap (λ m. entries_in (take at ls) ++ m ++ entries_in (drop (at + 1) ls)) whole
+        + 1) ls) ∙ ap (λ m. entries_in (take at ls) ++ m ++ entries_in (drop (at + 1) ls)) whole
         ∙ sym (joined_all ls at inside)
 
     pub cut_front : (slot : ℕ) (e : List ℕ × V) → slot ≤ cut → slot ≤ length (get_or ls at [])
@@ -106,8 +100,7 @@ module _ {V : Type 0} where
         let b : List (List ℕ × V) = drop cut (get_or ls at []) in
         let z : List (List ℕ × V) = insert (get_or now at []) slot e in
         ap (λ zs. entries_in (set zs at z)) two ∙ ap entries_in (set_at (take at ls) a (b ∷ drop (at + 1) ls) z at
-        before)
-        ∙ joined_two (take at ls) z b (drop (at + 1) ls)
+        before) ∙ joined_two (take at ls) z b (drop (at + 1) ls)
         ∙ ap (λ m. entries_in (take at ls) ++ m ++ entries_in (drop (at + 1) ls))
         (ap (λ l. insert l slot e ++ b) front_is
         ∙ insert_front a b slot e (let n = length-take cut (get_or ls at []) in omega (arith, n, le, few))
@@ -121,8 +114,7 @@ module _ {V : Type 0} where
         let z : List (List ℕ × V) = insert (get_or now (at + 1) []) (slot - cut) e in
         ap (λ zs. entries_in (set zs (at + 1) z)) two_after
         ∙ ap entries_in (set_at (take at ls ++ a ∷ []) b (drop (at + 1) ls) z (at + 1) before_after
-        ∙ append_assoc (take at ls) (a ∷ []) (z ∷ drop (at + 1) ls))
-        ∙ joined_two (take at ls) a z (drop (at + 1) ls)
+        ∙ append_assoc (take at ls) (a ∷ []) (z ∷ drop (at + 1) ls)) ∙ joined_two (take at ls) a z (drop (at + 1) ls)
         ∙ ap (λ m. entries_in (take at ls) ++ m ++ entries_in (drop (at + 1) ls))
         (ap (λ l. a ++ insert l (slot - cut) e) back_is
         ∙ insert_back a b slot (slot - cut) e (let n = length-take cut (get_or ls at []) in omega (arith, n, le, few))

@@ -1,18 +1,17 @@
 -- Entries and leaves that are kept, moved to the front in their order.
-use Rattle.std.proofs.Common.{◌≡◌, ◌≤◌, ◌<◌, ◌+◌, ◌++◌, ◌∷◌, ◌∙◌, ℕ, List, [], get_or, set, length, arith}
-use Rattle.std.proofs.Common.{Bool, true, false, cond, refl, ap, ap₂, sym, subst, inl, inr, All, map, filter, take}
-use Rattle.std.proofs.Common.{drop, Less}
-use Rattle.std.specs.List.{swap, SwappedAt, AllByRecursion}
-use Rattle.std.specs.List.Sorted.{IsStrictlySortedBy}
+use Rattle.std.proofs.Common.{set-set, get_or-drop, inl, inr, ◌≡◌, ◌≤◌, ◌<◌, ◌+◌, ◌++◌, ◌∷◌, ◌∙◌, ℕ, List, [], get_or}
+use Rattle.std.proofs.Common.{set, length, arith, drop-set-lt, get_or-set_same, length-set, append-nil, Bool, refl, ap}
+use Rattle.std.proofs.Common.{ap₂, sym, subst, All, map, filter, take, drop}
+use Rattle.std.specs.List.{swap, SwappedAt}
 use Rattle.std.proofs.lemmas.Bool.{cases_order}
-use Rattle.std.proofs.lemmas.List.{map-set, get_or-map, length-map, take-map, set-set, take_more, take_more_set}
-use Rattle.std.proofs.lemmas.List.{take-set-le, drop-set-lt, drop_more, get_or-drop, get_or-set_same, length-set}
-use Rattle.std.proofs.lemmas.List.{append-nil}
+use Rattle.std.proofs.lemmas.List.{drop_more, nil_from_length, map-set, get_or-map, length-map, take-map, take_more}
+use Rattle.std.proofs.lemmas.List.{take_more_set, take-set-le}
 use Rattle.std.proofs.lemmas.List.Concat.{flat_map-append}
 use Rattle.std.proofs.lemmas.List.Elements.{All-from_recursion, recursion_from_All, filter-append}
 use Rattle.hlc_table_index.specs.Head.{head_of, AreBytes}
-use Rattle.hlc_table_index.specs.Entries.{keys_in, key_cmp, entries_in, first_key}
+use Rattle.hlc_table_index.specs.Entries.{keys_in, entries_in, first_key}
 use Rattle.hlc_table_index.proofs.LeafLemmas.{IsLeaf}
+use Rattle.hlc_table_index.proofs.SlotLemmas.{all_kept}
 use Rattle.hlc_table_index.proofs.Tops.{AreLeaves, leaves_push}
 
 pub map-swap : {X Y : Type 0} (f : X → Y) (xs : List X) (a b : ℕ) → a < length xs → b < length xs
@@ -31,29 +30,9 @@ module _ {V : Type 0} where
       → more ≡ map head_of (keys_in now)
   heads_swap heads es more now a b inv la lb e f =
       let long = length-map es (λ (e : List ℕ × V). e.0) in
-      e ∙ ap (λ (hs : List ℕ). swap hs a b) inv
-      ∙ sym (ap (λ (l : List (List ℕ × V)). map head_of (keys_in l)) f
+      e ∙ ap (λ (hs : List ℕ). swap hs a b) inv ∙ sym (ap (λ (l : List (List ℕ × V)). map head_of (keys_in l)) f
       ∙ ap (map head_of) (map-swap (λ (e : List ℕ × V). e.0) es a b la lb)
       ∙ map-swap head_of (keys_in es) a b (omega (arith, la, long)) (omega (arith, lb, long)))
-
-  all_kept : (P : List ℕ → Type 0) (p : List ℕ × V → Bool) (es : List (List ℕ × V)) → AllByRecursion P (keys_in es)
-      → AllByRecursion P (keys_in (filter p es))
-  all_kept P p [] all = tt
-  all_kept P p (e ∷ es) all =
-      elim (p e) as (λ b. AllByRecursion P (keys_in (cond b (e ∷ filter p es) (filter p es)))) [
-        | true ↦ (all.0, all_kept P p es all.1)
-        | false ↦ all_kept P p es all.1
-      ]
-
-  pub ascend_kept : (p : List ℕ × V → Bool) (es : List (List ℕ × V)) → IsStrictlySortedBy key_cmp (keys_in es)
-      → IsStrictlySortedBy key_cmp (keys_in (filter p es))
-  unfolding IsStrictlySortedBy
-  ascend_kept p [] up = tt
-  ascend_kept p (e ∷ es) up =
-      elim (p e) as (λ b. IsStrictlySortedBy key_cmp (keys_in (cond b (e ∷ filter p es) (filter p es)))) [
-        | true ↦ (all_kept (λ k. key_cmp e.0 k ≡ Less) p es up.0, ascend_kept p es up.1)
-        | false ↦ ascend_kept p es up.1
-      ]
 
   -- the keys of some of the entries are some of the keys
   bytes_kept : (p : List ℕ × V → Bool) (es : List (List ℕ × V)) → All AreBytes (keys_in es)
@@ -113,8 +92,7 @@ module _ {V : Type 0} (p : List ℕ × V → Bool) (xs ys : List (List (List ℕ
   front_more i leaf lt read =
       ap (λ ls. filter p (entries_in ls)) (take_more xs i leaf lt ∙ ap (λ l. take i xs ++ l ∷ []) (sym read))
       ∙ ap (filter p) (flat_map-append (λ (l : List (List ℕ × V)). l) (take i xs) (leaf ∷ [])
-      ∙ ap (λ l. entries_in (take i xs) ++ l) (append-nil leaf))
-      ∙ filter-append p (entries_in (take i xs)) leaf
+      ∙ ap (λ l. entries_in (take i xs) ++ l) (append-nil leaf)) ∙ filter-append p (entries_in (take i xs)) leaf
 
   module _ (tops : List ℕ) (k i : ℕ) (leaf now : List (List ℕ × V)) (keeps : KeepsInPlace p xs ys tops k i)
       (lt : i < length ys) (read : leaf ≡ get_or ys i leaf) (is : now ≡ filter p leaf) where
@@ -124,8 +102,8 @@ module _ {V : Type 0} (p : List ℕ × V → Bool) (xs ys : List (List (List ℕ
         ∙ ap (λ l. get_or l 0 leaf) keeps.rest ∙ get_or-drop i xs 0 leaf
         ∙ ap (λ n. get_or xs n leaf) (let e : i + 0 ≡ i = omega arith in e)
 
-    rest_more : drop (i + 1) (set ys i now) ≡ drop (i + 1) xs
-    rest_more =
+    rest_now : drop (i + 1) (set ys i now) ≡ drop (i + 1) xs
+    rest_now =
         let m = keeps.long in
         drop-set-lt (i + 1) ys i now (omega arith)
         ∙ ap (drop 1) (sym (drop_more ys i leaf lt) ∙ keeps.rest ∙ drop_more xs i leaf (omega (arith, lt, m)))
@@ -141,23 +119,18 @@ module _ {V : Type 0} (p : List ℕ × V → Bool) (xs ys : List (List (List ℕ
         let same : take k (set ys i now) ≡ take k ys = take-set-le k ys i now keeps.beyond in
         record {
           leaves = subst (AreLeaves (take k tops)) (sym same) keeps.leaves;
-          front = ap entries_in same ∙ sym (gained ∙ ap (λ l. entries_in (take k ys) ++ l) (nil now none)
+          front = ap entries_in same ∙ sym (gained ∙ ap (λ l. entries_in (take k ys) ++ l) (nil_from_length now none)
               ∙ append-nil (entries_in (take k ys)));
-          rest = rest_more;
+          rest = rest_now;
           beyond = let b = keeps.beyond in omega (arith, b);
           within = omega (arith, lt, m);
           long = length-set ys i now ∙ m;
           wide = keeps.wide;
         }
-      where
-        nil : (l : List (List ℕ × V)) → length l ≡ 0 → l ≡ []
-        nil [] e = refl
-        nil (x ∷ l) e = absurd (omega (arith, e))
 
     pub keeps_yes : (h : ℕ) (more : List ℕ) (zs : List (List (List ℕ × V))) → 0 < length now
         → All AreBytes (keys_in now) → h ≡ head_of (first_key now) → more ≡ set tops k h
-        → SwappedAt (set ys i now) zs k i
-        → KeepsInPlace p xs zs more (k + 1) (i + 1)
+        → SwappedAt (set ys i now) zs k i → KeepsInPlace p xs zs more (k + 1) (i + 1)
     keeps_yes h more zs some bytes head e s =
         let m = keeps.long in
         let n = keeps.wide in
@@ -174,7 +147,7 @@ module _ {V : Type 0} (p : List ℕ × V → Bool) (xs ys : List (List (List ℕ
               (ap (take (k + 1)) e ∙ take_more_set tops k h (omega (arith, b, lt, m, n))) front;
           front = ap entries_in front ∙ flat_map-append (λ (l : List (List ℕ × V)). l) (take k ys) (now ∷ [])
               ∙ ap (λ l. entries_in (take k ys) ++ l) (append-nil now) ∙ sym gained;
-          rest = swapped_rest (set ys i now) zs k i now b s ∙ rest_more;
+          rest = swapped_rest (set ys i now) zs k i now b s ∙ rest_now;
           beyond = omega (arith, b);
           within = omega (arith, lt, m);
           long = ap length (s.3 now) ∙ length-set (set (set ys i now) k (get_or (set ys i now) i now)) i

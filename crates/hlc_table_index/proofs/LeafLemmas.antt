@@ -1,10 +1,9 @@
 -- What is true of a leaf's heads and keys after entries are added or removed.
-use Rattle.std.proofs.Common.{◌≡◌, ◌<◌, ◌++◌, ◌∷◌, ◌∙◌, ℕ, zero, suc, List, [], ap, ap₂, refl, sym, subst, arith, All}
-use Rattle.std.proofs.Common.{map, take, drop}
-use Rattle.std.proofs.Common.{length, get_or, set, Some}
-use Rattle.std.specs.Prelude.{slice_get}
+use Rattle.std.proofs.Common.{◌≡◌, ◌<◌, ◌++◌, ◌∷◌, ◌∙◌, ℕ, zero, suc, List, [], ap, ap₂, refl, sym, subst, All}
+use Rattle.std.proofs.Common.{slice_get, map, take, drop, length, get_or, set, Some}
 use Rattle.std.specs.List.{insert}
-use Rattle.std.proofs.lemmas.List.{map-append, take-map, drop-map}
+use Rattle.std.proofs.lemmas.Option.{slice_get-get_or}
+use Rattle.std.proofs.lemmas.List.{get_or-map, map-append, take-map, drop-map}
 use Rattle.std.proofs.lemmas.List.Elements.{All-append, All-take, All-drop, All-cons}
 use Rattle.hlc_table_index.specs.Head.{head_of, AreBytes}
 use Rattle.hlc_table_index.specs.Entries.{keys_in, with_value}
@@ -19,14 +18,13 @@ heads_insert ks n k =
     map-append head_of (take n ks) (k ∷ drop n ks)
     ∙ ap₂ (λ xs ys. xs ++ head_of k ∷ ys) (sym (take-map head_of n ks)) (sym (drop-map head_of n ks))
 
-pub all_insert : (ks : List (List ℕ)) (n : ℕ) (k : List ℕ) → All AreBytes ks → AreBytes k → All AreBytes (insert ks n k)
-all_insert ks n k all one =
-    All-append AreBytes (take n ks) (k ∷ drop n ks) (All-take AreBytes n ks all) (All-cons AreBytes k (drop n ks) one
-    (All-drop AreBytes n ks all))
+pub all_insert : {X : Type 0} (P : X → Type 0) (xs : List X) (n : ℕ) (x : X) → All P xs → P x → All P (insert xs n x)
+all_insert P xs n x all one =
+    All-append P (take n xs) (x ∷ drop n xs) (All-take P n xs all)
+    (All-cons P x (drop n xs) one (All-drop P n xs all))
 
 module _ {V : Type 0} where
-  keys_insert : (es : List (List ℕ × V)) (n : ℕ) (e : List ℕ × V)
-      → keys_in (insert es n e) ≡ insert (keys_in es) n e.0
+  keys_insert : (es : List (List ℕ × V)) (n : ℕ) (e : List ℕ × V) → keys_in (insert es n e) ≡ insert (keys_in es) n e.0
   keys_insert es n e =
       map-append (λ (e : List ℕ × V). e.0) (take n es) (e ∷ drop n es)
       ∙ ap₂ (λ xs ys. xs ++ e.0 ∷ ys) (sym (take-map (λ (e : List ℕ × V). e.0) n es)) (sym (drop-map (λ (e : List ℕ ×
@@ -35,34 +33,22 @@ module _ {V : Type 0} where
   pub leaf_insert : (heads : List ℕ) (es : List (List ℕ × V)) (more : List ℕ) (now : List (List ℕ × V)) (n : ℕ) (key :
       List ℕ)
       (v : V) (h : ℕ) → IsLeaf heads es → h ≡ head_of key → AreBytes key → more ≡ insert heads n h → now ≡ insert es n
-      (key, v)
-      → IsLeaf more now
+      (key, v) → IsLeaf more now
   leaf_insert heads es more now n key v h inv is bytes e f =
-      subst (λ hs. IsLeaf hs now) (sym e) (subst (IsLeaf (insert heads n h)) (sym f) (
-        ap₂ (λ hs k. insert hs n k) inv.0 is ∙ sym (heads_insert (keys_in es) n key) ∙ ap (map head_of) (sym
-            (keys_insert es n (key, v))),
-        subst (All AreBytes) (sym (keys_insert es n (key, v))) (all_insert (keys_in es) n key inv.1 bytes),
-      ))
+      rw (e, f, is, inv.0, keys_insert es n (key, v), heads_insert (keys_in es) n key)
+      (refl, all_insert AreBytes (keys_in es) n key inv.1 bytes)
 
   pub leaf_take : (heads : List ℕ) (es : List (List ℕ × V)) (less : List ℕ) (now : List (List ℕ × V)) (n : ℕ) → IsLeaf
-      heads es
-      → less ≡ take n heads → now ≡ take n es → IsLeaf less now
+      heads es → less ≡ take n heads → now ≡ take n es → IsLeaf less now
   leaf_take heads es less now n inv e f =
-      subst (λ hs. IsLeaf hs now) (sym e) (subst (IsLeaf (take n heads)) (sym f) (
-        ap (take n) inv.0 ∙ take-map head_of n (keys_in es) ∙ ap (map head_of) (take-map (λ (e : List ℕ × V). e.0) n
-            es),
-        subst (All AreBytes) (take-map (λ (e : List ℕ × V). e.0) n es) (All-take AreBytes n (keys_in es) inv.1),
-      ))
+      rw (e, f, inv.0, ← (take-map (λ (e : List ℕ × V). e.0) n es), ← (take-map head_of n (keys_in es)))
+      (refl, All-take AreBytes n (keys_in es) inv.1)
 
   pub leaf_drop : (heads : List ℕ) (es : List (List ℕ × V)) (less : List ℕ) (now : List (List ℕ × V)) (n : ℕ) → IsLeaf
-      heads es
-      → less ≡ drop n heads → now ≡ drop n es → IsLeaf less now
+      heads es → less ≡ drop n heads → now ≡ drop n es → IsLeaf less now
   leaf_drop heads es less now n inv e f =
-      subst (λ hs. IsLeaf hs now) (sym e) (subst (IsLeaf (drop n heads)) (sym f) (
-        ap (drop n) inv.0 ∙ drop-map head_of n (keys_in es) ∙ ap (map head_of) (drop-map (λ (e : List ℕ × V). e.0) n
-            es),
-        subst (All AreBytes) (drop-map (λ (e : List ℕ × V). e.0) n es) (All-drop AreBytes n (keys_in es) inv.1),
-      ))
+      rw (e, f, inv.0, ← (drop-map (λ (e : List ℕ × V). e.0) n es), ← (drop-map head_of n (keys_in es)))
+      (refl, All-drop AreBytes n (keys_in es) inv.1)
 
   -- another value at a slot does not change the keys
   pub keys_kept : (es : List (List ℕ × V)) (n : ℕ) (e : List ℕ × V) (w : V) → e ≡ get_or es n e
@@ -80,25 +66,16 @@ module _ {V : Type 0} where
 
   pub key_read : (es now : List (List ℕ × V)) (n : ℕ) (e : List ℕ × V) → es ≡ now → n < length now → e ≡ get_or es n e
       → e.0 ≡ get_or (keys_in now) n []
-  key_read es now n e same lt is = go now n lt (is ∙ ap (λ (l : List (List ℕ × V)). get_or l n e) same)
-    where
-      go : (now : List (List ℕ × V)) (n : ℕ) → n < length now → e ≡ get_or now n e → e.0 ≡ get_or (keys_in now) n []
-      go [] n lt is = absurd (omega (arith, lt))
-      go (x ∷ xs) zero lt is = ap (λ (p : List ℕ × V). p.0) is
-      go (x ∷ xs) (suc n) lt is = go xs n (omega (arith, lt)) is
+  key_read es now n e same lt is =
+      ap (λ (p : List ℕ × V). p.0) (is ∙ ap (λ (l : List (List ℕ × V)). get_or l n e) same)
+      ∙ sym (get_or-map (λ (p : List ℕ × V). p.0) now n e [] lt)
 
   pub entry_read : (es now : List (List ℕ × V)) (n : ℕ) (e : List ℕ × V) → es ≡ now → n < length now → e ≡ get_or es n e
       → slice_get now n ≡ Some (get_or (keys_in now) n [], e.1)
-  entry_read es now n e same lt is = go now n lt (is ∙ ap (λ (l : List (List ℕ × V)). get_or l n e) same)
-    where
-      go : (now : List (List ℕ × V)) (n : ℕ) → n < length now → e ≡ get_or now n e → slice_get now n ≡ Some (
-        get_or
-            (keys_in now) n [],
-        e.1,
-      )
-      go [] n lt is = absurd (omega (arith, lt))
-      go (x ∷ xs) zero lt is = ap (λ (p : List ℕ × V). Some (x.0, p.1)) (sym is)
-      go (x ∷ xs) (suc n) lt is = go xs n (omega (arith, lt)) is
+  entry_read es now n e same lt is =
+      slice_get-get_or now n e lt
+      ∙ ap (λ (p : List ℕ × V). Some p) (sym (is ∙ ap (λ (l : List (List ℕ × V)). get_or l n e) same))
+      ∙ ap (λ k. Some (k, e.1)) (key_read es now n e same lt is)
 
   pub keys_with : (es : List (List ℕ × V)) (n : ℕ) (w : V) → keys_in (with_value es n w) ≡ keys_in es
   keys_with [] n w = refl

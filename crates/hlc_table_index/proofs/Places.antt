@@ -1,23 +1,20 @@
 -- From a leaf and a slot to the position in the whole list, and what is known of that position.
-use Rattle.std.proofs.Common.{◌≡◌, ◌≤◌, ◌<◌, ◌+◌, ◌-◌, ◌++◌, ◌∷◌, ◌∙◌, ℕ, List, [], get_or, length, arith}
-use Rattle.std.proofs.Common.{refl, ap, sym, subst, take, drop}
-use Rattle.std.proofs.Common.{Bool, true, false, None, Some, Less, Greater, All, ◌⊎◌}
-use Rattle.std.specs.Prelude.{slice_get}
+use Rattle.std.proofs.Common.{◌≡◌, ◌≤◌, ◌<◌, ◌+◌, ◌-◌, ◌++◌, ◌∷◌, ◌∙◌, ℕ, List, [], get_or, length, arith, slice_get}
+use Rattle.std.proofs.Common.{take_all, length-append, length-drop, refl, ap, sym, subst, take, drop, Bool, true, false}
+use Rattle.std.proofs.Common.{None, Some, Less, Greater, All, ◌⊎◌, inl, inr, ap₂, true≢false, Ok, Err, OnOk, OnErr}
+use Rattle.std.proofs.Common.{Result}
 use Rattle.std.specs.List.{insert}
 use Rattle.std.specs.List.Sorted.{IsStrictlySortedBy}
 use Rattle.std.specs.Map.{lookup}
 use Rattle.std.specs.BTreeMap.{insert_entry}
 use Rattle.std.proofs.lemmas.Bool.{cases_lt}
-use Rattle.std.proofs.Common.{inl, inr, ap₂, true≢false, Ok, Err, OnOk, OnErr, Result}
 use Rattle.std.proofs.lemmas.List.Concat.{flat_map-append}
-use Rattle.std.proofs.lemmas.List.{take_all, drop_all}
-use Rattle.std.proofs.lemmas.List.{length-append, drop_more, get_or-map, length-map, length-drop}
+use Rattle.std.proofs.lemmas.List.{drop_all, drop_more, get_or-map, length-map}
 use Rattle.hlc_table_index.specs.Entries.{keys_in, key_cmp, is_key, IsSlot, IsAboveAt, IsUptoAt, first_key, first_keys}
 use Rattle.hlc_table_index.specs.Entries.{entries_in, entries_with, IsGap}
 use Rattle.hlc_table_index.proofs.Joined.{joined_all, insert_front, insert_back}
 use Rattle.hlc_table_index.proofs.SlotLemmas.{parts, absent_lookup, inserted_at, found_lookup, ascend_with}
-use Rattle.hlc_table_index.proofs.SlotLemmas.{entry_joined}
-use Rattle.hlc_table_index.proofs.SlotLemmas.{slot_joined}
+use Rattle.hlc_table_index.proofs.SlotLemmas.{entry_joined, slot_joined}
 use Rattle.hlc_table_index.proofs.Heads.{length_keys}
 
 module _ {V : Type 0} where
@@ -29,8 +26,7 @@ module _ {V : Type 0} where
       slot)
 
   pub still_ascend : (es now : List (List ℕ × V)) (key : List ℕ) (v : V) (n : ℕ) → IsStrictlySortedBy key_cmp (keys_in
-      es)
-      → IsSlot (keys_in es) key n false → now ≡ insert es n (key, v) → IsStrictlySortedBy key_cmp (keys_in now)
+      es) → IsSlot (keys_in es) key n false → now ≡ insert es n (key, v) → IsStrictlySortedBy key_cmp (keys_in now)
   still_ascend es now key v n up slot is =
       subst (λ l. IsStrictlySortedBy key_cmp (keys_in l)) (sym is)
       (ascend_with es key v n (let le = slot.0 in let m = length_keys es in omega (arith, le, m)) (parts es key n up
@@ -38,8 +34,7 @@ module _ {V : Type 0} where
 
   -- the entries with one more in a leaf are the whole list with one more at its position
   pub with_is : (ls : List (List (List ℕ × V))) (at slot : ℕ) (e : List ℕ × V) → at < length ls → slot ≤ length (get_or
-      ls at [])
-      → entries_with ls at slot e ≡ insert (entries_in ls) (length (entries_in (take at ls)) + slot) e
+      ls at []) → entries_with ls at slot e ≡ insert (entries_in ls) (length (entries_in (take at ls)) + slot) e
   with_is ls at slot e inside le =
       ap (λ zs. zs ++ entries_in (drop (at + 1) ls))
       (insert_back (entries_in (take at ls)) (get_or ls at []) (length (entries_in (take at ls)) + slot) slot e refl)
@@ -120,13 +115,11 @@ module _ {V : Type 0} where
         refl in omega (arith, lt, front, long, same, p)))
         (ap (λ l. slice_get l place) whole
         ∙ entry_joined (entries_in (take (count - 1) ls)) (get_or ls (count - 1) []) (entries_in (drop (count - 1 + 1)
-        ls)) slot lt
-        ∙ is)
+        ls)) slot lt ∙ is)
 
   -- before all leaves
   pub slot_first : (ls : List (List (List ℕ × V))) (key : List ℕ) → All (λ leaf. 0 < length leaf) ls → IsAboveAt
-      (first_keys ls) 0 key
-      → IsSlot (keys_in (entries_in ls)) key 0 false
+      (first_keys ls) 0 key → IsSlot (keys_in (entries_in ls)) key 0 false
   slot_first ls key filled above = (
     omega arith,
     (λ some. absurd (omega (arith, some))),
@@ -204,8 +197,7 @@ module _ {V : Type 0} where
   pub none_first : (ls : List (List (List ℕ × V))) (now : List (List ℕ × V)) (key : List ℕ) (count : ℕ) → All (λ leaf. 0
       < length leaf) ls
       → IsAboveAt (first_keys ls) count key → count ≡ 0 → IsStrictlySortedBy key_cmp (keys_in (entries_in ls)) →
-      entries_in ls ≡ now
-      → None ≡ lookup (is_key key) now
+      entries_in ls ≡ now → None ≡ lookup (is_key key) now
   none_first ls now key count filled above none up view =
       sym (ap (lookup (is_key key)) (sym view) ∙ gap_absent ls key 0 0 up (gap_first ls key count filled above none))
 
@@ -236,14 +228,12 @@ module _ {V : Type 0} where
   -- ---- adding a key
   pub grown : (ls new : List (List (List ℕ × V))) (now : List (List ℕ × V)) (key : List ℕ) (v : V) (n : ℕ)
       → IsStrictlySortedBy key_cmp (keys_in (entries_in ls)) → entries_in ls ≡ now → IsSlot (keys_in (entries_in ls))
-      key n false
-      → entries_in new ≡ insert (entries_in ls) n (key, v) → entries_in new ≡ insert_entry key_cmp now key v
+      key n false → entries_in new ≡ insert (entries_in ls) n (key, v) → entries_in new ≡ insert_entry key_cmp now key v
   grown ls new now key v n up view slot is =
       is ∙ sym (put_at (entries_in ls) key v n up slot) ∙ ap (λ l. insert_entry key_cmp l key v) view
 
   pub grown_ascend : {E : Type 0} (ls new : List (List (List ℕ × V))) (key : List ℕ) (v : V) (n : ℕ) (r : Result (Unit
-      {0}) E)
-      → IsStrictlySortedBy key_cmp (keys_in (entries_in ls)) → IsSlot (keys_in (entries_in ls)) key n false
+      {0}) E) → IsStrictlySortedBy key_cmp (keys_in (entries_in ls)) → IsSlot (keys_in (entries_in ls)) key n false
       → OnOk r (entries_in new ≡ insert (entries_in ls) n (key, v)) → OnErr r (entries_in new ≡ entries_in ls)
       → IsStrictlySortedBy key_cmp (keys_in (entries_in new))
   grown_ascend ls new key v n (Ok u) up slot ok err = still_ascend (entries_in ls) (entries_in new) key v n up slot ok
@@ -286,6 +276,5 @@ module _ {V : Type 0} where
   slot_empty (x ∷ xs) key none = absurd (omega (arith, none))
 
   pub slot_end : (ls : List (List (List ℕ × V))) (key : List ℕ) (n m : ℕ) → n ≡ m → IsSlot (keys_in (entries_in ls)) key
-      n false
-      → IsSlot (keys_in (entries_in ls)) key m false
+      n false → IsSlot (keys_in (entries_in ls)) key m false
   slot_end ls key n m same = subst (λ i. IsSlot (keys_in (entries_in ls)) key i false) same

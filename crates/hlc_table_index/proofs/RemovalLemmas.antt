@@ -1,22 +1,18 @@
 -- One entry removed from a leaf, or the leaf with it.
-use Rattle.std.proofs.Common.{◌≡◌, ◌<◌, ◌+◌, ◌++◌, ◌∷◌, ◌∙◌, ℕ, zero, suc, List, [], ap, ap₂}
-use Rattle.std.proofs.Common.{refl, sym, subst, arith, All}
-use Rattle.std.proofs.Common.{map, take, drop, length, get_or, set, append_assoc, Less, Equal, cond}
-use Rattle.std.specs.Map.{remove_entry}
-use Rattle.std.specs.Ordering.{is_eq}
+use Rattle.std.proofs.Common.{◌≡◌, ◌<◌, ◌+◌, ◌++◌, ◌∷◌, ◌∙◌, ℕ, zero, suc, List, [], ap, ap₂, drop-set-lt}
+use Rattle.std.proofs.Common.{get_or-set_same, append-nil, refl, sym, subst, arith, All, map, take, drop, length}
+use Rattle.std.proofs.Common.{get_or, set, append_assoc, Less}
 use Rattle.std.specs.List.{AllByRecursion}
 use Rattle.std.specs.List.Sorted.{IsStrictlySortedBy}
-use Rattle.std.proofs.lemmas.List.{map-append, take-map, drop-map, take-set-le, drop-set-lt, get_or-set_same}
-use Rattle.std.proofs.lemmas.List.{get_or_read, drop_more, append-nil, get_or-map}
+use Rattle.std.proofs.lemmas.List.{nil_from_length, map-append, take-map, drop-map, take-set-le, get_or_read, drop_more}
 use Rattle.std.proofs.lemmas.List.Concat.{flat_map-append}
 use Rattle.std.proofs.lemmas.List.Elements.{All-append, All-take, All-drop}
 use Rattle.hlc_table_index.specs.Head.{head_of, AreBytes}
-use Rattle.hlc_table_index.specs.Entries.{keys_in, key_cmp, is_key, entries_in, first_key, first_keys}
-use Rattle.hlc_table_index.specs.Entries.{entries_before, entries_from}
+use Rattle.hlc_table_index.specs.Entries.{keys_in, key_cmp, entries_in, first_key, first_keys, entries_before}
+use Rattle.hlc_table_index.specs.Entries.{entries_from}
 use Rattle.hlc_table_index.proofs.LeafLemmas.{IsLeaf}
 use Rattle.hlc_table_index.proofs.Tops.{AreLeaves}
 use Rattle.hlc_table_index.proofs.Joined.{joined_set}
-use Rattle.hlc_table_index.proofs.SlotLemmas.{itself, other}
 use Rattle.hlc_table_index.proofs.Sought.{parted}
 
 -- a list without the member at a position
@@ -45,25 +41,25 @@ module _ {V : Type 0} where
   pub leaf_without : (heads : List ℕ) (es : List (List ℕ × V)) (less : List ℕ) (now : List (List ℕ × V)) (n : ℕ)
       → IsLeaf heads es → less ≡ without heads n → now ≡ without es n → IsLeaf less now
   leaf_without heads es less now n inv e f =
-      subst (λ hs. IsLeaf hs now) (sym e) (subst (IsLeaf (without heads n)) (sym f) (
-        ap (λ (hs : List ℕ). without hs n) inv.0 ∙ sym (without_map head_of (keys_in es) n)
-            ∙ ap (map head_of) (sym (without_map (λ (e : List ℕ × V). e.0) es n)),
-        subst (All AreBytes) (sym (without_map (λ (e : List ℕ × V). e.0) es n))
-            (all_without AreBytes (keys_in es) n inv.1),
-      ))
+      rw (e, f, inv.0, without_map (λ (e : List ℕ × V). e.0) es n, without_map head_of (keys_in es) n)
+      (refl, all_without AreBytes (keys_in es) n inv.1)
 
   -- a leaf that was changed and is then removed
   pub leaves_without : (tops : List ℕ) (leaves : List (List (List ℕ × V))) (less : List ℕ)
       (now : List (List (List ℕ × V))) (at : ℕ) (x : List (List ℕ × V)) → AreLeaves tops leaves
       → less ≡ without tops at → now ≡ without (set leaves at x) at → AreLeaves less now
   leaves_without tops leaves less now at x inv e f =
-      subst (λ ts. AreLeaves ts now) (sym e) (subst (AreLeaves (without tops at)) (sym (f ∙ without_set leaves at x)) (
-        ap (λ (ts : List ℕ). without ts at) inv.0 ∙ sym (without_map head_of (first_keys leaves) at)
-            ∙ ap (map head_of) (sym (without_map first_key leaves at)),
-        subst (All AreBytes) (sym (without_map first_key leaves at))
-            (all_without AreBytes (first_keys leaves) at inv.1),
+      rw (
+        e,
+        f ∙ without_set leaves at x,
+        inv.0,
+        without_map first_key leaves at,
+        without_map head_of (first_keys leaves) at,
+      ) (
+        refl,
+        all_without AreBytes (first_keys leaves) at inv.1,
         all_without (λ (leaf : List (List ℕ × V)). 0 < length leaf) leaves at inv.2,
-      ))
+      )
 
   first_without : (leaf : List (List ℕ × V)) (slot : ℕ) → 0 < slot → 0 < length leaf
       → first_key (without leaf slot) ≡ first_key leaf
@@ -87,21 +83,14 @@ module _ {V : Type 0} where
     pub first_stays : All (λ leaf. 0 < length leaf) leaves → (slot ≡ 0 → ⊥)
         → first_key x ≡ first_key (get_or leaves at [])
     first_stays filled some =
-        ap first_key is
-        ∙ first_without leaf slot (omega (arith, some))
+        ap first_key is ∙ first_without leaf slot (omega (arith, some))
         (subst (λ (l : List (List ℕ × V)). 0 < length l) (sym own) (filled at [] at_inside)) ∙ ap first_key own
 
-    pub entries_removed : entries_in (set leaves at x)
-        ≡ entries_before now at slot ++ entries_from now at (slot + 1)
+    pub entries_removed : entries_in (set leaves at x) ≡ entries_before now at slot ++ entries_from now at (slot + 1)
     entries_removed =
-        let a : List (List ℕ × V) = entries_in (take at leaves) in
-        let b : List (List ℕ × V) = take slot (get_or leaves at []) in
-        let c : List (List ℕ × V) = drop (slot + 1) (get_or leaves at []) in
-        let d : List (List ℕ × V) = entries_in (drop (at + 1) leaves) in
         joined_set leaves at x at_inside
-        ∙ ap (λ m. a ++ m ++ d) (is ∙ ap (λ (l : List (List ℕ × V)). without l slot) own)
-        ∙ ap (λ m. m ++ d) (sym (append_assoc a b c))
-        ∙ append_assoc (a ++ b) c d
+        ∙ ap (λ m. entries_in (take at leaves) ++ m ++ entries_in (drop (at + 1) leaves))
+        (is ∙ ap (λ (l : List (List ℕ × V)). without l slot) own) ∙ (simp append_assoc)
         ∙ ap (λ (ls : List (List (List ℕ × V))). entries_before ls at slot ++ entries_from ls at (slot + 1)) view
 
     -- nothing is left of the leaf
@@ -112,13 +101,8 @@ module _ {V : Type 0} where
         let d : List (List ℕ × V) = entries_in (drop (at + 1) leaves) in
         ap entries_in (e ∙ without_set leaves at x)
         ∙ flat_map-append (λ (l : List (List ℕ × V)). l) (take at leaves) (drop (at + 1) leaves)
-        ∙ ap (λ m. m ++ d) (sym (append-nil a))
-        ∙ ap (λ m. a ++ m ++ d) (sym (nil x none))
+        ∙ ap (λ m. m ++ d) (sym (append-nil a)) ∙ ap (λ m. a ++ m ++ d) (sym (nil_from_length x none))
         ∙ sym (joined_set leaves at x at_inside) ∙ entries_removed
-      where
-        nil : (l : List (List ℕ × V)) → length l ≡ 0 → l ≡ []
-        nil [] e = refl
-        nil (y ∷ l) e = absurd (omega (arith, e))
 
   -- the entry at a slot stands between those before it and those after it
   pub parted_at : (ls : List (List (List ℕ × V))) (at slot : ℕ) (d : List ℕ × V) → at < length ls
@@ -158,29 +142,3 @@ module _ {V : Type 0} where
       → AllByRecursion P (keys_in (front ++ e ∷ back)) → P e.0
   middle P [] e back all = all.0
   middle P (x ∷ xs) e back all = middle P xs e back all.1
-
-  others_are : (front : List (List ℕ × V)) (e : List ℕ × V) (back : List (List ℕ × V)) (key : List ℕ)
-      → IsStrictlySortedBy key_cmp (keys_in (front ++ e ∷ back)) → e.0 ≡ key
-      → front ++ back ≡ remove_entry (is_key key) (front ++ e ∷ back)
-  unfolding IsStrictlySortedBy
-  others_are [] e back key up is =
-      sym (ap (λ o. cond (is_eq o) back (e ∷ remove_entry (is_key key) back))
-      (subst (λ k. key_cmp key k ≡ Equal) (sym is) (itself key)))
-  others_are (x ∷ xs) e back key up is =
-      ap (λ l. x ∷ l) (others_are xs e back key up.1 is)
-      ∙ sym (ap (λ o. cond (is_eq o) (xs ++ e ∷ back) (x ∷ remove_entry (is_key key) (xs ++ e ∷ back)))
-      (other x.0 key (subst (λ k. key_cmp x.0 k ≡ Less) is (middle (λ k. key_cmp x.0 k ≡ Less) xs e back up.0))))
-
-  -- the entries without the one of a key
-  pub removed_is : (ls : List (List (List ℕ × V))) (at slot : ℕ) (key : List ℕ) → at < length ls
-      → slot < length (get_or ls at []) → get_or (keys_in (get_or ls at [])) slot [] ≡ key
-      → IsStrictlySortedBy key_cmp (keys_in (entries_in ls))
-      → entries_before ls at slot ++ entries_from ls at (slot + 1) ≡ remove_entry (is_key key) (entries_in ls)
-  removed_is ls at slot key inside lt is up =
-      let leaf : List (List ℕ × V) = get_or ls at [] in
-      let d : List ℕ × V = member (get_or ls at []) slot lt in
-      let whole = parted_at ls at slot d inside lt in
-      others_are (entries_before ls at slot) (get_or leaf slot d) (entries_from ls at (slot + 1)) key
-      (subst (λ (es : List (List ℕ × V)). IsStrictlySortedBy key_cmp (keys_in es)) whole up)
-      (sym (get_or-map (λ (e : List ℕ × V). e.0) leaf slot d [] lt) ∙ is)
-      ∙ ap (remove_entry (is_key key)) (sym whole)

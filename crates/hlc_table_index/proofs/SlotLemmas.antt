@@ -1,20 +1,17 @@
 -- The position of a key among ascending keys determines the result of its look-up and the position of a new entry.
-use Rattle.std.proofs.Common.{◌≡◌, ◌≤◌, ◌<◌, ◌+◌, ◌-◌, ◌++◌, ◌∷◌, ◌∙◌, ℕ, zero, suc, List, [], get_or, length, arith}
-use Rattle.std.proofs.Common.{refl, ap, sym, subst}
-use Rattle.std.specs.Prelude.{slice_get}
-use Rattle.std.specs.Ordering.{ordering_then}
+use Rattle.std.proofs.Common.{Bool, filter, ◌≡◌, ◌≤◌, ◌<◌, ◌+◌, ◌-◌, ◌++◌, ◌∷◌, ◌∙◌, ℕ, zero, suc, List, [], get_or}
+use Rattle.std.proofs.Common.{length, arith, slice_get, length-append, refl, ap, sym, subst, unwrap_or, false, cond}
+use Rattle.std.proofs.Common.{None, Some, Less, Equal, Greater, nat_cmp, inl, inr}
+use Rattle.std.specs.Ordering.{ordering_then, is_eq, ordering_reverse, match_ordering}
 use Rattle.hlc_table_index.proofs.Heads.{is_equal, length_keys}
-use Rattle.std.proofs.Common.{unwrap_or}
-use Rattle.std.proofs.Common.{false, cond, None, Some, Less, Equal, Greater, nat_cmp, inl, inr}
 use Rattle.std.specs.List.{insert, AllByRecursion}
 use Rattle.std.specs.List.Sorted.{IsStrictlySortedBy}
 use Rattle.std.specs.Map.{lookup}
 use Rattle.std.specs.BTreeMap.{insert_entry}
-use Rattle.std.specs.Ordering.{is_eq, ordering_reverse, match_ordering}
 use Rattle.std.specs.Cmp.Lexicographic.{slice_cmp, nat_list_cmp_total}
 use Rattle.std.proofs.lemmas.Map.Keys.{Less-from_sorted, sorted_tail}
-use Rattle.std.proofs.lemmas.Bool.{cases_lt}
-use Rattle.std.proofs.lemmas.List.{length-map, length-append, map-append, get_or_append_left}
+use Rattle.std.proofs.lemmas.Bool.{cases_lt, cond_both}
+use Rattle.std.proofs.lemmas.List.{length-map, map-append, get_or_append_left}
 use Rattle.hlc_table_index.specs.Entries.{keys_in, key_cmp, is_key, IsSlot, first_key}
 
 pub other : (a b : List ℕ) → key_cmp a b ≡ Less → key_cmp b a ≡ Greater
@@ -120,8 +117,7 @@ module _ {V : Type 0} where
 
   -- with a new key at its slot the keys still ascend
   all_with : (P : List ℕ → Type 0) (es : List (List ℕ × V)) (n : ℕ) (e : List ℕ × V) → AllByRecursion P (keys_in es) → P
-      e.0
-      → AllByRecursion P (keys_in (insert es n e))
+      e.0 → AllByRecursion P (keys_in (insert es n e))
   all_with P [] zero e all one = (one, tt)
   all_with P [] (suc n) e all one = (one, tt)
   all_with P (x ∷ xs) zero e all one = (one, all)
@@ -140,6 +136,22 @@ module _ {V : Type 0} where
     ascend_with es key v n (omega (arith, le)) (tail_front e es key n p) up.1,
   )
 
+  -- the keys of some of the entries are some of the keys, and still ascend
+  pub all_kept : (P : List ℕ → Type 0) (p : List ℕ × V → Bool) (es : List (List ℕ × V)) → AllByRecursion P (keys_in es)
+      → AllByRecursion P (keys_in (filter p es))
+  all_kept P p [] all = tt
+  all_kept P p (e ∷ es) all =
+      cond_both (p e) (e ∷ filter p es) (filter p es) (λ l. AllByRecursion P (keys_in l))
+      (λ t. (all.0, all_kept P p es all.1)) (λ f. all_kept P p es all.1)
+
+  pub ascend_kept : (p : List ℕ × V → Bool) (es : List (List ℕ × V)) → IsStrictlySortedBy key_cmp (keys_in es)
+      → IsStrictlySortedBy key_cmp (keys_in (filter p es))
+  unfolding IsStrictlySortedBy
+  ascend_kept p [] up = tt
+  ascend_kept p (e ∷ es) up =
+      cond_both (p e) (e ∷ filter p es) (filter p es) (λ l. IsStrictlySortedBy key_cmp (keys_in l))
+      (λ t. (all_kept (λ k. key_cmp e.0 k ≡ Less) p es up.0, ascend_kept p es up.1)) (λ f. ascend_kept p es up.1)
+
   -- from a leaf's slot to the whole list
   pub keys_joined : (front leaf back : List (List ℕ × V)) (i : ℕ) → i < length leaf
       → get_or (keys_in (front ++ leaf ++ back)) (length front + i) [] ≡ get_or (keys_in leaf) i []
@@ -149,8 +161,7 @@ module _ {V : Type 0} where
       ∙ ap (λ m. get_or (keys_in leaf) m []) (let e : 0 + i ≡ i = omega arith in e)
   keys_joined (x ∷ xs) leaf back i lt =
       ap (λ m. get_or (keys_in (x ∷ (xs ++ leaf ++ back))) m []) (let e : length (x ∷ xs) + i ≡ suc (length xs + i) =
-      omega arith in e)
-      ∙ keys_joined xs leaf back i lt
+      omega arith in e) ∙ keys_joined xs leaf back i lt
 
   pub entry_joined : (front leaf back : List (List ℕ × V)) (i : ℕ) → i < length leaf
       → slice_get (front ++ leaf ++ back) (length front + i) ≡ slice_get leaf i
@@ -164,8 +175,7 @@ module _ {V : Type 0} where
       entry_front (y ∷ ys) back (suc i) lt = entry_front ys back i (omega (arith, lt))
   entry_joined (x ∷ xs) leaf back i lt =
       ap (λ m. slice_get (x ∷ (xs ++ leaf ++ back)) m) (let e : length (x ∷ xs) + i ≡ suc (length xs + i) = omega arith
-      in e)
-      ∙ entry_joined xs leaf back i lt
+      in e) ∙ entry_joined xs leaf back i lt
 
   first_back : (front back : List (List ℕ × V)) (n : ℕ) → n ≡ length front → 0 < length back
       → get_or (keys_in (front ++ back)) n [] ≡ first_key back
@@ -177,8 +187,7 @@ module _ {V : Type 0} where
       at_end (x ∷ xs) back = at_end xs back
 
   pub slot_joined : (front leaf back : List (List ℕ × V)) (key : List ℕ) (n : ℕ) → 0 < n → IsSlot (keys_in leaf) key n
-      false
-      → (0 < length back → key_cmp (first_key back) key ≡ Greater)
+      false → (0 < length back → key_cmp (first_key back) key ≡ Greater)
       → IsSlot (keys_in (front ++ leaf ++ back)) key (length front + n) false
   slot_joined front leaf back key n some slot above =
       let long = length_keys (front ++ leaf ++ back) in
@@ -189,8 +198,7 @@ module _ {V : Type 0} where
         omega (arith, long, few, sum, sum', le),
         λ _. subst (λ k. key_cmp k key ≡ Less)
             (sym (ap (λ m. get_or (keys_in (front ++ leaf ++ back)) m []) (let e : length front + n - 1 ≡ length front +
-            (n - 1) = omega (arith, some) in e)
-            ∙ keys_joined front leaf back (n - 1) (omega (arith, some, le, few))))
+            (n - 1) = omega (arith, some) in e) ∙ keys_joined front leaf back (n - 1) (omega (arith, some, le, few))))
             (slot.1 some),
         λ inside. elim (cases_lt n (length leaf)) [
           | inl less ↦ subst (λ k. key_cmp k key ≡ Greater) (sym (keys_joined front leaf back n less)) (slot.2 (omega

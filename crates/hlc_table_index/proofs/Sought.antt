@@ -1,14 +1,13 @@
 -- The position of a key divides the entries: keys ascend, so all entries before it are below the key, and no later one
 -- is.
-use Rattle.std.proofs.Common.{◌≡◌, ◌≢◌, ◌≤◌, ◌<◌, ◌+◌, ◌-◌, ◌++◌, ◌∷◌, ◌∙◌, ℕ, List}
-use Rattle.std.proofs.Common.{[], get_or, length, arith, refl, ap}
-use Rattle.std.proofs.Common.{sym, subst, take, drop, Bool, true, false, All, Less, Equal, Greater, Ordering, inl, inr}
+use Rattle.std.proofs.Common.{◌≡◌, ◌≢◌, ◌≤◌, ◌<◌, ◌+◌, ◌-◌, ◌++◌, ◌∷◌, ◌∙◌, ℕ, List, length-append, length-take}
+use Rattle.std.proofs.Common.{take-append-drop, get_or-append-add, [], get_or, length, arith, refl, ap, sym, subst}
+use Rattle.std.proofs.Common.{take, drop, Bool, true, false, All, Less, Equal, Greater, Ordering, inl, inr}
 use Rattle.std.proofs.Common.{append_assoc}
 use Rattle.std.specs.List.Sorted.{IsStrictlySortedBy}
 use Rattle.std.proofs.lemmas.Map.Keys.{Less-from_sorted}
 use Rattle.std.proofs.lemmas.Bool.{cases_lt}
-use Rattle.std.proofs.lemmas.List.{length-append, length-take, take-append-drop, get_or_append_left, get_or-append-add}
-use Rattle.std.proofs.lemmas.List.{get_or-map}
+use Rattle.std.proofs.lemmas.List.{get_or_append_left, get_or-map}
 use Rattle.hlc_table_index.specs.Entries.{keys_in, key_cmp, IsSlot, IsAboveAt, IsUptoAt, first_keys, entries_in}
 use Rattle.hlc_table_index.specs.Entries.{entries_before, entries_from}
 use Rattle.hlc_table_index.proofs.Heads.{length_keys}
@@ -76,14 +75,8 @@ module _ {V : Type 0} where
   pub parted : (ls : List (List (List ℕ × V))) (at slot : ℕ) → at < length ls
       → entries_in ls ≡ entries_before ls at slot ++ entries_from ls at slot
   parted ls at slot inside =
-      let a : List (List ℕ × V) = entries_in (take at ls) in
-      let b : List (List ℕ × V) = take slot (get_or ls at []) in
-      let c : List (List ℕ × V) = drop slot (get_or ls at []) in
-      let d : List (List ℕ × V) = entries_in (drop (at + 1) ls) in
-      joined_all ls at inside
-      ∙ ap (λ m. a ++ m ++ d) (sym (take-append-drop slot (get_or ls at [])))
-      ∙ ap (λ m. m ++ d) (sym (append_assoc a b c))
-      ∙ append_assoc (a ++ b) c d
+      joined_all ls at inside ∙ ap (λ m. entries_in (take at ls) ++ m ++ entries_in (drop (at + 1) ls))
+      (sym (take-append-drop slot (get_or ls at []))) ∙ simp append_assoc
 
   pub parted_first : (ls : List (List (List ℕ × V))) → entries_in ls ≡ entries_before ls 0 0 ++ entries_from ls 0 0
   parted_first [] = refl

@@ -1,10 +1,11 @@
 -- What is true of the heads of the leaves' first keys after leaves change.
 use Rattle.std.proofs.Common.{◌≡◌, ◌≤◌, ◌<◌, ◌+◌, ◌-◌, length-append, Less, Greater, ◌++◌, ◌∷◌, ◌∙◌, ℕ, zero, suc, List}
-use Rattle.std.proofs.Common.{[], get_or, set, length, arith, refl, ap, ap₂, sym, subst, All, map, take, drop}
+use Rattle.std.proofs.Common.{length-set, length-drop, length-take, get_or-drop, [], get_or, set, length, arith, refl}
+use Rattle.std.proofs.Common.{ap, ap₂, sym, subst, All, map, take, drop}
 use Rattle.std.specs.List.{insert}
-use Rattle.std.proofs.lemmas.List.{length-set, length-map, length-drop, length-take, get_or_read, get_or-drop}
-use Rattle.std.proofs.lemmas.List.{map-append, take-map, drop-map, map-set, map_push, get_or-map, set-get_or}
-use Rattle.std.proofs.lemmas.List.Elements.{All-append, All-take, All-drop, All-cons, All-set, All-push}
+use Rattle.std.proofs.lemmas.List.{length-map, get_or_read, map-append, take-map, drop-map, map-set, map_push}
+use Rattle.std.proofs.lemmas.List.{get_or-map, set-get_or}
+use Rattle.std.proofs.lemmas.List.Elements.{All-set, All-push}
 use Rattle.hlc_table_index.specs.Head.{head_of, AreBytes}
 use Rattle.hlc_table_index.specs.Entries.{keys_in, first_key, first_keys, IsUptoAt, IsAboveAt, with_value}
 use Rattle.hlc_table_index.proofs.Heads.{below_by_head, above_by_head}
@@ -47,17 +48,13 @@ module _ {V : Type 0} where
   pub leaves_set : (tops : List ℕ) (leaves : List (List (List ℕ × V))) (more : List ℕ) (now : List (List (List ℕ × V)))
       (at : ℕ)
       (x : List (List ℕ × V)) (h : ℕ) → AreLeaves tops leaves → 0 < length x → AreBytes (first_key x) → h ≡ head_of
-      (first_key x)
-      → more ≡ set tops at h → now ≡ set leaves at x → AreLeaves more now
+      (first_key x) → more ≡ set tops at h → now ≡ set leaves at x → AreLeaves more now
   leaves_set tops leaves more now at x h inv filled bytes is e f =
-      subst (λ ts. AreLeaves ts now) (sym e) (subst (AreLeaves (set tops at h)) (sym f) (
-        ap₂ (λ ts n. set ts at n) inv.0 is
-            ∙ sym (map-set head_of (first_keys leaves) at (first_key x)) ∙ ap (map head_of) (sym (map-set first_key
-            leaves at x)),
-        subst (All AreBytes) (sym (map-set first_key leaves at x)) (All-set AreBytes (first_keys leaves) at (first_key
-            x) bytes inv.1),
+      rw (e, f, is, inv.0, map-set first_key leaves at x, map-set head_of (first_keys leaves) at (first_key x)) (
+        refl,
+        All-set AreBytes (first_keys leaves) at (first_key x) bytes inv.1,
         All-set (λ leaf. 0 < length leaf) leaves at x filled inv.2,
-      ))
+      )
 
   -- the same, if the first key does not change
   pub leaves_kept : (tops : List ℕ) (leaves : List (List (List ℕ × V))) (now : List (List (List ℕ × V))) (at : ℕ)
@@ -72,24 +69,19 @@ module _ {V : Type 0} where
         arith,
         inside,
         long,
-      ))
-      ∙ ap head_of (key ∙ sym same) in
+      )) ∙ ap head_of (key ∙ sym same) in
       leaves_set tops leaves tops now at x (get_or tops at 0) inv filled
       (subst AreBytes (key ∙ sym same) (inv.1 at [] (omega (arith, inside, long)))) top (sym (set-get_or tops at 0)) f
 
   pub leaves_push : (tops : List ℕ) (leaves : List (List (List ℕ × V))) (more : List ℕ) (now : List (List (List ℕ × V)))
       (x : List (List ℕ × V)) (h : ℕ) → AreLeaves tops leaves → 0 < length x → AreBytes (first_key x) → h ≡ head_of
-      (first_key x)
-      → more ≡ tops ++ h ∷ [] → now ≡ leaves ++ x ∷ [] → AreLeaves more now
+      (first_key x) → more ≡ tops ++ h ∷ [] → now ≡ leaves ++ x ∷ [] → AreLeaves more now
   leaves_push tops leaves more now x h inv filled bytes is e f =
-      subst (λ ts. AreLeaves ts now) (sym e) (subst (AreLeaves (tops ++ h ∷ [])) (sym f) (
-        ap₂ (λ ts n. ts ++ n ∷ []) inv.0 is
-            ∙ sym (map_push head_of (first_keys leaves) (first_key x)) ∙ ap (map head_of) (sym (map_push first_key
-            leaves x)),
-        subst (All AreBytes) (sym (map_push first_key leaves x)) (All-push AreBytes (first_keys leaves) (first_key x)
-            inv.1 bytes),
+      rw (e, f, is, inv.0, map_push first_key leaves x, map_push head_of (first_keys leaves) (first_key x)) (
+        refl,
+        All-push AreBytes (first_keys leaves) (first_key x) inv.1 bytes,
         All-push (λ leaf. 0 < length leaf) leaves x inv.2 filled,
-      ))
+      )
 
   firsts_insert : (leaves : List (List (List ℕ × V))) (n : ℕ) (x : List (List ℕ × V))
       → first_keys (insert leaves n x) ≡ insert (first_keys leaves) n (first_key x)
@@ -100,19 +92,13 @@ module _ {V : Type 0} where
   pub leaves_insert : (tops : List ℕ) (leaves : List (List (List ℕ × V))) (more : List ℕ) (now : List (List (List ℕ ×
       V))) (n : ℕ)
       (x : List (List ℕ × V)) (h : ℕ) → AreLeaves tops leaves → 0 < length x → AreBytes (first_key x) → h ≡ head_of
-      (first_key x)
-      → more ≡ insert tops n h → now ≡ insert leaves n x → AreLeaves more now
+      (first_key x) → more ≡ insert tops n h → now ≡ insert leaves n x → AreLeaves more now
   leaves_insert tops leaves more now n x h inv filled bytes is e f =
-      subst (λ ts. AreLeaves ts now) (sym e) (subst (AreLeaves (insert tops n h)) (sym f) (
-        ap₂ (λ ts m. insert ts n m) inv.0 is ∙ sym (heads_insert (first_keys leaves) n (first_key x))
-            ∙ ap (map head_of) (sym (firsts_insert leaves n x)),
-        subst (All AreBytes) (sym (firsts_insert leaves n x)) (all_insert (first_keys leaves) n (first_key x) inv.1
-            bytes),
-        All-append (λ (leaf : List (List ℕ × V)). 0 < length leaf) (take n leaves) (x ∷ drop n leaves)
-            (All-take (λ (leaf : List (List ℕ × V)). 0 < length leaf) n leaves inv.2)
-            (All-cons (λ (leaf : List (List ℕ × V)). 0 < length leaf) x (drop n leaves) filled
-            (All-drop (λ (leaf : List (List ℕ × V)). 0 < length leaf) n leaves inv.2)),
-      ))
+      rw (e, f, is, inv.0, firsts_insert leaves n x, heads_insert (first_keys leaves) n (first_key x)) (
+        refl,
+        all_insert AreBytes (first_keys leaves) n (first_key x) inv.1 bytes,
+        all_insert (λ (leaf : List (List ℕ × V)). 0 < length leaf) leaves n x inv.2 filled,
+      )
 
   -- an entry inserted into a leaf
   pub put_filled : (leaf now : List (List ℕ × V)) (slot : ℕ) (e : List ℕ × V) → now ≡ insert leaf slot e → 0 < length
@@ -125,10 +111,8 @@ module _ {V : Type 0} where
       sym (first_insert_front leaf e) ∙ ap (λ n. first_key (insert leaf n e)) (sym none) ∙ ap first_key (sym is)
 
   pub put_after : (leaves : List (List (List ℕ × V))) (at : ℕ) (leaf now : List (List ℕ × V)) (slot : ℕ) (e : List ℕ ×
-      V)
-      → All (λ leaf. 0 < length leaf) leaves → at < length leaves → leaf ≡ get_or leaves at leaf → now ≡ insert leaf
-      slot e
-      → (slot ≡ 0 → ⊥) → first_key now ≡ first_key (get_or leaves at [])
+      V) → All (λ leaf. 0 < length leaf) leaves → at < length leaves → leaf ≡ get_or leaves at leaf → now ≡ insert leaf
+      slot e → (slot ≡ 0 → ⊥) → first_key now ≡ first_key (get_or leaves at [])
   put_after leaves at leaf now slot e filled inside read is some =
       let own : leaf ≡ get_or leaves at [] = get_or_read leaves at leaf inside read [] in
       ap first_key is ∙ first_insert_after leaf slot e (omega (arith, some))
@@ -202,8 +186,7 @@ module _ {V : Type 0} where
       ∙ ap (λ (l : List (List (List ℕ × V))). get_or (first_keys l) n []) view
 
   pub leaves_valued : (tops : List ℕ) (leaves : List (List (List ℕ × V))) (at slot : ℕ) (leaf : List (List ℕ × V)) (w :
-      V)
-      → AreLeaves tops leaves → at < length leaves → leaf ≡ get_or leaves at leaf
+      V) → AreLeaves tops leaves → at < length leaves → leaf ≡ get_or leaves at leaf
       → AreLeaves tops (set leaves at (with_value leaf slot w))
   leaves_valued tops leaves at slot leaf w inv inside read =
       let own : leaf ≡ get_or leaves at [] = get_or_read leaves at leaf inside read [] in

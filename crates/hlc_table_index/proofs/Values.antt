@@ -1,29 +1,20 @@
 -- Another value for a key that is there: the one at its position in its leaf.
-use Rattle.std.proofs.Common.{◌≡◌, ◌≤◌, ◌<◌, ◌+◌, ◌-◌, ◌++◌, ◌∷◌, ◌∙◌, ℕ, zero, suc, List, [], get_or, length, arith}
-use Rattle.std.proofs.Common.{refl, ap, sym, subst, take, drop}
-use Rattle.std.proofs.Common.{Bool, true, false, cond, None, Some, Option, IsSome, true≢false, Less, Equal, All}
+use Rattle.std.proofs.Common.{◌≡◌, ◌<◌, ◌+◌, ◌-◌, ◌++◌, ◌∷◌, ◌∙◌, ℕ, zero, suc, List, [], get_or, length, arith}
+use Rattle.std.proofs.Common.{slice_get, length-append, refl, ap, sym, subst, take, drop, Bool, true, false, cond, Some}
+use Rattle.std.proofs.Common.{true≢false, Less, Equal}
 use Rattle.std.specs.List.Sorted.{IsStrictlySortedBy}
-use Rattle.std.specs.Prelude.{slice_get}
 use Rattle.std.specs.Map.{lookup, set_value}
 use Rattle.std.specs.Ordering.{is_eq}
 use Rattle.std.proofs.lemmas.Map.Keys.{Less-from_sorted, sorted_tail}
-use Rattle.std.proofs.lemmas.List.{length-append}
-use Rattle.hlc_table_index.specs.Entries.{keys_in, key_cmp, is_key, IsSlot, IsUptoAt, IsAboveAt, first_keys, entries_in}
-use Rattle.hlc_table_index.specs.Entries.{with_value, with_value_in}
+use Rattle.hlc_table_index.specs.Entries.{keys_in, key_cmp, is_key, IsSlot, entries_in, with_value, with_value_in}
 use Rattle.hlc_table_index.proofs.Heads.{length_keys}
 use Rattle.hlc_table_index.proofs.LeafLemmas.{keys_with}
 use Rattle.hlc_table_index.proofs.Joined.{joined_all, joined_set}
-use Rattle.hlc_table_index.proofs.SlotLemmas.{itself, other, keys_joined, none_some, found_lookup, entry_joined}
-use Rattle.hlc_table_index.proofs.Places.{none_first, none_there}
-
-no_none : {X : Type 0} (o : Option X) → None ≡ o → IsSome o → ⊥
-no_none None e s = true≢false (sym s)
-no_none (Some x) e s = none_some e
+use Rattle.hlc_table_index.proofs.SlotLemmas.{itself, other, keys_joined, found_lookup, entry_joined}
 
 module _ {V : Type 0} where
   set_at : (es : List (List ℕ × V)) (key : List ℕ) (n : ℕ) (w : V) → IsStrictlySortedBy key_cmp (keys_in es) → n <
-      length es
-      → get_or (keys_in es) n [] ≡ key → with_value es n w ≡ set_value (is_key key) es w
+      length es → get_or (keys_in es) n [] ≡ key → with_value es n w ≡ set_value (is_key key) es w
   set_at [] key n w up lt is = absurd (omega (arith, lt))
   set_at (e ∷ es) key zero w up lt is =
       sym (ap (λ o. cond (is_eq o) ((e.0, w) ∷ es) (e ∷ set_value (is_key key) es w))
@@ -48,8 +39,7 @@ module _ {V : Type 0} where
       ap (λ m. with_value (leaf ++ back) m w) (let e : 0 + i ≡ i = omega arith in e) ∙ value_back leaf back i w lt
   value_joined (x ∷ xs) leaf back i w lt =
       ap (λ m. with_value (x ∷ (xs ++ leaf ++ back)) m w) (let e : length (x ∷ xs) + i ≡ suc (length xs + i) = omega
-      arith in e)
-      ∙ ap (λ l. x ∷ l) (value_joined xs leaf back i w lt)
+      arith in e) ∙ ap (λ l. x ∷ l) (value_joined xs leaf back i w lt)
 
   -- the position of a slot among all entries
   module _ (ls : List (List (List ℕ × V))) (at slot : ℕ) (inside : at < length ls) (lt : slot < length (get_or ls at
@@ -69,8 +59,7 @@ module _ {V : Type 0} where
         w))
 
     pub valued_is : (now : List (List ℕ × V)) (key : List ℕ) (w : V) → IsStrictlySortedBy key_cmp (keys_in (entries_in
-        ls))
-        → get_or (keys_in (get_or ls at [])) slot [] ≡ key → entries_in ls ≡ now
+        ls)) → get_or (keys_in (get_or ls at [])) slot [] ≡ key → entries_in ls ≡ now
         → entries_in (with_value_in ls at slot w) ≡ set_value (is_key key) now w
     valued_is now key w up is view =
         let front = length-append (entries_in (take at ls)) (get_or ls at []) in
@@ -84,45 +73,18 @@ module _ {V : Type 0} where
         ∙ ap (λ l. set_value (is_key key) l w) view
 
     pub there_is : (now : List (List ℕ × V)) (key : List ℕ) (v : V) → IsStrictlySortedBy key_cmp (keys_in (entries_in
-        ls))
-        → get_or (keys_in (get_or ls at [])) slot [] ≡ key → entries_in ls ≡ now
+        ls)) → get_or (keys_in (get_or ls at [])) slot [] ≡ key → entries_in ls ≡ now
         → slice_get (get_or ls at []) slot ≡ Some (get_or (keys_in (get_or ls at [])) slot [], v) → lookup (is_key key)
         now ≡ Some v
     there_is now key v up is view read =
         let front = length-append (entries_in (take at ls)) (get_or ls at []) in
         let long = length-append (entries_in (take at ls) ++ get_or ls at []) (entries_in (drop (at + 1) ls)) in
         let same = ap length (joined_all ls at inside) in
-        ap (lookup (is_key key)) (sym view)
-        ∙ found_lookup (entries_in ls) key v place up
+        ap (lookup (is_key key)) (sym view) ∙ found_lookup (entries_in ls) key v place up
         (let p : place ≡ length (entries_in (take at ls)) + slot = refl in omega (arith, lt, front, long, same, p))
         (ap (λ (l : List (List ℕ × V)). slice_get l place) (joined_all ls at inside)
         ∙ entry_joined (entries_in (take at ls)) (get_or ls at []) (entries_in (drop (at + 1) ls)) slot lt
         ∙ read ∙ ap (λ k. Some (k, v)) is)
-
-  -- a key that is there is not below the first key of some leaf
-  pub some_count : (ls : List (List (List ℕ × V))) (now : List (List ℕ × V)) (key : List ℕ) (count : ℕ) → All (λ leaf. 0
-      < length leaf) ls
-      → IsAboveAt (first_keys ls) count key → IsStrictlySortedBy key_cmp (keys_in (entries_in ls)) → entries_in ls ≡ now
-      → IsSome (lookup (is_key key) now) → 0 < count
-  some_count ls now key zero filled above up view there =
-      absurd (no_none (lookup (is_key key) now) (none_first ls now key 0 filled above refl up view) there)
-  some_count ls now key (suc n) filled above up view there = omega arith
-
-  -- and at a slot of that leaf
-  pub some_slot : (ls : List (List (List ℕ × V))) (now : List (List ℕ × V)) (count slot : ℕ) (key : List ℕ)
-      (leaf : List (List ℕ × V)) (b : Bool) → All (λ leaf. 0 < length leaf) ls
-      → 0 < count → count ≤ length ls → IsUptoAt (first_keys ls) count key → IsAboveAt (first_keys ls) count key
-      → leaf ≡ get_or ls (count - 1) [] → IsSlot (keys_in leaf) key slot b
-      → IsStrictlySortedBy key_cmp (keys_in (entries_in ls)) → entries_in ls ≡ now → IsSome (lookup (is_key key) now)
-      → (slot < length (get_or ls (count - 1) [])) × (get_or (keys_in (get_or ls (count - 1) [])) slot [] ≡ key)
-  some_slot ls now count slot key leaf false filled some inside upto above own is up view there =
-      absurd (no_none (lookup (is_key key) now)
-      (none_there ls now count slot key leaf false filled (λ none. omega (arith, none, some)) inside upto above own is
-      refl up view) there)
-  some_slot ls now count slot key leaf true filled some inside upto above own is up view there = (
-    let lt = is.0 in let m = length_keys leaf in let e = ap length own in omega (arith, lt, m, e),
-    ap (λ (l : List (List ℕ × V)). get_or (keys_in l) slot []) (sym own) ∙ is.1,
-  )
 
   -- the slot that was found has the key
   pub there_slot : (ls : List (List (List ℕ × V))) (count slot : ℕ) (key : List ℕ) (leaf : List (List ℕ × V)) (b : Bool)

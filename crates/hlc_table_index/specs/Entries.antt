@@ -1,7 +1,6 @@
 -- Keys with their values, and the position of a key among them.
 use Rattle.std.specs.Prelude.{◌≡◌, ◌≢◌, ◌-◌, ◌+◌, ◌<◌, ◌≤◌, ℕ, Bool, true, false, List, map, length, slice_index_or, []}
-use Rattle.std.specs.Prelude.{slice_set, flat_map, take, drop, ◌++◌, ◌⊎◌}
-use Rattle.std.specs.Prelude.{Option, None, Some}
+use Rattle.std.specs.Prelude.{slice_set, flat_map, take, drop, ◌++◌, ◌⊎◌, Option, None, Some}
 use Rattle.std.specs.Map.{lookup}
 use Rattle.std.specs.List.{insert}
 use Rattle.std.specs.Ordering.{nat_cmp, is_eq}

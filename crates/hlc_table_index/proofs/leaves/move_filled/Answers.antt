@@ -1,6 +1,5 @@
 -- One more leaf: it still has an entry and moves to the front, or it has none.
-use Rattle.std.proofs.Common.{◌≡◌, ◌<◌, ◌∙◌, All, arith, length, subst, ap, sym, refl, filter}
-use Rattle.std.proofs.lemmas.List.{get_or-set_same}
+use Rattle.std.proofs.Common.{◌≡◌, ◌<◌, ◌∙◌, All, arith, length, subst, ap, sym, refl, filter, get_or-set_same}
 use Rattle.hlc_table_index.specs.Head.{head_of, AreBytes}
 use Rattle.hlc_table_index.specs.Entries.{keys_in, first_key}
 use Rattle.hlc_table_index.proofs.Kept.{keeps_no, keeps_yes}

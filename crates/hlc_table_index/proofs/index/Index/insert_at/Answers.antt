@@ -1,6 +1,6 @@
 -- The new entry goes to its position among all entries, in whatever leaf it is stored.
-use Rattle.std.proofs.Common.{◌≡◌, ◌-◌, ◌+◌, ◌<◌, ◌∙◌, ap, arith, sym, subst, [], false, length, get_or}
-use Rattle.std.proofs.Common.{take, List, ℕ, inl, inr}
+use Rattle.std.proofs.Common.{◌≡◌, ◌-◌, ◌+◌, ◌<◌, ◌∙◌, ap, arith, sym, subst, [], false, length, get_or, take, List, ℕ}
+use Rattle.std.proofs.Common.{inl, inr}
 use Rattle.std.proofs.lemmas.Result.{on_ok_weaker, on_err_weaker}
 use Rattle.hlc_table_index.specs.Entries.{keys_in, entries_in, IsGap, IsSlot}
 use Rattle.hlc_table_index.proofs.Places.{slot_empty, slot_end, grown, grown_ascend, pushed, end_place, with_is}

@@ -2,7 +2,7 @@
 use Rattle.std.specs.List.Sorted.{IsStrictlySortedBy}
 use Rattle.std.proofs.Common.{subst, sym}
 use Rattle.hlc_table_index.specs.Entries.{key_cmp, keys_in, entries_in}
-use Rattle.hlc_table_index.proofs.Kept.{ascend_kept}
+use Rattle.hlc_table_index.proofs.SlotLemmas.{ascend_kept}
 use Rattle.hlc_table_index.proofs.index.Index.keep_filled.Goals as goal
 
 pub invariant_of-self : goal.invariant_of-self

@@ -1,6 +1,5 @@
 -- The heads decide between the keys, and if they are equal, whole keys do.
-use Rattle.std.proofs.Common.{sym, ◌∙◌, ◌≡◌, ◌<◌, arith, subst, length, true}
-use Rattle.std.proofs.Common.{Greater}
+use Rattle.std.proofs.Common.{sym, ◌∙◌, ◌≡◌, ◌<◌, arith, subst, length, true, Greater}
 use Rattle.hlc_table_index.specs.Entries.{keys_in, key_cmp, IsBelowAt}
 use Rattle.hlc_table_index.proofs.Heads.{same_key, as_many, headed_below, headed_above}
 use Rattle.hlc_table_index.proofs.leaf.Leaf.find.Given.{Over}
