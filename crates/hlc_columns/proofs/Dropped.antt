@@ -1,31 +1,26 @@
 -- Rows of a column are dropped: what becomes of the sizes of the columns that have rows.
-use Rattle.std.proofs.Common.{◌≡◌, ℕ, ◌+◌, ◌<◌, ◌≤◌, Bool, true, false, cond, List, [], ◌∷◌, ◌++◌, refl, sym, ap, ap₂}
-use Rattle.std.proofs.Common.{true≢false, ◌∙◌, inl, inr, arith, length, get_or, set, subst, filter, ltb, All}
-use Rattle.std.specs.Prelude.{sum_by}
-use Rattle.std.specs.List.{items_where_true, list_all, AllByRecursion}
-use Rattle.std.proofs.lemmas.Bool.{cases_Bool, lt-ltb, ltb-true}
+use Rattle.std.proofs.Common.{◌≡◌, ℕ, ◌+◌, ◌<◌, Bool, true, false, List, [], ◌∷◌, ◌++◌, refl, sym, ap, ap₂, lt-ltb}
+use Rattle.std.proofs.Common.{ltb-true, true≢false, ◌∙◌, inl, inr, arith, length, get_or, set, subst, filter, ltb, All}
+use Rattle.std.specs.List.{items_where_true, list_all}
+use Rattle.std.proofs.lemmas.Bool.{cases_Bool}
 use Rattle.std.proofs.lemmas.List.{set-get_or}
-use Rattle.std.proofs.lemmas.List.Sums.{sum_by-cons}
-use Rattle.std.proofs.lemmas.List.Elements.{filter-append, recursion_from_All}
-use Rattle.hlc_table_column.specs.Cells.{Cell, cell_bytes}
+use Rattle.std.proofs.lemmas.List.Elements.{filter-append}
+use Rattle.hlc_table_column.specs.Cells.{Cell}
 use Rattle.hlc_table_index.specs.Entries.{entries_before, entries_from, with_value_in}
 use Rattle.hlc_columns.specs.Table.{if_filled, key_at, cells_at}
 use Rattle.hlc_columns.specs.Sizes.{sizes_of, filled_sizes, plus, minus, Fit, IsPart, Sizes}
 use Rattle.hlc_columns.proofs.Kept.{is_filled}
+use Rattle.hlc_columns.proofs.WalkLemmas.{filter_all}
 use Rattle.hlc_columns.proofs.KeptOf.{apart, is_part, minus_is, parted_own, key_there, cells_there, key_now, cells_now}
 use Rattle.hlc_columns.proofs.KeptOf.{entries_now, filled_some}
-use Rattle.hlc_columns.proofs.SizeLemmas.{Entry, equal, fit_less, sum_kept, length_kept}
+use Rattle.hlc_columns.proofs.SizeLemmas.{Entry, equal, fit_less, length_kept, less_one}
 
 -- a column among others, if it has rows
 filled_among : (xs ys : List Entry) (e : Entry)
     → filter is_filled (xs ++ e ∷ ys) ≡ filter is_filled xs ++ (if_filled e ++ filter is_filled ys)
 filled_among xs ys e =
     filter-append is_filled xs (e ∷ ys)
-    ∙ ap (λ l. filter is_filled xs ++ l) (elim (is_filled e) as (λ b.
-    cond b (e ∷ filter is_filled ys) (filter is_filled ys) ≡ cond b (e ∷ []) [] ++ filter is_filled ys) [
-      | true ↦ refl
-      | false ↦ refl
-    ])
+    ∙ ap (λ l. filter is_filled xs ++ l) (elim (cases_Bool (is_filled e)) [ inl t ↦ rw t refl | inr f ↦ rw f refl ])
 
 nothing : (s : Sizes) → s ≡ plus s (sizes_of [])
 nothing s = equal s (plus s (sizes_of [])) (omega arith) (omega arith) (omega arith) (omega arith)
@@ -33,11 +28,10 @@ nothing s = equal s (plus s (sizes_of [])) (omega arith) (omega arith) (omega ar
 -- and its part of the sizes
 filled_apart : (xs ys : List Entry) (e : Entry)
     → sizes_of (xs ++ (if_filled e ++ ys)) ≡ plus (sizes_of (xs ++ ys)) (sizes_of (if_filled e))
-filled_apart xs ys e = elim (is_filled e) as (λ b.
-    sizes_of (xs ++ (cond b (e ∷ []) [] ++ ys)) ≡ plus (sizes_of (xs ++ ys)) (sizes_of (cond b (e ∷ []) []))) [
-      | true ↦ apart xs ys e
-      | false ↦ nothing (sizes_of (xs ++ ys))
-    ]
+filled_apart xs ys e = elim (cases_Bool (is_filled e)) [
+  | inl t ↦ rw t (apart xs ys e)
+  | inr f ↦ rw f (nothing (sizes_of (xs ++ ys)))
+]
 
 -- fewer rows of a column are a part of them
 less : (key : List ℕ) (flags : List Bool) (cells : List Cell)
@@ -47,29 +41,13 @@ less key flags cells =
     elim (cases_Bool (ltb 0 (length kept))) [
       | inl t ↦
           let some = ltb-true 0 (length kept) t in
-          let long = length_kept flags cells in
-          subst (λ es. IsPart (sizes_of es) (sizes_of (if_filled (key, cells))))
-          (sym (filled_some (key, kept) (λ none. omega (arith, some, none))))
-          (subst (λ es. IsPart (sizes_of ((key, kept) ∷ [])) (sizes_of es))
-          (sym (filled_some (key, cells) (λ none. omega (arith, some, long, none))))
-          (record {
-            rows = single (λ (e : Entry). length e.1) long;
-            keys = omega arith;
-            key_bytes = single (λ (e : Entry). length e.0) (omega arith);
-            value_bytes = single (λ (e : Entry). sum_by cell_bytes e.1) (sum_kept cell_bytes flags cells);
-          }))
-      | inr f ↦
-          subst (λ es. IsPart (sizes_of es) (sizes_of (if_filled (key, cells))))
-          (sym (ap (λ b. cond b ((key, kept) ∷ []) []) f))
+          rw (
+            filled_some (key, kept) (λ none. omega arith),
+            filled_some (key, cells) (λ none. omega (arith, length_kept flags cells)),
+          ) (less_one key flags cells)
+      | inr f ↦ rw f
           (record { rows = omega arith; keys = omega arith; key_bytes = omega arith; value_bytes = omega arith })
     ]
-  where
-    single : (f : Entry → ℕ) → f (key, items_where_true flags cells) ≤ f (key, cells)
-        → sum_by f ((key, items_where_true flags cells) ∷ []) ≤ sum_by f ((key, cells) ∷ [])
-    single f le =
-        let a = sum_by-cons f (key, items_where_true flags cells) [] in
-        let b = sum_by-cons f (key, cells) [] in
-        omega (arith, a, b, le)
 
 -- flagged rows of the column at a position are kept
 module _ (ls : List (List Entry)) (at slot : ℕ) (inside : at < length ls) (lt : slot < length (get_or ls at []))
@@ -117,39 +95,28 @@ module _ (ls : List (List Entry)) (at slot : ℕ) (inside : at < length ls) (lt 
     pub dropped_fit : Fit sizes → Fit (plus others after)
     dropped_fit fit =
         let few = less own_key flags (cells_at ls at slot) in
-        let a = few.rows in
-        let b = few.keys in
-        let c = few.key_bytes in
-        let d = few.value_bytes in
         subst Fit (sym both_are)
         (fit_less (plus others_there (sizes_of (if_filled (own_key, own_kept))))
         (plus others_there (sizes_of (if_filled (own_key, cells_at ls at slot))))
-        (omega (arith, a)) (omega (arith, b)) (omega (arith, c)) (omega (arith, d)) (subst Fit parts fit))
+        (omega arith) (omega arith) (omega arith) (omega arith) (subst Fit parts fit))
 
 -- a column is written with the rows that it has
 pub same_value : (ls : List (List Entry)) (at slot : ℕ) → at < length ls → slot < length (get_or ls at [])
     → with_value_in ls at slot (cells_at ls at slot) ≡ ls
 same_value ls at slot inside lt =
     ap₂ (λ k cs. set ls at (set (get_or ls at []) slot (k, cs))) (key_there ls at slot inside lt)
-    (cells_there ls at slot inside lt)
-    ∙ ap (set ls at) (set-get_or (get_or ls at []) slot ([], []))
+    (cells_there ls at slot inside lt) ∙ ap (set ls at) (set-get_or (get_or ls at []) slot ([], []))
     ∙ set-get_or ls at []
 
 -- columns that all have rows
 pub all_have : (es : List Entry) → All (λ e. 0 < length e.1) es → filter is_filled es ≡ es
-all_have es filled = go es (recursion_from_All (λ (e : Entry). 0 < length e.1) es filled)
-  where
-    go : (es : List Entry) → AllByRecursion (λ e. 0 < length e.1) es → filter is_filled es ≡ es
-    go [] h = refl
-    go (e ∷ es) h =
-        ap (λ b. cond b (e ∷ filter is_filled es) (filter is_filled es)) (lt-ltb 0 (length e.1) h.0)
-        ∙ ap (λ l. e ∷ l) (go es h.1)
+all_have es filled =
+    filter_all is_filled es (λ i d lt. lt-ltb 0 (length (get_or es i d).1) (filled i d lt))
 
 -- if all flags are set, all rows are kept
 pub all_set : (flags : List Bool) (cells : List Cell) → length flags ≡ length cells
     → list_all (λ flag. flag) flags ≡ true → items_where_true flags cells ≡ cells
 all_set [] [] many all = refl
-all_set [] (c ∷ cells) many all = absurd (omega (arith, many))
-all_set (b ∷ flags) [] many all = absurd (omega (arith, many))
-all_set (true ∷ flags) (c ∷ cells) many all = ap (λ l. c ∷ l) (all_set flags cells (omega (arith, many)) all)
+all_set (true ∷ flags) (c ∷ cells) many all = ap (λ l. c ∷ l) (all_set flags cells (omega arith) all)
 all_set (false ∷ flags) (c ∷ cells) many all = absurd (true≢false (sym all))
+all_set flags cells many all = absurd (omega arith)

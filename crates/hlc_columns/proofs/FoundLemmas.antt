@@ -1,30 +1,29 @@
 -- The look-up of a key: the rows of a key are those of its column, since the keys ascend, so that no other column has
 -- the key.
-use Rattle.std.proofs.Common.{◌≡◌, ◌≢◌, ℕ, ◌<◌, Bool, true, false, cond, List, [], ◌∷◌, ◌++◌, Option, Some}
-use Rattle.std.proofs.Common.{None, length, refl, ◌↔◌, sym, ap, ap₂, ◌∙◌, subst, inl, inr, arith, Contains}
-use Rattle.std.proofs.Common.{true≢false, Less, nat_cmp}
-use Rattle.std.specs.Prelude.{IsNone, IfSome, option_and_then}
+use Rattle.std.proofs.Common.{◌≡◌, ◌≢◌, ℕ, ◌<◌, Bool, true, false, cond, List, [], ◌∷◌, ◌++◌, Option, Some, IsNone}
+use Rattle.std.proofs.Common.{IfSome, option_and_then, append-nil, None, length, refl, ◌↔◌, sym, ap, ap₂, ◌∙◌, subst}
+use Rattle.std.proofs.Common.{inl, inr, arith, Contains, true≢false, Less, nat_cmp}
 use Rattle.std.specs.Ordering.{is_eq}
 use Rattle.std.specs.Cmp.Lexicographic.{slice_cmp, texts_ties}
 use Rattle.std.specs.List.{AllByRecursion}
 use Rattle.std.specs.List.Sorted.{IsStrictlySortedBy}
 use Rattle.std.specs.Map.{lookup, keys_of}
 use Rattle.std.proofs.lemmas.Map.Keys.{sorted_head, sorted_tail}
-use Rattle.std.proofs.lemmas.Bool.{cases_Bool}
+use Rattle.std.proofs.lemmas.Bool.{cases_Bool, false_from_ne_true}
 use Rattle.std.proofs.lemmas.Option.{none-some}
-use Rattle.std.proofs.lemmas.List.{append-nil, length-map}
-use Rattle.std.proofs.lemmas.List.Elements.{filter-append, Contains-append_cases}
+use Rattle.std.proofs.lemmas.List.{length-map}
+use Rattle.std.proofs.lemmas.List.Elements.{filter-append, Contains-append_cases, All-map}
 use Rattle.std.proofs.lemmas.Slice.Eq.{bytes_eq-Decides}
 use Rattle.hlc_rows.specs.declared.row.Row.{Row}
 use Rattle.hlc_rows.specs.Rows.{newest, answer}
 use Rattle.hlc_rows.proofs.NewestLemmas.{newest_after_others, newest_before_others}
-use Rattle.hlc_table_column.proofs.FirstLemmas.{newest_nil}
 use Rattle.hlc_table_column.proofs.RowLemmas.{row_key}
 use Rattle.hlc_table_column.specs.Cells.{Cell}
 use Rattle.hlc_table_column.specs.Rows.{row_of, rows_of, rows_with, KeyCells, rows_in_one}
 use Rattle.hlc_columns.specs.Table.{table_rows, keyed}
 pub use Rattle.hlc_columns.specs.Table.{cells_in}
 use Rattle.std.specs.Str.{bytes_eq}
+use Rattle.hlc_columns.proofs.WalkLemmas.{filter_all, filter_none}
 use Rattle.hlc_values.proofs.MemberLemmas.{Contains-none, Contains-cons_cases}
 
 pub same_key : (a b : List ℕ) → is_eq (slice_cmp nat_cmp a b) ≡ true → a ≡ b
@@ -39,38 +38,23 @@ test key k = is_eq (slice_cmp nat_cmp key k)
 
 -- all of a column's rows have its key, and none has another
 own_rows : (key : List ℕ) (cells : List Cell) → rows_with key (rows_of key cells) ≡ rows_of key cells
-own_rows key [] = refl
-own_rows key (c ∷ cs) =
-    ap (λ b. cond b (row_of key c ∷ rows_with key (rows_of key cs)) (rows_with key (rows_of key cs)))
-    ((bytes_eq-Decides key key).1 refl)
-    ∙ ap (λ rows. row_of key c ∷ rows) (own_rows key cs)
+own_rows key cells =
+    filter_all (λ (row : Row). bytes_eq row.key key) (rows_of key cells)
+    (All-map (λ (row : Row). bytes_eq row.key key ≡ true) (row_of key) cells
+    (λ i d lt. (bytes_eq-Decides key key).1 refl))
 
 other_rows : (k key : List ℕ) (cells : List Cell) → key ≢ k → rows_with key (rows_of k cells) ≡ []
-other_rows k key [] apart = refl
-other_rows k key (c ∷ cs) apart =
-    elim (cases_Bool (bytes_eq k key)) [
-      | inl t ↦ absurd (apart (sym ((bytes_eq-Decides k key).0 t)))
-      | inr n ↦ ap (λ b. cond b (row_of k c ∷ rows_with key (rows_of k cs)) (rows_with key (rows_of k cs))) n
-          ∙ other_rows k key cs apart
-    ]
+other_rows k key cells apart =
+    filter_none (λ (row : Row). bytes_eq row.key key) (rows_of k cells)
+    (All-map (λ (row : Row). bytes_eq row.key key ≡ false) (row_of k) cells
+    (λ i d lt. false_from_ne_true (bytes_eq k key) (λ t. apart (sym ((bytes_eq-Decides k key).0 t)))))
 
 pub none_here : (key : List ℕ) (e : List ℕ × List Cell) (es : List (List ℕ × List Cell))
-    → lookup (test key) (e ∷ es) ≡ None
-    → (test key e.0 ≡ false) × (lookup (test key) es ≡ None)
-none_here key e es h =
-    elim (cases_Bool (test key e.0)) [
-      | inl t ↦ absurd (none-some e.1 (sym h ∙ ap (λ b. cond b (Some e.1) (lookup (test key) es)) t))
-      | inr n ↦ (n, sym (ap (λ b. cond b (Some e.1) (lookup (test key) es)) n) ∙ h)
-    ]
-
-pub none_in_table : (key : List ℕ) (s : ℕ) (es : List (List ℕ × List Cell)) → lookup (test key) es ≡ None
-    → newest (table_rows es) key s ≡ None
-none_in_table key s [] h = newest_nil key s
-none_in_table key s (e ∷ es) h =
-    let p = none_here key e es h in
-    newest_after_others (rows_of e.0 e.1) (table_rows es) key s
-    (λ row m same. other_key key e.0 p.0 (sym same ∙ row_key e.0 e.1 row m))
-    ∙ none_in_table key s es p.1
+    → lookup (test key) (e ∷ es) ≡ None → (test key e.0 ≡ false) × (lookup (test key) es ≡ None)
+none_here key e es h = elim (cases_Bool (test key e.0)) [
+  | inl t ↦ absurd (none-some e.1 (sym (rw t at h)))
+  | inr n ↦ (n, rw n at h)
+]
 
 pub none_past : (key : List ℕ) (es : List (List ℕ × List Cell))
     → AllByRecursion (λ y. slice_cmp nat_cmp key y ≡ Less) (keys_of es) → lookup (test key) es ≡ None
@@ -168,8 +152,7 @@ rows_in_table key (e ∷ es) up =
           (subst (λ k. AllByRecursion (λ y. slice_cmp nat_cmp k y ≡ Less) (keys_of es)) (sym same)
           (sorted_head (λ a b. slice_cmp nat_cmp a b) e.0 (keys_of es) up)) in
           ap₂ (λ xs ys. xs ++ ys) (ap (λ k. rows_with key (rows_of k e.1)) (sym same) ∙ own_rows key e.1)
-          (absent_rows key es past)
-          ∙ append-nil (rows_of key e.1)
+          (absent_rows key es past) ∙ append-nil (rows_of key e.1)
           ∙ ap (λ b. rows_of key (cells_in (cond b (Some e.1) (lookup (test key) es)))) (sym t)
       | inr n ↦
           ap₂ (λ xs ys. xs ++ ys) (other_rows e.0 key e.1 (other_key key e.0 n))

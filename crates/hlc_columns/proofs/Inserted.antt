@@ -1,28 +1,26 @@
 -- One more row: at the end of its key's column, or as a column of its own. The rows before and after it do not change,
 -- and none after it has its key.
-use Rattle.std.proofs.Common.{◌≡◌, ℕ, ◌<◌, Bool, true, false, cond, List, [], ◌∷◌}
-use Rattle.std.proofs.Common.{◌++◌, Some, None, length, refl, sym}
-use Rattle.std.proofs.Common.{ap, ◌∙◌, subst, inl, inr, arith, All, true≢false, Ordering, Less, Equal, Greater, nat_cmp}
-use Rattle.std.specs.Prelude.{IfSome, Result, Ok, Err, OnOk, OnErr}
+use Rattle.std.proofs.Common.{◌≡◌, ℕ, ◌<◌, Bool, List, [], ◌∷◌, IfSome, Result, Ok, Err, OnOk, OnErr, append_assoc}
+use Rattle.std.proofs.Common.{◌++◌, Some, None, length, refl, sym, ap, ◌∙◌, subst, inl, inr, arith, All, true≢false}
+use Rattle.std.proofs.Common.{Ordering, Less, Equal, Greater, nat_cmp}
 use Rattle.std.specs.Ordering.{is_eq, match_ordering}
 use Rattle.std.specs.Cmp.Lexicographic.{slice_cmp}
 use Rattle.std.specs.List.{AllByRecursion}
-use Rattle.std.specs.Map.{lookup, set_value}
+use Rattle.std.specs.Map.{lookup, set_value, keys_of}
 use Rattle.std.specs.BTreeMap.{insert_entry}
 use Rattle.std.proofs.lemmas.Map.Entries.{All-lookup}
-use Rattle.std.proofs.lemmas.Bool.{cases_Bool}
+use Rattle.std.proofs.lemmas.Bool.{cases_Bool, cond_both}
 use Rattle.std.proofs.lemmas.Option.{none-some, same_Some}
-use Rattle.std.proofs.lemmas.List.{append_assoc, map-append}
-use Rattle.std.proofs.lemmas.List.Elements.{All-from_recursion, recursion_from_All}
+use Rattle.std.proofs.lemmas.List.{map-append}
+use Rattle.std.proofs.lemmas.List.Elements.{All-from_recursion, recursion_from_All, Contains-append_cases}
+use Rattle.std.proofs.lemmas.List.Elements.{Contains-append_left, Contains-append_right}
 use Rattle.hlc_rows.specs.declared.row.Row.{Row}
 use Rattle.hlc_rows.specs.Rows.{IsRowSet}
 use Rattle.hlc_table_column.specs.Cells.{Cell}
 use Rattle.hlc_table_column.specs.Rows.{row_of, rows_of}
 use Rattle.std.specs.List.Sorted.{IsPermutation, IsStrictlySortedBy}
-use Rattle.std.specs.Map.{keys_of}
 use Rattle.std.proofs.lemmas.Map.Keys.{sorted_head, sorted_tail}
 use Rattle.std.proofs.lemmas.List.Sorted.{IsPermutation-append_right, IsPermutation-append_comm}
-use Rattle.std.proofs.lemmas.List.Elements.{Contains-append_cases, Contains-append_left, Contains-append_right}
 use Rattle.hlc_columns.specs.Table.{table_rows, HasNoVersion, InsertedLast}
 use Rattle.hlc_columns.proofs.FoundLemmas.{test, same_key, none_here, none_past, no_row}
 use Rattle.hlc_values.proofs.MemberLemmas.{Contains-rest, Contains-cons_cases}
@@ -46,14 +44,12 @@ pushed key cell cells (e ∷ es) up h =
     elim (cases_Bool (test key e.0)) [
       | inl t ↦
           let same = same_key key e.0 t in
-          let is : e.1 ≡ cells =
-          same_Some e.1 cells (sym (ap (λ b. cond b (Some e.1) (lookup (test key) es)) t) ∙ h) in (
+          let is : e.1 ≡ cells = same_Some e.1 cells (rw t at h) in
+          rw t (
             rows_of e.0 e.1,
             table_rows es,
             refl,
-            ap (λ b. table_rows
-                (cond b ((e.0, cells ++ cell ∷ []) ∷ es) (e ∷ set_value (test key) es (cells ++ cell ∷ [])))) t
-                ∙ ap (λ (cs : List Cell). rows_of e.0 (cs ++ cell ∷ []) ++ table_rows es) (sym is)
+            ap (λ (cs : List Cell). rows_of e.0 (cs ++ cell ∷ []) ++ table_rows es) (sym is)
                 ∙ ap (λ rows. rows ++ table_rows es) (map-append (row_of e.0) e.1 (cell ∷ []))
                 ∙ append_assoc (rows_of e.0 e.1) (row_of e.0 cell ∷ []) (table_rows es)
                 ∙ ap (λ k. rows_of e.0 e.1 ++ row_of k cell ∷ table_rows es) (sym same),
@@ -61,13 +57,9 @@ pushed key cell cells (e ∷ es) up h =
                 (subst (λ k. AllByRecursion (λ y. slice_cmp nat_cmp k y ≡ Less) (keys_of es)) (sym same)
                 (sorted_head (λ a b. slice_cmp nat_cmp a b) e.0 (keys_of es) up))),
           )
-      | inr n ↦
-          let rest = pushed key cell cells es (sorted_tail (λ a b. slice_cmp nat_cmp a b) e.0 (keys_of es) up)
-          (sym (ap (λ b. cond b (Some e.1) (lookup (test key) es)) n) ∙ h) in
-          subst (λ b. InsertedLast (table_rows (e ∷ es)) (row_of key cell) (table_rows
-          (cond b ((e.0, cells ++ cell ∷ []) ∷ es) (e ∷ set_value (test key) es (cells ++ cell ∷ []))))) (sym n)
-          (more_before (rows_of e.0 e.1) (table_rows es) (row_of key cell)
-          (table_rows (set_value (test key) es (cells ++ cell ∷ []))) rest)
+      | inr n ↦ rw n (more_before (rows_of e.0 e.1) (table_rows es) (row_of key cell)
+          (table_rows (set_value (test key) es (cells ++ cell ∷ [])))
+          (pushed key cell cells es (sorted_tail (λ a b. slice_cmp nat_cmp a b) e.0 (keys_of es) up) (rw n at h)))
     ]
 
 -- a column of one row for a new key
@@ -91,16 +83,10 @@ added k cell (e ∷ es) h =
 pub same_set : (key : List ℕ) (cells : List Cell) (es : List (List ℕ × List Cell)) → lookup (test key) es ≡ Some cells
     → set_value (test key) es cells ≡ es
 same_set key cells [] h = absurd (none-some cells h)
-same_set key cells (e ∷ es) h =
-    elim (cases_Bool (test key e.0)) [
-      | inl t ↦
-          let is : e.1 ≡ cells =
-          same_Some e.1 cells (sym (ap (λ b. cond b (Some e.1) (lookup (test key) es)) t) ∙ h) in
-          ap (λ b. cond b ((e.0, cells) ∷ es) (e ∷ set_value (test key) es cells)) t
-          ∙ ap (λ (cs : List Cell). (e.0, cs) ∷ es) (sym is)
-      | inr n ↦ ap (λ b. cond b ((e.0, cells) ∷ es) (e ∷ set_value (test key) es cells)) n ∙ ap (λ xs. e ∷ xs)
-          (same_set key cells es (sym (ap (λ b. cond b (Some e.1) (lookup (test key) es)) n) ∙ h))
-    ]
+same_set key cells (e ∷ es) h = elim (cases_Bool (test key e.0)) [
+  | inl t ↦ rw t (ap (λ (cs : List Cell). (e.0, cs) ∷ es) (sym (same_Some e.1 cells (rw t at h))))
+  | inr n ↦ rw n (ap (λ xs. e ∷ xs) (same_set key cells es (rw n at h)))
+]
 
 -- no column is empty
 pub all_set : (is_key : List ℕ → Bool) (es : List (List ℕ × List Cell)) (cells : List Cell)
@@ -112,11 +98,9 @@ all_set is_key es cells h p = All-from_recursion (λ (e : List ℕ × List Cell)
     go : (es : List (List ℕ × List Cell)) → AllByRecursion (λ e. 0 < length e.1) es
         → AllByRecursion (λ e. 0 < length e.1) (set_value is_key es cells)
     go [] h = tt
-    go (e ∷ es) h = elim (is_key e.0) as (λ b. AllByRecursion (λ e. 0 < length e.1)
-        (cond b ((e.0, cells) ∷ es) (e ∷ set_value is_key es cells))) [
-          | true ↦ (p, h.1)
-          | false ↦ (h.0, go es h.1)
-        ]
+    go (e ∷ es) h =
+        cond_both (is_key e.0) ((e.0, cells) ∷ es) (e ∷ set_value is_key es cells)
+        (AllByRecursion (λ (e : List ℕ × List Cell). 0 < length e.1)) (λ t. (p, h.1)) (λ n. (h.0, go es h.1))
 
 pub all_inserted : (cmp : List ℕ → List ℕ → Ordering) (es : List (List ℕ × List Cell)) (k : List ℕ) (cells : List Cell)
     → All (λ e. 0 < length e.1) es → 0 < length cells → All (λ e. 0 < length e.1) (insert_entry cmp es k cells)
@@ -141,8 +125,7 @@ module _ (row : Row) (es after : List (List ℕ × List Cell)) (old : List Row)
     (was : table_rows es ≡ old) where
   pub pushed_as : IsStrictlySortedBy (λ a b. slice_cmp nat_cmp a b) (keys_of es)
       → (key : List ℕ) (cells new : List Cell) → key ≡ row.key → Some cells ≡ lookup (test key) es
-      → after ≡ set_value (test key) es new → new ≡ cells ++ cell_of row ∷ []
-      → InsertedLast old row (table_rows after)
+      → after ≡ set_value (test key) es new → new ≡ cells ++ cell_of row ∷ [] → InsertedLast old row (table_rows after)
   pushed_as up key cells new same found is more =
       subst (λ o. InsertedLast o row (table_rows after)) was
       (subst (λ k. InsertedLast (table_rows es) (row_of k (cell_of row)) (table_rows after)) same
@@ -156,8 +139,7 @@ module _ (row : Row) (es after : List (List ℕ × List Cell)) (old : List Row)
 
   pub added_as : (key : List ℕ) (k : List ℕ) (cells : List Cell) → key ≡ row.key → k ≡ row.key
       → None ≡ lookup (test key) es → after ≡ insert_entry (λ a b. slice_cmp nat_cmp a b) es k cells
-      → cells ≡ cell_of row ∷ []
-      → InsertedLast old row (table_rows after)
+      → cells ≡ cell_of row ∷ [] → InsertedLast old row (table_rows after)
   added_as key k cells same names absent is one =
       subst (λ o. InsertedLast o row (table_rows after)) was
       (subst (λ n. InsertedLast (table_rows es) (row_of n (cell_of row)) (table_rows after)) names

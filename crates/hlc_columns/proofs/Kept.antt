@@ -1,14 +1,12 @@
 -- Keeping flagged rows, column by column: each column removes as many flags from the front as it has rows, and columns
 -- that are left without rows contribute none.
-use Rattle.std.proofs.Common.{◌≡◌, ℕ, zero, suc, ◌+◌, ◌<◌, ◌≤◌, Bool, true, false, cond, List, [], ◌∷◌, ◌++◌, length}
-use Rattle.std.proofs.Common.{refl, sym, ap, ap₂, ◌∙◌, arith, take, drop, filter, ltb, get_or, set, All, map}
-use Rattle.std.specs.Prelude.{slice_get, Some}
+use Rattle.std.proofs.Common.{◌≡◌, ℕ, zero, suc, ◌+◌, ◌<◌, ◌≤◌, Bool, cond, List, [], ◌∷◌, ◌++◌, length, ltb-true}
+use Rattle.std.proofs.Common.{lt-ltb, length-append, length-drop, drop-drop, length-set, set-set, get_or-set_same}
+use Rattle.std.proofs.Common.{take-append-drop, refl, sym, ap, ap₂, ◌∙◌, arith, take, drop, filter, ltb, get_or, set}
+use Rattle.std.proofs.Common.{All, map}
 use Rattle.std.specs.List.{items_where_true, AllByRecursion}
-use Rattle.std.proofs.lemmas.Option.{none-some, same_Some}
-use Rattle.std.proofs.lemmas.Bool.{ltb-true, lt-ltb}
-use Rattle.std.proofs.lemmas.List.{length-map, length-append, length-drop, drop-drop, length-set, set-set}
-use Rattle.std.proofs.lemmas.List.{get_or-set_same, get_or-map}
-use Rattle.std.proofs.lemmas.List.{take-append-drop}
+use Rattle.std.proofs.lemmas.Bool.{cond_both}
+use Rattle.std.proofs.lemmas.List.{get_or_default, length-map, get_or-map}
 use Rattle.std.proofs.lemmas.List.Concat.{flat_map-append}
 use Rattle.std.proofs.lemmas.List.Elements.{All-from_recursion}
 use Rattle.hlc_rows.specs.declared.row.Row.{Row}
@@ -30,8 +28,7 @@ kept_rows (e ∷ es) flags long =
     let n : length (rows_of e.0 e.1) ≡ length e.1 = length-map e.1 (row_of e.0) in
     let sum = length-append (rows_of e.0 e.1) (table_rows es) in
     let left = length-drop (length e.1) flags in
-    sym (flagged-append (rows_of e.0 e.1) (table_rows es) flags long
-    ∙ ap₂ (λ xs ys. xs ++ ys)
+    sym (flagged-append (rows_of e.0 e.1) (table_rows es) flags long ∙ ap₂ (λ xs ys. xs ++ ys)
     (ap (λ m. items_where_true (take m flags) (rows_of e.0 e.1)) n
     ∙ sym (flagged-map (row_of e.0) (take (length e.1) flags) e.1))
     (ap (λ m. items_where_true (drop m flags) (table_rows es)) n
@@ -51,20 +48,16 @@ filled_rows (e ∷ es) = one e.1 (filled_rows es)
         ≡ rows_of e.0 cells ++ table_rows es
     one [] rest = rest
     one (x ∷ xs) rest =
-        ap (λ b. table_rows (cond b ((e.0, x ∷ xs) ∷ filter is_filled es) (filter is_filled es)))
-        (lt-ltb 0 (length (x ∷ xs)) (omega arith))
-        ∙ ap (λ rows. rows_of e.0 (x ∷ xs) ++ rows) rest
+        rw (lt-ltb 0 (length (x ∷ xs)) (omega arith)) (ap (λ rows. rows_of e.0 (x ∷ xs) ++ rows) rest)
 
 pub all_filled : (es : List Entry) → All (λ e. 0 < length e.1) (filter is_filled es)
 all_filled es = All-from_recursion (λ (e : Entry). 0 < length e.1) (filter is_filled es) (go es)
   where
     go : (es : List Entry) → AllByRecursion (λ e. 0 < length e.1) (filter is_filled es)
     go [] = tt
-    go (e ∷ es) = elim (ltb 0 (length e.1)) as (λ b. ltb 0 (length e.1) ≡ b
-        → AllByRecursion (λ e. 0 < length e.1) (cond b (e ∷ filter is_filled es) (filter is_filled es))) [
-          | true ↦ λ is. (ltb-true 0 (length e.1) is, go es)
-          | false ↦ λ is. go es
-        ] refl
+    go (e ∷ es) =
+        cond_both (ltb 0 (length e.1)) (e ∷ filter is_filled es) (filter is_filled es)
+        (AllByRecursion (λ (e : Entry). 0 < length e.1)) (λ t. (ltb-true 0 (length e.1) t, go es)) (λ f. go es)
 
 -- a pass over a list that removes this many flags from the front for each item, and replaces the item
 module _ {X : Type 0} (step : List Bool → X → X) (size : X → ℕ) where
@@ -170,20 +163,6 @@ leaves_rows (l ∷ ls) =
     let rest = leaves_rows ls in
     omega (arith, both, sum, rest)
 
--- the cells of an entry
-pub cells_read : (leaf : List Entry) (slot : ℕ) (key : List ℕ) (cells : List Cell)
-    → slice_get leaf slot ≡ Some (key, cells)
-    → get_or (map (λ (e : Entry). e.1) leaf) slot [] ≡ cells
-cells_read [] slot key cells is = absurd (none-some _ is)
-cells_read (e ∷ es) zero key cells is = ap (λ (e : Entry). e.1) (same_Some e (key, cells) is)
-cells_read (e ∷ es) (suc slot) key cells is = cells_read es slot key cells is
-
--- an item of the list is read the same with another default
-own_item : {X : Type 0} (xs : List X) (n : ℕ) (d : X) → n < length xs → get_or xs n d ≡ get_or xs n (get_or xs n d)
-own_item [] n d lt = absurd (omega (arith, lt))
-own_item (x ∷ xs) zero d lt = refl
-own_item (x ∷ xs) (suc n) d lt = own_item xs n d (omega (arith, lt))
-
 one_more : (n : ℕ) → suc n ≡ n + 1
 one_more n = omega arith
 
@@ -196,7 +175,9 @@ module _ (old cols : List (List Entry)) (at : ℕ) (flags left : List Bool) (ins
 
   more_leaf : total kept_in leaf_rows (take (suc at) old)
       ≡ total kept_in leaf_rows (take at old) + leaf_rows (get_or old at [])
-  more_leaf = total_next kept_in leaf_rows old at (get_or old at []) inside (own_item old at [] inside)
+  more_leaf =
+      total_next kept_in leaf_rows old at (get_or old at []) inside
+      (get_or_default old at [] (get_or old at []) inside)
 
   pub column_inside : at < length cols
   column_inside =
@@ -227,7 +208,8 @@ module _ (old cols : List (List Entry)) (at : ℕ) (flags left : List Bool) (ins
       is ∙ ap₂ (λ l x. set l at (kept_in left x)) inv same_leaf
       ∙ ap (λ fs. set (run kept_in leaf_rows flags (take at old) ++ drop at old) at (kept_in fs (get_or old at [])))
       rest
-      ∙ run_next kept_in leaf_rows flags old at (get_or old at []) inside (own_item old at [] inside)
+      ∙ run_next kept_in leaf_rows flags old at (get_or old at []) inside
+      (get_or_default old at [] (get_or old at []) inside)
       ∙ ap (λ n. run kept_in leaf_rows flags (take n old) ++ drop n old) (one_more at)
 
   pub next_left : (later : List Bool) → later ≡ drop (length (table_rows (get_or cols at []))) left
@@ -294,7 +276,7 @@ module _ (old cols : List (List Entry)) (at slot : ℕ) (flags left : List Bool)
       ∙ ap (λ (e : Entry). e.0) same_entry
 
   more_rows : total kept_one many (take (suc slot) leaf) ≡ total kept_one many (take slot leaf) + length next.1
-  more_rows = total_next kept_one many leaf slot next lt (own_item leaf slot ([], []) lt)
+  more_rows = total_next kept_one many leaf slot next lt (get_or_default leaf slot ([], []) next lt)
 
   pub many_inside : length (table_rows leaf) ≤ length flags → length (cells_at cols at slot) ≤ length left
   many_inside le =
@@ -312,15 +294,13 @@ module _ (old cols : List (List Entry)) (at slot : ℕ) (flags left : List Bool)
       (items_where_true (take (length (cells_at cols at slot)) left) (cells_at cols at slot))
       → now ≡ set old at (run kept_one many flags (take (slot + 1) leaf) ++ drop (slot + 1) leaf)
   next_columns now is =
-      is
-      ∙ ap₂ (λ l c. set l at (set (get_or cols at []) slot (
+      is ∙ ap₂ (λ l c. set l at (set (get_or cols at []) slot (
         get_or (keys_in (get_or cols at [])) slot [],
         items_where_true (take (length c) left) c,
-      ))) inv cells_are
-      ∙ set-set old at passed _
+      ))) inv cells_are ∙ set-set old at passed _
       ∙ ap₂ (λ l k. set old at (set l slot (k, items_where_true (take (length next.1) left) next.1))) leaf_is key_is
       ∙ ap (λ fs. set old at (set passed slot (kept_one fs next))) rest
-      ∙ ap (set old at) (run_next kept_one many flags leaf slot next lt (own_item leaf slot ([], []) lt)
+      ∙ ap (set old at) (run_next kept_one many flags leaf slot next lt (get_or_default leaf slot ([], []) next lt)
       ∙ ap (λ n. run kept_one many flags (take n leaf) ++ drop n leaf) (one_more slot))
 
   pub next_flags : (later : List Bool) → later ≡ drop (length (cells_at cols at slot)) left

@@ -1,22 +1,17 @@
 -- Rows of one key are dropped: what becomes of the columns, of their rows and of their sizes.
-use Rattle.std.proofs.Common.{◌≡◌, ℕ, ◌+◌, ◌<◌, ◌≤◌, Bool, true, false, cond, List, []}
-use Rattle.std.proofs.Common.{◌∷◌, ◌++◌}
-use Rattle.std.proofs.Common.{refl, sym, ap, ap₂, ◌∙◌, inl, inr, arith, take, drop, length, get_or, set, subst}
-use Rattle.std.proofs.Common.{All, Contains, ltb, Ordering, Less, Equal}
-use Rattle.std.specs.Prelude.{sum_by}
+use Rattle.std.proofs.Common.{filter, suc, ◌≡◌, ℕ, ◌+◌, ◌<◌, Bool, true, false, cond, List, [], sum_by, lt-ltb}
+use Rattle.std.proofs.Common.{ltb-true, length-append, append-nil, length-set, drop-set-lt, get_or-set_same}
+use Rattle.std.proofs.Common.{get_or-append-add, ◌∷◌, ◌++◌, refl, sym, ap, ap₂, ◌∙◌, inl, inr, arith, take, drop}
+use Rattle.std.proofs.Common.{length, get_or, set, subst, All, ltb, Less}
 use Rattle.std.specs.Str.{bytes_eq}
-use Rattle.std.specs.List.{items_where_true}
-use Rattle.std.proofs.lemmas.Bool.{cases_Bool, lt-ltb, ltb-true}
-use Rattle.std.specs.List.{AllByRecursion}
+use Rattle.std.specs.List.{items_where_true, AllByRecursion}
+use Rattle.std.proofs.lemmas.Bool.{cases_Bool, cond_both, false_from_ne_true}
 use Rattle.std.specs.List.Sorted.{IsStrictlySortedBy}
 use Rattle.std.proofs.lemmas.Slice.Eq.{bytes_eq-Decides}
-use Rattle.std.proofs.lemmas.List.{length-append, length-map, append-nil, length-set}
-use Rattle.std.proofs.lemmas.List.{take-set-le, drop-set-lt, get_or-set_same, get_or-map}
+use Rattle.std.proofs.lemmas.List.{length-map, take-set-le, get_or-map, get_or_append_left}
 use Rattle.std.proofs.lemmas.List.Sums.{sum_by-cons, sum_by-append}
 use Rattle.std.proofs.lemmas.List.Elements.{filter-append, All-append, All-cons, All-nil, All-tail, All-map}
 use Rattle.std.proofs.lemmas.List.Elements.{All-from_recursion}
-use Rattle.std.proofs.lemmas.List.{get_or_append_left, get_or-append-add}
-use Rattle.hlc_values.proofs.MemberLemmas.{Contains-first, Contains-rest, Contains-cons_cases}
 use Rattle.hlc_rows.specs.declared.row.Row.{Row}
 use Rattle.hlc_rows.specs.Rows.{IsRowSet}
 use Rattle.hlc_table_column.specs.Cells.{Cell, cell_bytes}
@@ -24,24 +19,21 @@ use Rattle.hlc_table_column.specs.Rows.{row_of, rows_of, rows_with}
 use Rattle.hlc_table_index.specs.Entries.{entries_in, entries_before, entries_from, with_value_in, keys_in, key_cmp}
 use Rattle.hlc_table_index.specs.Entries.{IsEntryAt}
 use Rattle.hlc_table_index.proofs.SlotLemmas.{itself}
-use Rattle.hlc_columns.proofs.WalkLemmas.{rows_both}
-use Rattle.hlc_table_column.proofs.FlagLemmas.{flagged-map}
+use Rattle.hlc_columns.proofs.WalkLemmas.{rows_both, rows_filtered, filter_none}
+use Rattle.hlc_table_column.proofs.FlagLemmas.{flagged-map, flagged-IsRowSet}
 use Rattle.hlc_table_index.proofs.RemovalLemmas.{parted_at}
 use Rattle.hlc_columns.specs.Table.{table_rows, rows_kept, if_filled, key_at, cells_at}
-use Rattle.hlc_columns.specs.Sizes.{sizes_of, plus, minus, Fit, IsPart}
-use Rattle.hlc_columns.specs.Sizes.{Sizes}
-use Rattle.hlc_columns.proofs.SizeLemmas.{Entry, equal, fit_less, sum_kept, length_kept}
+use Rattle.hlc_columns.specs.Sizes.{sizes_of, plus, minus, Fit, IsPart, Sizes}
+use Rattle.hlc_columns.proofs.SizeLemmas.{Entry, equal, fit_less, less_one}
 
 -- of two lists, one after another
 pub all_left : {X : Type 0} (P : X → Type 0) (xs ys : List X) → All P (xs ++ ys) → All P xs
 all_left P xs ys all i d lt =
-    let m = length-append xs ys in
-    subst P (get_or_append_left xs ys d i lt) (all i d (omega (arith, lt, m)))
+    subst P (get_or_append_left xs ys d i lt) (all i d (omega (arith, length-append xs ys)))
 
 pub all_right : {X : Type 0} (P : X → Type 0) (xs ys : List X) → All P (xs ++ ys) → All P ys
 all_right P xs ys all i d lt =
-    let m = length-append xs ys in
-    subst P (get_or-append-add xs ys i d) (all (length xs + i) d (omega (arith, lt, m)))
+    subst P (get_or-append-add xs ys i d) (all (length xs + i) d (omega (arith, length-append xs ys)))
 
 -- no row has the key
 abbrev pub NoneOf : List ℕ → List Row → Type 0
@@ -51,47 +43,33 @@ NoneOf key rows = All (λ row. bytes_eq row.key key ≡ false) rows
 abbrev pub AllOf : List ℕ → List Row → Type 0
 AllOf key rows = All (λ row. bytes_eq row.key key ≡ true) rows
 
-pub kept_none : (key : List ℕ) (flags : List Bool) (rows : List Row) → NoneOf key rows → rows_kept key flags rows ≡ rows
-kept_none key flags [] none = refl
-kept_none key [] (row ∷ rows) none =
-    ap (λ b. cond b (rows_kept key [] rows) (row ∷ rows_kept key [] rows)) (none 0 row (omega arith))
-    ∙ ap (λ l. row ∷ l) (kept_none key [] rows (All-tail (λ (row : Row). bytes_eq row.key key ≡ false) row rows none))
-kept_none key (b ∷ flags) (row ∷ rows) none =
-    ap (λ t. cond t (cond b (row ∷ rows_kept key flags rows) (rows_kept key flags rows))
-    (row ∷ rows_kept key (b ∷ flags) rows)) (none 0 row (omega arith))
-    ∙ ap (λ l. row ∷ l)
-    (kept_none key (b ∷ flags) rows (All-tail (λ (row : Row). bytes_eq row.key key ≡ false) row rows none))
+pub kept_other : (key : List ℕ) (flags : List Bool) (row : Row) (rows : List Row) → bytes_eq row.key key ≡ false
+    → rows_kept key flags (row ∷ rows) ≡ row ∷ rows_kept key flags rows
+kept_other key [] row rows n = rw n refl
+kept_other key (b ∷ flags) row rows n = rw n refl
 
 -- before rows without the key
 pub kept_before : (key : List ℕ) (flags : List Bool) (xs ys : List Row) → NoneOf key xs
     → rows_kept key flags (xs ++ ys) ≡ xs ++ rows_kept key flags ys
 kept_before key flags [] ys none = refl
-kept_before key [] (row ∷ rows) ys none =
-    ap (λ b. cond b (rows_kept key [] (rows ++ ys)) (row ∷ rows_kept key [] (rows ++ ys))) (none 0 row (omega arith))
-    ∙ ap (λ l. row ∷ l)
-    (kept_before key [] rows ys (All-tail (λ (row : Row). bytes_eq row.key key ≡ false) row rows none))
-kept_before key (b ∷ flags) (row ∷ rows) ys none =
-    ap (λ t. cond t (cond b (row ∷ rows_kept key flags (rows ++ ys)) (rows_kept key flags (rows ++ ys)))
-    (row ∷ rows_kept key (b ∷ flags) (rows ++ ys))) (none 0 row (omega arith))
-    ∙ ap (λ l. row ∷ l)
-    (kept_before key (b ∷ flags) rows ys (All-tail (λ (row : Row). bytes_eq row.key key ≡ false) row rows none))
+kept_before key flags (row ∷ rows) ys none =
+    kept_other key flags row (rows ++ ys) (none 0 row (omega arith))
+    ∙ ap (λ l. row ∷ l) (kept_before key flags rows ys (λ i d lt. none (suc i) d (omega arith)))
+
+pub kept_none : (key : List ℕ) (flags : List Bool) (rows : List Row) → NoneOf key rows → rows_kept key flags rows ≡ rows
+kept_none key flags rows none = rw append-nil at (kept_before key flags rows [] none)
 
 -- the rows of the key, and then none
 pub kept_own : (key : List ℕ) (flags : List Bool) (xs ys : List Row) → length flags ≡ length xs → AllOf key xs
     → NoneOf key ys → rows_kept key flags (xs ++ ys) ≡ items_where_true flags xs ++ ys
 kept_own key [] [] ys long all none = kept_none key [] ys none
-kept_own key (b ∷ flags) [] ys long all none = absurd (omega (arith, long))
-kept_own key [] (row ∷ rows) ys long all none = absurd (omega (arith, long))
-kept_own key (b ∷ flags) (row ∷ rows) ys long all none =
-    let rest = kept_own key flags rows ys (omega (arith, long))
-    (All-tail (λ (row : Row). bytes_eq row.key key ≡ true) row rows all) none in
-    ap (λ t. cond t (cond b (row ∷ rows_kept key flags (rows ++ ys)) (rows_kept key flags (rows ++ ys)))
-    (row ∷ rows_kept key (b ∷ flags) (rows ++ ys))) (all 0 row (omega arith))
-    ∙ (elim b as (λ b. cond b (row ∷ rows_kept key flags (rows ++ ys)) (rows_kept key flags (rows ++ ys))
-    ≡ items_where_true (b ∷ flags) (row ∷ rows) ++ ys) [
-      | true ↦ ap (λ l. row ∷ l) rest
-      | false ↦ rest
-    ])
+kept_own key (true ∷ flags) (row ∷ rows) ys long all none =
+    let rest = kept_own key flags rows ys (omega arith) (λ i d lt. all (suc i) d (omega arith)) none in
+    rw (all 0 row (omega arith)) (ap (λ l. row ∷ l) rest)
+kept_own key (false ∷ flags) (row ∷ rows) ys long all none =
+    rw (all 0 row (omega arith))
+    (kept_own key flags rows ys (omega arith) (λ i d lt. all (suc i) d (omega arith)) none)
+kept_own key flags xs ys long all none = absurd (omega arith)
 
 -- a column among others
 pub apart : (xs ys : List Entry) (e : Entry) → sizes_of (xs ++ e ∷ ys) ≡ plus (sizes_of (xs ++ ys)) (sizes_of (e ∷ []))
@@ -103,11 +81,7 @@ apart xs ys e =
   where
     apart_by : (f : Entry → ℕ) → sum_by f (xs ++ e ∷ ys) ≡ sum_by f (xs ++ ys) + sum_by f (e ∷ [])
     apart_by f =
-        let a = sum_by-append f xs (e ∷ ys) in
-        let b = sum_by-append f xs ys in
-        let c = sum_by-cons f e ys in
-        let d = sum_by-cons f e [] in
-        omega (arith, a, b, c, d)
+        omega (arith, sum_by-append f xs (e ∷ ys), sum_by-append f xs ys, sum_by-cons f e ys, sum_by-cons f e [])
 
 pub is_part : (s rest one : Sizes) → s ≡ plus rest one → IsPart one s
 is_part s rest one is = subst (IsPart one) (sym is) (record {
@@ -128,20 +102,10 @@ pub less_fits : (xs ys : List Entry) (key : List ℕ) (flags : List Bool) (cells
 less_fits xs ys key flags cells fit =
     let e : Entry = (key, items_where_true flags cells) in
     let d : Entry = (key, cells) in
-    let rows = single (λ (e : Entry). length e.1) (length_kept flags cells) in
-    let names = single (λ (e : Entry). length e.0) (omega arith) in
-    let values = single (λ (e : Entry). sum_by cell_bytes e.1) (sum_kept cell_bytes flags cells) in
+    let less = less_one key flags cells in
     subst Fit (sym (apart xs ys e))
     (fit_less (plus (sizes_of (xs ++ ys)) (sizes_of (e ∷ []))) (plus (sizes_of (xs ++ ys)) (sizes_of (d ∷ [])))
-    (omega (arith, rows)) (omega arith) (omega (arith, names)) (omega (arith, values))
-    (subst Fit (apart xs ys d) fit))
-  where
-    single : (f : Entry → ℕ) → f (key, items_where_true flags cells) ≤ f (key, cells)
-        → sum_by f ((key, items_where_true flags cells) ∷ []) ≤ sum_by f ((key, cells) ∷ [])
-    single f le =
-        let a = sum_by-cons f (key, items_where_true flags cells) [] in
-        let b = sum_by-cons f (key, cells) [] in
-        omega (arith, a, b, le)
+    (omega arith) (omega arith) (omega arith) (omega arith) (subst Fit (apart xs ys d) fit))
 
 -- the leaves with other rows of the column at a position
 module _ (ls : List (List Entry)) (at slot : ℕ) (inside : at < length ls) (lt : slot < length (get_or ls at [])) where
@@ -197,8 +161,7 @@ module _ (ls : List (List Entry)) (at slot : ℕ) (inside : at < length ls) (lt 
 
     entry_now : get_or (get_or now at []) slot ([], []) ≡ (key_at ls at slot, cells)
     entry_now =
-        ap (λ l. get_or l slot ([], [])) leaf_now
-        ∙ get_or-set_same leaf slot (key_at ls at slot, cells) ([], []) lt
+        ap (λ l. get_or l slot ([], [])) leaf_now ∙ get_or-set_same leaf slot (key_at ls at slot, cells) ([], []) lt
 
     pub key_now : key_at now at slot ≡ key_at ls at slot
     key_now =
@@ -283,8 +246,7 @@ module _ (ls : List (List Entry)) (at slot : ℕ) (inside : at < length ls) (lt 
 
       pub gone_entries : new ≡ ahead ++ (if_filled (own_key, own_kept) ++ after_it)
       gone_entries =
-          parted_gone
-          ∙ ap (λ l. ahead ++ (l ++ after_it)) (sym (filled_none (own_key, own_kept) (sym long ∙ none)))
+          parted_gone ∙ ap (λ l. ahead ++ (l ++ after_it)) (sym (filled_none (own_key, own_kept) (sym long ∙ none)))
 
       pub gone_sizes : others ≡ sizes_of new
       gone_sizes = others_are ∙ ap sizes_of (sym parted_gone)
@@ -299,24 +261,12 @@ module _ (ls : List (List Entry)) (at slot : ℕ) (inside : at < length ls) (lt 
     left_sizes = together ∙ ap sizes_of (sym (entries_now ls at slot inside lt now own_kept written))
 
 unlike : (a b : List ℕ) → key_cmp a b ≡ Less → bytes_eq a b ≡ false
-unlike a b less = elim (cases_Bool (bytes_eq a b)) [
-  | inl t ↦ absurd (equal_not_less (key_cmp a b)
-      (subst (λ k. key_cmp k b ≡ Equal) (sym ((bytes_eq-Decides a b).0 t)) (itself b)) less)
-  | inr f ↦ f
-]
-  where
-    equal_not_less : (o : Ordering) → o ≡ Equal → o ≡ Less → ⊥
-    equal_not_less o is e = cc
+unlike a b less = false_from_ne_true (bytes_eq a b) (λ t.
+    let same = (bytes_eq-Decides a b).0 t in let alike = itself b in cc)
 
 turned : (a b : List ℕ) → key_cmp b a ≡ Less → bytes_eq a b ≡ false
-turned a b less = elim (cases_Bool (bytes_eq a b)) [
-  | inl t ↦ absurd (equal_not_less (key_cmp b a)
-      (subst (λ k. key_cmp b k ≡ Equal) (sym ((bytes_eq-Decides a b).0 t)) (itself b)) less)
-  | inr f ↦ f
-]
-  where
-    equal_not_less : (o : Ordering) → o ≡ Equal → o ≡ Less → ⊥
-    equal_not_less o is e = cc
+turned a b less = false_from_ne_true (bytes_eq a b) (λ t.
+    let same = (bytes_eq-Decides a b).0 t in let alike = itself b in cc)
 
 -- no row of columns with other keys has the key
 rows_none : (key : List ℕ) (es : List Entry) → All (λ e. bytes_eq e.0 key ≡ false) es → NoneOf key (table_rows es)
@@ -328,13 +278,11 @@ rows_none key (e ∷ es) none =
 
 -- the rows of columns, when flagged rows of one are kept
 pub rows_one : (front back : List Entry) (key : List ℕ) (flags : List Bool) (cells : List Cell)
-    → All (λ e. bytes_eq e.0 key ≡ false) front → All (λ e. bytes_eq e.0 key ≡ false) back
-    → length flags ≡ length cells
+    → All (λ e. bytes_eq e.0 key ≡ false) front → All (λ e. bytes_eq e.0 key ≡ false) back → length flags ≡ length cells
     → table_rows (front ++ (if_filled (key, items_where_true flags cells) ++ back))
     ≡ rows_kept key flags (table_rows (front ++ (key, cells) ∷ back))
 rows_one front back key flags cells before behind many =
-    rows_both front (if_filled (key, items_where_true flags cells) ++ back)
-    ∙ ap (λ l. table_rows front ++ l)
+    rows_both front (if_filled (key, items_where_true flags cells) ++ back) ∙ ap (λ l. table_rows front ++ l)
     (rows_both (if_filled (key, items_where_true flags cells)) back
     ∙ ap (λ l. l ++ table_rows back) (filled_rows (items_where_true flags cells) ∙ flagged-map (row_of key) flags cells)
     ∙ sym (kept_own key flags (rows_of key cells) (table_rows back)
@@ -377,53 +325,29 @@ others_behind [] back e key own up =
     go (d ∷ ds) h = (turned d.0 key (subst (λ k. key_cmp k d.0 ≡ Less) (sym own) h.0), go ds h.1)
 others_behind (f ∷ front) back e key own up = others_behind front back e key own up.1
 
-either : (r row : Row) (rows less : List Row) → (Contains less row → Contains rows row) → Contains (r ∷ less) row
-    → Contains (r ∷ rows) row
-either r row rows less within i = elim (Contains-cons_cases r row less i) [
-  | inl is ↦ subst (Contains (r ∷ rows)) is (Contains-first r rows)
-  | inr rest ↦ Contains-rest r row rows (within rest)
-]
-
 -- the rows that are kept are a row set
-kept_within : (key : List ℕ) (flags : List Bool) (rows : List Row) (row : Row)
-    → Contains (rows_kept key flags rows) row → Contains rows row
-kept_within key flags [] row i = i
-kept_within key [] (r ∷ rows) row i = elim (bytes_eq r.key key) as (λ b.
-    Contains (cond b (rows_kept key [] rows) (r ∷ rows_kept key [] rows)) row → Contains (r ∷ rows) row) [
-      | true ↦ λ i. Contains-rest r row rows (kept_within key [] rows row i)
-      | false ↦ λ i. either r row rows (rows_kept key [] rows) (kept_within key [] rows row) i
-    ] i
-kept_within key (b ∷ flags) (r ∷ rows) row i = elim (bytes_eq r.key key) as (λ t.
-    Contains (cond t (cond b (r ∷ rows_kept key flags rows) (rows_kept key flags rows))
-    (r ∷ rows_kept key (b ∷ flags) rows)) row → Contains (r ∷ rows) row) [
-      | true ↦ elim b as (λ b. Contains (cond b (r ∷ rows_kept key flags rows) (rows_kept key flags rows)) row
-          → Contains (r ∷ rows) row) [
-            | true ↦ λ i. either r row rows (rows_kept key flags rows) (kept_within key flags rows row) i
-            | false ↦ λ i. Contains-rest r row rows (kept_within key flags rows row i)
-          ]
-      | false ↦ λ i. either r row rows (rows_kept key (b ∷ flags) rows) (kept_within key (b ∷ flags) rows row) i
-    ] i
+kept_marks : (key : List ℕ) (flags : List Bool) (rows : List Row)
+    → (marks : List Bool) × (rows_kept key flags rows ≡ items_where_true marks rows)
+kept_marks key flags [] = ([], refl)
+kept_marks key [] (row ∷ rows) =
+    let (marks, is) = kept_marks key [] rows in
+    elim (cases_Bool (bytes_eq row.key key)) [
+      | inl t ↦ (false ∷ marks, rw (t, is) refl)
+      | inr f ↦ (true ∷ marks, rw (f, is) refl)
+    ]
+kept_marks key (true ∷ flags) (row ∷ rows) = elim (cases_Bool (bytes_eq row.key key)) [
+  | inl t ↦ let (marks, is) = kept_marks key flags rows in (true ∷ marks, rw (t, is) refl)
+  | inr f ↦ let (marks, is) = kept_marks key (true ∷ flags) rows in (true ∷ marks, rw (f, is) refl)
+]
+kept_marks key (false ∷ flags) (row ∷ rows) = elim (cases_Bool (bytes_eq row.key key)) [
+  | inl t ↦ let (marks, is) = kept_marks key flags rows in (false ∷ marks, rw (t, is) refl)
+  | inr f ↦ let (marks, is) = kept_marks key (false ∷ flags) rows in (true ∷ marks, rw (f, is) refl)
+]
 
 pub kept_row_set : (key : List ℕ) (flags : List Bool) (rows : List Row) → IsRowSet rows
     → IsRowSet (rows_kept key flags rows)
-kept_row_set key flags [] set = set
-kept_row_set key [] (r ∷ rows) set = elim (bytes_eq r.key key) as (λ b.
-    IsRowSet (cond b (rows_kept key [] rows) (r ∷ rows_kept key [] rows))) [
-      | true ↦ kept_row_set key [] rows set.1
-      | false ↦ (λ other i. set.0 other (kept_within key [] rows other i), kept_row_set key [] rows set.1)
-    ]
-kept_row_set key (b ∷ flags) (r ∷ rows) set = elim (bytes_eq r.key key) as (λ t.
-    IsRowSet (cond t (cond b (r ∷ rows_kept key flags rows) (rows_kept key flags rows))
-    (r ∷ rows_kept key (b ∷ flags) rows))) [
-      | true ↦ elim b as (λ b. IsRowSet (cond b (r ∷ rows_kept key flags rows) (rows_kept key flags rows))) [
-        | true ↦ (λ other i. set.0 other (kept_within key flags rows other i), kept_row_set key flags rows set.1)
-        | false ↦ kept_row_set key flags rows set.1
-      ]
-      | false ↦ (
-        λ other i. set.0 other (kept_within key (b ∷ flags) rows other i),
-        kept_row_set key (b ∷ flags) rows set.1,
-      )
-    ]
+kept_row_set key flags rows set =
+    let (marks, is) = kept_marks key flags rows in subst IsRowSet (sym is) (flagged-IsRowSet marks rows set)
 
 -- if no row of a key is there, none has it
 pub none_of : (key : List ℕ) (rows : List Row) → rows_with key rows ≡ [] → NoneOf key rows
@@ -432,35 +356,23 @@ none_of key rows none = All-from_recursion (λ (row : Row). bytes_eq row.key key
     go : (rows : List Row) → rows_with key rows ≡ [] → AllByRecursion (λ (row : Row). bytes_eq row.key key ≡ false) rows
     go [] none = tt
     go (row ∷ rows) none = elim (cases_Bool (bytes_eq row.key key)) [
-      | inl t ↦ absurd (let n = ap length
-          (sym (ap (λ b. cond b (row ∷ rows_with key rows) (rows_with key rows)) t) ∙ none) in omega (arith, n))
-      | inr f ↦ (f, go rows (sym (ap (λ b. cond b (row ∷ rows_with key rows) (rows_with key rows)) f) ∙ none))
+      | inl t ↦ let e = rw t at none in absurd (cc)
+      | inr f ↦ (f, go rows (rw f at none))
     ]
 
 pub filtered_none : (key : List ℕ) (rows : List Row) → NoneOf key rows → rows_with key rows ≡ []
-filtered_none key [] none = refl
-filtered_none key (row ∷ rows) none =
-    ap (λ b. cond b (row ∷ rows_with key rows) (rows_with key rows)) (none 0 row (omega arith))
-    ∙ filtered_none key rows (All-tail (λ (row : Row). bytes_eq row.key key ≡ false) row rows none)
-
-filtered_all : (key : List ℕ) (cells : List Cell) → rows_with key (rows_of key cells) ≡ rows_of key cells
-filtered_all key [] = refl
-filtered_all key (c ∷ cs) =
-    ap (λ b. cond b (row_of key c ∷ rows_with key (rows_of key cs)) (rows_with key (rows_of key cs)))
-    ((bytes_eq-Decides key key).1 refl)
-    ∙ ap (λ l. row_of key c ∷ l) (filtered_all key cs)
+filtered_none key = filter_none (λ (row : Row). bytes_eq row.key key)
 
 -- the rows of the key among those of all columns
 pub own_rows : (front back : List Entry) (key : List ℕ) (cells : List Cell)
     → All (λ e. bytes_eq e.0 key ≡ false) front → All (λ e. bytes_eq e.0 key ≡ false) back
     → rows_with key (table_rows (front ++ (key, cells) ∷ back)) ≡ rows_of key cells
 own_rows front back key cells before behind =
-    ap (rows_with key) (rows_both front ((key, cells) ∷ back))
-    ∙ filter-append (λ (row : Row). bytes_eq row.key key) (table_rows front) (rows_of key cells ++ table_rows back)
-    ∙ ap₂ (λ a b. a ++ b) (filtered_none key (table_rows front) (rows_none key front before))
-    (filter-append (λ (row : Row). bytes_eq row.key key) (rows_of key cells) (table_rows back)
-    ∙ ap₂ (λ a b. a ++ b) (filtered_all key cells)
-    (filtered_none key (table_rows back) (rows_none key back behind)))
+    let p : Entry → Bool = λ e. bytes_eq e.0 key in
+    let own : filter p ((key, cells) ∷ back) ≡ (key, cells) ∷ [] =
+    rw ((bytes_eq-Decides key key).1 refl) (ap (λ l. (key, cells) ∷ l) (filter_none p back behind)) in
+    rows_filtered (λ k. bytes_eq k key) (front ++ (key, cells) ∷ back)
+    ∙ ap table_rows (filter-append p front ((key, cells) ∷ back) ∙ ap₂ (λ a b. a ++ b) (filter_none p front before) own)
     ∙ append-nil (rows_of key cells)
 
 -- the column at the position of a key, and the others
@@ -477,8 +389,7 @@ module _ (ls : List (List Entry)) (key : List ℕ) (at slot : ℕ) (there : IsEn
 
   whole_is : entries_in ls ≡ before_it ++ (key, its_cells) ∷ behind_it
   whole_is =
-      parted_own ls at slot there.0 there.1
-      ∙ ap (λ k. before_it ++ (k, its_cells) ∷ behind_it) there.2
+      parted_own ls at slot there.0 there.1 ∙ ap (λ k. before_it ++ (k, its_cells) ∷ behind_it) there.2
 
   up_parted : IsStrictlySortedBy key_cmp (keys_in (before_it ++ (key, its_cells) ∷ behind_it))
   up_parted = subst (λ es. IsStrictlySortedBy key_cmp (keys_in es)) whole_is up
@@ -519,10 +430,8 @@ module _ (ls : List (List Entry)) (key : List ℕ) (at slot : ℕ) (there : IsEn
       (all_right (λ (e : Entry). 0 < length e.1) before_it ((key, its_cells) ∷ behind_it) all))))
     where
       one : (e : Entry) → All (λ (e : Entry). 0 < length e.1) (if_filled e)
-      one e = elim (cases_Bool (ltb 0 (length e.1))) [
-        | inl t ↦ subst (λ b. All (λ (e : Entry). 0 < length e.1) (cond b (e ∷ []) [])) (sym t)
-            (All-cons (λ (e : Entry). 0 < length e.1) e [] (ltb-true 0 (length e.1) t)
-            (All-nil (λ (e : Entry). 0 < length e.1)))
-        | inr f ↦ subst (λ b. All (λ (e : Entry). 0 < length e.1) (cond b (e ∷ []) [])) (sym f)
-            (All-nil (λ (e : Entry). 0 < length e.1))
-      ]
+      one e =
+          cond_both (ltb 0 (length e.1)) (e ∷ []) [] (All (λ (e : Entry). 0 < length e.1))
+          (λ t. All-cons (λ (e : Entry). 0 < length e.1) e [] (ltb-true 0 (length e.1) t)
+          (All-nil (λ (e : Entry). 0 < length e.1)))
+          (λ f. All-nil (λ (e : Entry). 0 < length e.1))

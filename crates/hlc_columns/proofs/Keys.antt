@@ -1,6 +1,6 @@
 -- Walks over the columns: they are listed, named and counted one after another.
-use Rattle.std.proofs.Common.{◌≡◌, ℕ, ◌<◌, List, [], ◌∷◌, ◌++◌, length, refl, sym, ap, ◌∙◌}
-use Rattle.std.proofs.Common.{inl, inr, arith, Contains, map, Less, nat_cmp, zero, suc, Some, slice_get, get_or}
+use Rattle.std.proofs.Common.{◌≡◌, ℕ, ◌<◌, List, [], ◌∷◌, ◌++◌, length, refl, sym, ap, ◌∙◌, inl, inr, arith, Contains}
+use Rattle.std.proofs.Common.{map, Less, nat_cmp, zero, suc, Some, slice_get, get_or}
 use Rattle.std.specs.Cmp.Lexicographic.{slice_cmp}
 use Rattle.std.specs.List.{AllByRecursion}
 use Rattle.std.specs.List.Sorted.{IsStrictlySortedBy}
@@ -49,18 +49,6 @@ keyed_at (d ∷ es) (suc n) e one lt read is = keyed_at es n e one (omega (arith
 -- the keys of the entries
 abbrev pub names : List (List ℕ × List Cell) → List (List ℕ)
 names es = map (λ e. e.0) es
-
-pub names_ascend : (es : List (List ℕ × List Cell))
-    → IsStrictlySortedBy (λ a b. slice_cmp nat_cmp a b) (keys_of es)
-    → IsStrictlySortedBy (slice_cmp nat_cmp) (names es)
-unfolding IsStrictlySortedBy
-names_ascend [] up = tt
-names_ascend (e ∷ es) up = (each es up.0, names_ascend es up.1)
-  where
-    each : (es : List (List ℕ × List Cell)) → AllByRecursion (λ b. slice_cmp nat_cmp e.0 b ≡ Less) (keys_of es)
-        → AllByRecursion (λ b. slice_cmp nat_cmp e.0 b ≡ Less) (names es)
-    each [] h = tt
-    each (d ∷ ds) h = (h.0, each ds h.1)
 
 -- each key that has rows is named, and no other
 pub name_of_row : (es : List (List ℕ × List Cell)) (row : Row) → Contains (table_rows es) row

@@ -1,10 +1,7 @@
 -- The first columns of a walk, and those above a key.
-use Rattle.std.proofs.Common.{◌≡◌, ◌≢◌, ℕ, zero, suc, ◌+◌, ◌≤◌, List, [], ◌∷◌, ◌++◌, sym, ap}
-use Rattle.std.proofs.Common.{◌∙◌, arith, take}
-use Rattle.std.proofs.Common.{length, get_or, drop, Bool, true, false, Option, Some, None, All, refl, subst, inl, inr}
-use Rattle.std.proofs.Common.{Bor}
-use Rattle.std.proofs.Common.{Ordering, Less, Equal, Greater, true≢false}
-use Rattle.std.specs.Prelude.{MatchOption}
+use Rattle.std.proofs.Common.{◌≡◌, ◌≢◌, ℕ, zero, suc, ◌+◌, ◌≤◌, List, [], ◌∷◌, ◌++◌, sym, ap, MatchOption, append_assoc}
+use Rattle.std.proofs.Common.{length-drop, take_all, ◌∙◌, arith, take, length, get_or, drop, Bool, true, false, Option}
+use Rattle.std.proofs.Common.{Some, None, All, refl, subst, inl, inr, Bor, Ordering, Less, Equal, Greater, true≢false}
 use Rattle.std.specs.Ordering.{is_eq, ordering_reverse}
 use Rattle.std.specs.Str.{bytes_eq}
 use Rattle.std.specs.List.{AllByRecursion}
@@ -12,7 +9,7 @@ use Rattle.std.specs.List.Sorted.{IsStrictlySortedBy}
 use Rattle.std.specs.Cmp.Lexicographic.{nat_list_cmp_total}
 use Rattle.std.proofs.lemmas.Bool.{cases_Bool}
 use Rattle.std.proofs.lemmas.Slice.Eq.{bytes_eq-Decides}
-use Rattle.std.proofs.lemmas.List.{append_assoc, map_push, length-drop, take_all}
+use Rattle.std.proofs.lemmas.List.{map_push}
 use Rattle.std.proofs.lemmas.List.Elements.{All-from_recursion, All-nil, All-cons, All-append, All-weaker}
 use Rattle.hlc_table_index.specs.Entries.{keys_in, key_cmp}
 use Rattle.hlc_table_index.proofs.SlotLemmas.{itself, other}
@@ -38,15 +35,12 @@ one_more {X} xs rest i x is =
 
 -- one more column is listed
 pub listed_more : (list more : List KeyCells) (es left after : List Entry) (i : ℕ) (e : Entry) (one : KeyCells)
-    → list ≡ keyed (take i es) → left ≡ drop i es → left ≡ e ∷ after → more ≡ list ++ one ∷ []
-    → one ≡ one_of e
+    → list ≡ keyed (take i es) → left ≡ drop i es → left ≡ e ∷ after → more ≡ list ++ one ∷ [] → one ≡ one_of e
     → (more ≡ keyed (take (i + 1) es)) × (after ≡ drop (i + 1) es)
 listed_more list more es left after i e one inv rest next is same =
     let h = one_more es after i e (sym rest ∙ next) in (
-      is ∙ ap (λ l. l ++ one ∷ []) inv
-          ∙ ap (λ o. keyed (take i es) ++ o ∷ []) same
-          ∙ sym (map_push one_of (take i es) e)
-          ∙ ap keyed (sym h.0),
+      is ∙ ap (λ l. l ++ one ∷ []) inv ∙ ap (λ o. keyed (take i es) ++ o ∷ []) same
+          ∙ sym (map_push one_of (take i es) e) ∙ ap keyed (sym h.0),
       sym h.1,
     )
 
@@ -67,6 +61,17 @@ pub ascend_from : (front es : List Entry) → IsStrictlySortedBy key_cmp (keys_i
 unfolding IsStrictlySortedBy
 ascend_from [] es up = up
 ascend_from (f ∷ front) es up = ascend_from front es up.1
+
+pub ascend_upto : (front es : List Entry) → IsStrictlySortedBy key_cmp (keys_in (front ++ es))
+    → IsStrictlySortedBy key_cmp (keys_in front)
+unfolding IsStrictlySortedBy
+ascend_upto [] es up = tt
+ascend_upto (f ∷ front) es up = (go front up.0, ascend_upto front es up.1)
+  where
+    go : (front : List Entry) → AllByRecursion (λ k. key_cmp f.0 k ≡ Less) (keys_in (front ++ es))
+        → AllByRecursion (λ k. key_cmp f.0 k ≡ Less) (keys_in front)
+    go [] h = tt
+    go (x ∷ xs) h = (h.0, go xs h.1)
 
 -- a key that is not above the first is below the others
 rest_above : (key : List ℕ) (e : Entry) (es : List Entry) → IsStrictlySortedBy key_cmp (keys_in (e ∷ es))

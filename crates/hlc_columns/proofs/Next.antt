@@ -1,75 +1,39 @@
 -- The first columns above a key are all those of a range of keys.
-use Rattle.std.proofs.Common.{◌≡◌, ◌≢◌, ℕ, zero, suc, ◌<◌, ◌≤◌, Bool, true, false, cond, List}
-use Rattle.std.proofs.Common.{[], ◌∷◌, ◌++◌}
-use Rattle.std.proofs.Common.{refl, sym, ap, ap₂, ◌∙◌, inl, inr, arith, take, drop, filter, length, subst, All, Some}
-use Rattle.std.proofs.Common.{None, Option, Ordering, Less, Equal, Greater, ltb, ◌&&◌, get_or}
-use Rattle.std.specs.Prelude.{not}
+use Rattle.std.proofs.Common.{◌≡◌, ◌≢◌, ℕ, zero, suc, ◌<◌, ◌≤◌, Bool, true, false, cond, List, not, ltb-true}
+use Rattle.std.proofs.Common.{append-nil, take-append-drop, [], ◌∷◌, ◌++◌, refl, sym, ap, ap₂, ◌∙◌, inl, inr, arith}
+use Rattle.std.proofs.Common.{take, drop, filter, length, subst, All, Some, None, Option, Ordering, Less, Equal}
+use Rattle.std.proofs.Common.{Greater, ltb, ◌&&◌, get_or}
 use Rattle.std.specs.Ordering.{is_gt, ordering_reverse}
 use Rattle.std.specs.List.{AllByRecursion}
 use Rattle.std.specs.List.Sorted.{IsStrictlySortedBy}
 use Rattle.std.specs.Cmp.Lexicographic.{nat_list_cmp_total}
-use Rattle.std.proofs.lemmas.Bool.{cases_Bool, ltb-true}
-use Rattle.std.proofs.lemmas.List.{append-nil, take-append-drop, length-map}
-use Rattle.std.proofs.lemmas.List.Elements.{All-from_recursion, All-nil, All-cons}
-use Rattle.std.proofs.lemmas.List.Elements.{filter-append, All-map, All-take, All-tail, All-weaker}
+use Rattle.std.proofs.lemmas.Bool.{cases_Bool}
+use Rattle.std.proofs.lemmas.List.{length-map}
+use Rattle.std.proofs.lemmas.List.Elements.{All-from_recursion, All-nil, All-cons, filter-append, All-map, All-take}
+use Rattle.std.proofs.lemmas.List.Elements.{All-weaker}
 use Rattle.hlc_rows.specs.declared.row.Row.{Row}
 use Rattle.hlc_table_index.specs.Entries.{keys_in, key_cmp}
 use Rattle.hlc_table_index.proofs.SlotLemmas.{itself}
-use Rattle.hlc_table_column.specs.Cells.{Cell}
-use Rattle.hlc_table_column.specs.Rows.{KeyCells, rows_of, row_of, KeysAscend}
+use Rattle.hlc_table_column.specs.Rows.{KeyCells, KeysAscend}
 use Rattle.hlc_columns.specs.Table.{table_rows, keyed}
 use Rattle.hlc_columns.specs.Answers.{AreAbove, AreNext, in_part, is_upto, part_end, last_key}
 use Rattle.hlc_columns.proofs.Keys.{rows_keyed, keys_keyed}
-use Rattle.hlc_columns.proofs.WalkLemmas.{Entry, one_of, rows_both}
-use Rattle.hlc_columns.proofs.Listed.{ascend_from}
+use Rattle.hlc_columns.proofs.WalkLemmas.{Entry, one_of, rows_both, rows_filtered, filter_all, filter_none}
+use Rattle.hlc_columns.proofs.Listed.{ascend_from, ascend_upto}
 use Rattle.hlc_columns.proofs.KeptOf.{all_left, all_right}
 
 -- the rows of columns whose keys all are of a kind, or none of them
 pub pass_all : (is_of : List ℕ → Bool) (es : List Entry) → All (λ e. is_of e.0 ≡ true) es
     → filter (λ row. is_of row.key) (table_rows es) ≡ table_rows es
-pass_all is_of [] all = refl
-pass_all is_of (e ∷ es) all =
-    filter-append (λ (row : Row). is_of row.key) (rows_of e.0 e.1) (table_rows es)
-    ∙ ap₂ (λ a b. a ++ b) (own e.1)
-    (pass_all is_of es (All-tail (λ (e : Entry). is_of e.0 ≡ true) e es all))
-  where
-    own : (cells : List Cell) → filter (λ row. is_of row.key) (rows_of e.0 cells) ≡ rows_of e.0 cells
-    own [] = refl
-    own (c ∷ cs) =
-        ap (λ b. cond b (row_of e.0 c ∷ filter (λ (row : Row). is_of row.key) (rows_of e.0 cs))
-        (filter (λ (row : Row). is_of row.key) (rows_of e.0 cs))) (all 0 e (omega arith))
-        ∙ ap (λ l. row_of e.0 c ∷ l) (own cs)
+pass_all is_of es all = rows_filtered is_of es ∙ ap table_rows (filter_all (λ (e : Entry). is_of e.0) es all)
 
 pub pass_none : (is_of : List ℕ → Bool) (es : List Entry) → All (λ e. is_of e.0 ≡ false) es
     → filter (λ row. is_of row.key) (table_rows es) ≡ []
-pass_none is_of [] all = refl
-pass_none is_of (e ∷ es) all =
-    filter-append (λ (row : Row). is_of row.key) (rows_of e.0 e.1) (table_rows es)
-    ∙ ap₂ (λ a b. a ++ b) (own e.1)
-    (pass_none is_of es (All-tail (λ (e : Entry). is_of e.0 ≡ false) e es all))
-  where
-    own : (cells : List Cell) → filter (λ row. is_of row.key) (rows_of e.0 cells) ≡ []
-    own [] = refl
-    own (c ∷ cs) =
-        ap (λ b. cond b (row_of e.0 c ∷ filter (λ (row : Row). is_of row.key) (rows_of e.0 cs))
-        (filter (λ (row : Row). is_of row.key) (rows_of e.0 cs))) (all 0 e (omega arith))
-        ∙ own cs
-
-sorted_first : (xs ys : List Entry) → IsStrictlySortedBy key_cmp (keys_in (xs ++ ys))
-    → IsStrictlySortedBy key_cmp (keys_in xs)
-unfolding IsStrictlySortedBy
-sorted_first [] ys up = tt
-sorted_first (x ∷ xs) ys up = (go xs up.0, sorted_first xs ys up.1)
-  where
-    go : (xs : List Entry) → AllByRecursion (λ k. key_cmp x.0 k ≡ Less) (keys_in (xs ++ ys))
-        → AllByRecursion (λ k. key_cmp x.0 k ≡ Less) (keys_in xs)
-    go [] h = tt
-    go (z ∷ zs) h = (h.0, go zs h.1)
+pass_none is_of es none = rows_filtered is_of es ∙ ap table_rows (filter_none (λ (e : Entry). is_of e.0) es none)
 
 -- the last key of ascending columns
 below_last : (k other : List ℕ) (e : Entry) (es : List Entry)
-    → AllByRecursion (λ x. key_cmp k x ≡ Less) (keys_in (e ∷ es))
-    → key_cmp k (last_key other (keyed (e ∷ es))) ≡ Less
+    → AllByRecursion (λ x. key_cmp k x ≡ Less) (keys_in (e ∷ es)) → key_cmp k (last_key other (keyed (e ∷ es))) ≡ Less
 below_last k other e [] h = h.0
 below_last k other e (f ∷ es) h = below_last k e.0 f es h.1
 
@@ -119,11 +83,9 @@ drop_none (suc n) [] lt = refl
 drop_none (suc n) (e ∷ es) lt = drop_none n es (omega (arith, lt))
 
 not_greater_gt : (o : Ordering) → o ≢ Greater → is_gt o ≡ false
-not_greater_gt o ne = elim o as (λ p. o ≡ p → is_gt p ≡ false) [
-  | Less ↦ λ is. refl
-  | Equal ↦ λ is. refl
-  | Greater ↦ λ is. absurd (ne is)
-] refl
+not_greater_gt Less ne = refl
+not_greater_gt Equal ne = refl
+not_greater_gt Greater ne = absurd (ne refl)
 
 module _ (key : List ℕ) (limit : ℕ) (above : List Entry) (over : All (λ e. key_cmp e.0 key ≡ Greater) above)
     (up : IsStrictlySortedBy key_cmp (keys_in above)) where
@@ -146,7 +108,7 @@ module _ (key : List ℕ) (limit : ℕ) (above : List Entry) (over : All (λ e. 
   up_parts = subst (λ es. IsStrictlySortedBy key_cmp (keys_in es)) parts up
 
   first_up : IsStrictlySortedBy key_cmp (keys_in first)
-  first_up = sorted_first first rest up_parts
+  first_up = ascend_upto first rest up_parts
 
   upto_end : All (λ e. is_upto end e.0 ≡ true) first
   upto_end = elim (ltb (length (keyed first)) limit) as (λ b.
@@ -187,8 +149,7 @@ module _ (key : List ℕ) (limit : ℕ) (above : List Entry) (over : All (λ e. 
       ∙ ap (filter (λ (row : Row). in_part key end row.key)) (rows_both first rest)
       ∙ filter-append (λ (row : Row). in_part key end row.key) (table_rows first) (table_rows rest)
       ∙ ap₂ (λ a b. a ++ b) (pass_all (in_part key end) first first_inside)
-      (pass_none (in_part key end) rest rest_over)
-      ∙ append-nil (table_rows first)
+      (pass_none (in_part key end) rest rest_over) ∙ append-nil (table_rows first)
 
   pub next_few : length (keyed first) ≤ limit
   next_few = let few = take_few limit above in let long = length-map first one_of in omega (arith, few, long)
@@ -220,6 +181,5 @@ are_next es key above h limit columns is up filled =
           (pass_none (in_part key end) h.front
           (λ i d lt. ap (λ b. b && is_upto end (get_or h.front i d).0)
           (not_greater_gt _ (h.not_above i d lt))))
-          (above_exact key limit above h.all_above up_above)
-          ∙ sym (rows_keyed (take limit above));
+          (above_exact key limit above h.all_above up_above) ∙ sym (rows_keyed (take limit above));
     })

@@ -1,17 +1,15 @@
 -- The last row of a key goes out again, and the rows are those before it was added. Rows of other keys may be added to
 -- that one.
-use Rattle.std.proofs.Common.{◌≡◌, ◌≢◌, ◌<◌, ◌∙◌, ℕ, zero, suc, Bool, true, false, cond, List, [], ◌∷◌, ◌++◌}
-use Rattle.std.proofs.Common.{refl, sym, ap, subst, inl, inr, arith, length, length-append, append_assoc, replicate}
-use Rattle.std.proofs.Common.{true≢false, Contains, take, ◌-◌, ◌+◌}
-use Rattle.std.proofs.lemmas.List.{append-nil, map-append, take_at}
-use Rattle.std.specs.Prelude.{◌||◌}
+use Rattle.std.proofs.Common.{get_or, ◌≡◌, ◌≢◌, ◌<◌, ◌∙◌, ℕ, zero, suc, true, false, List, [], ◌∷◌, ◌++◌, append-nil}
+use Rattle.std.proofs.Common.{take_at, refl, sym, ap, subst, inl, inr, arith, length, length-append, append_assoc}
+use Rattle.std.proofs.Common.{replicate, true≢false, Contains, take, ◌-◌}
+use Rattle.std.proofs.lemmas.List.{map-append}
 use Rattle.std.specs.Str.{bytes_eq}
-use Rattle.std.specs.List.{AllByRecursion}
 use Rattle.std.specs.List.Sorted.{IsPermutation}
-use Rattle.std.proofs.lemmas.Bool.{cases_Bool}
+use Rattle.std.proofs.lemmas.Bool.{cases_Bool, false_from_ne_true, or_parts}
 use Rattle.std.proofs.lemmas.Slice.Eq.{bytes_eq-Decides}
-use Rattle.std.proofs.lemmas.List.Elements.{filter-append, All-cons, All-nil, All-from_recursion}
-use Rattle.std.proofs.lemmas.List.Elements.{Contains-append_cases, Contains-append_left, Contains-append_right}
+use Rattle.std.proofs.lemmas.List.Elements.{Contains-get_or, filter-append, Contains-append_cases, Contains-append_left}
+use Rattle.std.proofs.lemmas.List.Elements.{Contains-append_right}
 use Rattle.std.proofs.lemmas.List.Sorted.{IsPermutation-append_left, IsPermutation-refl, IsPermutation-trans}
 use Rattle.hlc_values.proofs.MemberLemmas.{Contains-none, Contains-first, Contains-rest, Contains-cons_cases}
 use Rattle.hlc_rows.specs.declared.row.Row.{Row}
@@ -20,71 +18,44 @@ use Rattle.hlc_rows.specs.Writes.{row_written, rows_written, writes_key, writes_
 use Rattle.hlc_table_column.specs.Rows.{rows_with}
 use Rattle.hlc_columns.specs.Table.{rows_kept, HasNoVersion, InsertedLast, AllInserted}
 use Rattle.hlc_columns.proofs.Inserted.{inserted-IsPermutation}
-use Rattle.hlc_columns.proofs.KeptOf.{NoneOf, kept_none, kept_before, filtered_none}
+use Rattle.hlc_columns.proofs.KeptOf.{NoneOf, kept_other, kept_none, filtered_none}
 
 none_behind : (key : List ℕ) (back : List Row) → ((other : Row) → Contains back other → other.key ≢ key)
     → NoneOf key back
-none_behind key back others = All-from_recursion (λ (row : Row). bytes_eq row.key key ≡ false) back (go back others)
-  where
-    go : (rows : List Row) → ((other : Row) → Contains rows other → other.key ≢ key)
-        → AllByRecursion (λ (row : Row). bytes_eq row.key key ≡ false) rows
-    go [] others = tt
-    go (row ∷ rows) others = (
-      elim (cases_Bool (bytes_eq row.key key)) [
-        | inl t ↦ absurd (others row (Contains-first row rows) ((bytes_eq-Decides row.key key).0 t))
-        | inr f ↦ f
-      ],
-      go rows (λ other m. others other (Contains-rest row other rows m)),
-    )
+none_behind key back others i d lt =
+    let row : Row = get_or back i d in
+    false_from_ne_true (bytes_eq row.key key)
+    (λ t. others row (Contains-get_or back i d lt) ((bytes_eq-Decides row.key key).0 t))
 
 -- the key has one more row than before it
 counted : (key : List ℕ) (front back : List Row) (row : Row) → bytes_eq row.key key ≡ true → NoneOf key back
     → length (rows_with key (front ++ row ∷ back)) ≡ suc (length (rows_with key front))
 counted key front back row own none =
-    let parts = ap length (filter-append (λ (row : Row). bytes_eq row.key key) front (row ∷ back)) in
-    let both = length-append (rows_with key front) (rows_with key (row ∷ back)) in
-    let one = ap length
-    (ap (λ b. cond b (row ∷ rows_with key back) (rows_with key back)) own
-    ∙ ap (λ rows. row ∷ rows) (filtered_none key back none)) in
-    omega (arith, parts, both, one)
+    rw (filter-append (λ (row : Row). bytes_eq row.key key) front (row ∷ back), own, filtered_none key back none)
+    (omega (arith, length-append (rows_with key front) (row ∷ [])))
 
 -- all rows of the key but the last are kept
 left_out : (key : List ℕ) (front back : List Row) (row : Row) (many : ℕ) → length (rows_with key front) ≡ many
     → bytes_eq row.key key ≡ true → NoneOf key back
     → rows_kept key (replicate many true ++ false ∷ []) (front ++ row ∷ back) ≡ front ++ back
-left_out key [] back row zero e own none =
-    ap (λ t. cond t (rows_kept key [] back) (row ∷ rows_kept key (false ∷ []) back)) own ∙ kept_none key [] back none
-left_out key [] back row (suc many) e own none = absurd (omega (arith, e))
-left_out key (f ∷ front) back row zero e own none =
-    elim (cases_Bool (bytes_eq f.key key)) [
-      | inl t ↦ absurd (let n = sym
-          (ap (λ b. length (cond b (f ∷ rows_with key front) (rows_with key front))) t) ∙ e in omega (arith, n))
-      | inr n ↦
-          kept_before key (false ∷ []) (f ∷ []) (front ++ row ∷ back)
-          (All-cons (λ (row : Row). bytes_eq row.key key ≡ false) f [] n
-          (All-nil (λ (row : Row). bytes_eq row.key key ≡ false)))
-          ∙ ap (λ rows. f ∷ rows) (left_out key front back row zero
-          (sym (ap (λ b. length (cond b (f ∷ rows_with key front) (rows_with key front))) n) ∙ e) own none)
-    ]
-left_out key (f ∷ front) back row (suc many) e own none =
-    elim (cases_Bool (bytes_eq f.key key)) [
-      | inl t ↦
-          let n = sym (ap (λ b. length (cond b (f ∷ rows_with key front) (rows_with key front))) t) ∙ e in
-          ap (λ b. cond b
-          (f ∷ rows_kept key (replicate many true ++ false ∷ []) (front ++ row ∷ back))
-          (f ∷ rows_kept key (replicate (suc many) true ++ false ∷ []) (front ++ row ∷ back))) t
-          ∙ ap (λ rows. f ∷ rows) (left_out key front back row many (omega (arith, n)) own none)
-      | inr n ↦
-          kept_before key (replicate (suc many) true ++ false ∷ []) (f ∷ []) (front ++ row ∷ back)
-          (All-cons (λ (row : Row). bytes_eq row.key key ≡ false) f [] n
-          (All-nil (λ (row : Row). bytes_eq row.key key ≡ false)))
-          ∙ ap (λ rows. f ∷ rows) (left_out key front back row (suc many)
-          (sym (ap (λ b. length (cond b (f ∷ rows_with key front) (rows_with key front))) n) ∙ e) own none)
-    ]
+left_out key [] back row zero e own none = rw own (kept_none key [] back none)
+left_out key [] back row (suc many) e own none = absurd (omega arith)
+left_out key (f ∷ front) back row zero e own none = elim (cases_Bool (bytes_eq f.key key)) [
+  | inl t ↦ absurd (let n = rw t at e in omega (arith, n))
+  | inr n ↦
+      kept_other key (false ∷ []) f (front ++ row ∷ back) n
+      ∙ ap (λ rows. f ∷ rows) (left_out key front back row zero (rw n at e) own none)
+]
+left_out key (f ∷ front) back row (suc many) e own none = elim (cases_Bool (bytes_eq f.key key)) [
+  | inl t ↦ rw t (ap (λ rows. f ∷ rows)
+      (left_out key front back row many (let n = rw t at e in omega (arith, n)) own none))
+  | inr n ↦
+      kept_other key (replicate (suc many) true ++ false ∷ []) f (front ++ row ∷ back) n
+      ∙ ap (λ rows. f ∷ rows) (left_out key front back row (suc many) (rw n at e) own none)
+]
 
 pub last_out : (key : List ℕ) (old new : List Row) (row : Row) (many : ℕ) → row.key ≡ key → InsertedLast old row new
-    → suc many ≡ length (rows_with key new)
-    → rows_kept key (replicate many true ++ false ∷ []) new ≡ old
+    → suc many ≡ length (rows_with key new) → rows_kept key (replicate many true ++ false ∷ []) new ≡ old
 last_out key old new row many own (front, back, was, is, others) e =
     let same = (bytes_eq-Decides row.key key).1 own in
     let none = none_behind key back (λ other m has. others other m (has ∙ sym own)) in
@@ -119,15 +90,6 @@ still_new old new first row (front, back, was, is, others) none apart other m sa
       ]
     ]
 
--- of two tests that fail, each fails
-pub first_fails : (a b : Bool) → a || b ≡ false → a ≡ false
-first_fails true b h = absurd (true≢false h)
-first_fails false b h = refl
-
-pub second_fails : (a b : Bool) → a || b ≡ false → b ≡ false
-second_fails true b h = absurd (true≢false h)
-second_fails false b h = h
-
 pub others_apart : (node stamp : ℕ) (key : List ℕ) (writes : List Write) → writes_key key writes ≡ false → (row : Row)
     → Contains (rows_written node stamp writes) row → row.key ≢ key
 others_apart node stamp key [] h row m same = Contains-none row m
@@ -135,8 +97,8 @@ others_apart node stamp key (w ∷ ws) h row m same =
     elim (Contains-cons_cases (row_written node stamp w) row (rows_written node stamp ws) m) [
       | inl e ↦ true≢false
           (sym ((bytes_eq-Decides w.key key).1 (ap (λ (r : Row). r.key) e ∙ same))
-          ∙ first_fails (bytes_eq w.key key) (writes_key key ws) h)
-      | inr there ↦ others_apart node stamp key ws (second_fails (bytes_eq w.key key) (writes_key key ws) h) row there
+          ∙ (or_parts (bytes_eq w.key key) (writes_key key ws) h).0)
+      | inr there ↦ others_apart node stamp key ws (or_parts (bytes_eq w.key key) (writes_key key ws) h).1 row there
           same
     ]
 
@@ -200,7 +162,7 @@ pub go-on : (old : List Row) (node stamp : ℕ) (writes : List Write) (now : Lis
 go-on old node stamp writes now rest write others new b is last =
     let row = row_written node stamp write in
     let once = subst (λ writes. writes_twice writes ≡ false) is b.once in
-    let other = first_fails (writes_key write.key others) (writes_twice others) once in record {
+    let parts = or_parts (writes_key write.key others) (writes_twice others) once in record {
       before = b.before ++ write ∷ [];
       parts = b.parts ∙ ap (λ (rest : List Write). b.before ++ rest) is
           ∙ sym (append_assoc b.before (write ∷ []) others);
@@ -210,8 +172,8 @@ go-on old node stamp writes now rest write others new b is last =
           (b.new later
           (subst (λ writes. Contains (rows_written node stamp writes) later) (sym is)
           (Contains-rest row later (rows_written node stamp others) m)))
-          (others_apart node stamp write.key others other later m);
-      once = second_fails (writes_key write.key others) (writes_twice others) once;
+          (others_apart node stamp write.key others parts.0 later m);
+      once = parts.1;
     }
 
 -- all rows are in
@@ -225,8 +187,7 @@ ended old node stamp writes now rest b is =
 -- those that are in are the rows of the first writes
 pub so-far : (old : List Row) (node stamp : ℕ) (writes : List Write) (now : List Row) (rest : List Write)
     (write : Write) (others : List Write) (count : ℕ) → Begun old node stamp writes now rest → rest ≡ write ∷ others
-    → count ≡ length writes - 1 - length others
-    → AllInserted old (rows_written node stamp (take count writes)) now
+    → count ≡ length writes - 1 - length others → AllInserted old (rows_written node stamp (take count writes)) now
 so-far old node stamp writes now rest write others count b is many =
     let all' : writes ≡ b.before ++ (write ∷ others) = b.parts ∙ ap (λ (rest : List Write). b.before ++ rest) is in
     let long = ap length all' in

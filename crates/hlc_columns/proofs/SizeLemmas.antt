@@ -1,29 +1,25 @@
 -- The sizes of columns: of some and of others after them, of the first of them, with one more row, with one more key.
-use Rattle.std.proofs.Common.{◌≡◌, ℕ, suc, ◌+◌, ◌<◌, ◌≤◌, Bool, true, false, cond, List, [], ◌∷◌}
-use Rattle.std.proofs.Common.{◌++◌, Some, None}
-use Rattle.std.proofs.Common.{refl, sym, ap, ◌∙◌, inl, inr, arith, length, subst, true≢false}
-use Rattle.std.proofs.Common.{Less, Equal, Greater, nat_cmp}
-use Rattle.std.specs.Prelude.{sum_by}
+use Rattle.std.proofs.Common.{ap₂, ◌≡◌, ℕ, suc, ◌+◌, ◌<◌, ◌≤◌, Bool, true, false, List, [], ◌∷◌, sum_by, length-append}
+use Rattle.std.proofs.Common.{◌++◌, Some, None, refl, sym, ap, ◌∙◌, inl, inr, arith, length, subst, true≢false, Less}
+use Rattle.std.proofs.Common.{Equal, Greater, nat_cmp, Contains}
 use Rattle.std.specs.Ordering.{is_eq, match_ordering}
 use Rattle.std.specs.Cmp.Lexicographic.{slice_cmp}
 use Rattle.std.specs.Map.{lookup, set_value}
 use Rattle.std.specs.BTreeMap.{insert_entry}
-use Rattle.std.proofs.lemmas.Bool.{cases_Bool}
+use Rattle.std.proofs.lemmas.Bool.{cases_Bool, cond_both}
 use Rattle.std.proofs.lemmas.Option.{none-some, same_Some}
-use Rattle.std.proofs.lemmas.List.{length-append, length-map}
+use Rattle.std.proofs.lemmas.List.{length-map}
 use Rattle.std.proofs.lemmas.List.Sums.{sum_by-cons, sum_by-append, sum_by_push}
 use Rattle.hlc_rows.specs.declared.row.Row.{Row}
 use Rattle.hlc_table_index.specs.Entries.{keys_in}
 use Rattle.hlc_table_column.specs.Cells.{Cell, value_bytes, cell_bytes}
 use Rattle.hlc_table_column.specs.Rows.{row_of, rows_of}
 use Rattle.hlc_columns.specs.Table.{table_rows}
-use Rattle.hlc_columns.specs.Sizes.{sizes_of, with_row, with_key, Fit, row_bytes, AreSizes}
-use Rattle.hlc_columns.specs.Sizes.{Sizes}
+use Rattle.hlc_columns.specs.Sizes.{IsPart, sizes_of, with_row, with_key, Fit, row_bytes, AreSizes, Sizes}
 use Rattle.hlc_columns.proofs.FoundLemmas.{test, same_key, none_here}
 use Rattle.hlc_columns.proofs.Keys.{name_of_row, row_of_name}
 use Rattle.std.specs.List.{AllByRecursion, items_where_true}
 use Rattle.std.specs.List.Sorted.{IsStrictlySortedBy}
-use Rattle.std.proofs.Common.{Contains}
 
 abbrev pub Entry : Type 0
 Entry = List ℕ × List Cell
@@ -32,8 +28,7 @@ Entry = List ℕ × List Cell
 pub equal : (a b : Sizes) → a.rows ≡ b.rows → a.keys ≡ b.keys → a.key_bytes ≡ b.key_bytes
     → a.value_bytes ≡ b.value_bytes → a ≡ b
 equal a b rows keys key_bytes value_bytes =
-    ap (λ n. record a { rows = n }) rows
-    ∙ ap (λ n. record a { rows = b.rows; keys = n }) keys
+    ap (λ n. record a { rows = n }) rows ∙ ap (λ n. record a { rows = b.rows; keys = n }) keys
     ∙ ap (λ n. record a { rows = b.rows; keys = b.keys; key_bytes = n }) key_bytes
     ∙ ap (λ n. record b { value_bytes = n }) value_bytes
 
@@ -78,30 +73,20 @@ sum_set f key cells new (e ∷ es) h =
     elim (cases_Bool (test key e.0)) [
       | inl t ↦
           let name = same_key key e.0 t in
-          let is : e.1 ≡ cells =
-          same_Some e.1 cells (sym (ap (λ b. cond b (Some e.1) (lookup (test key) es)) t) ∙ h) in
-          let after : sum_by f (set_value (test key) (e ∷ es) new) ≡ f (key, new) + sum_by f es =
-          ap (λ b. sum_by f (cond b ((e.0, new) ∷ es) (e ∷ set_value (test key) es new))) t
-          ∙ sum_by-cons f (e.0, new) es ∙ ap (λ k. f (k, new) + sum_by f es) (sym name) in
-          let before : f e ≡ f (key, cells) =
-          ap (λ k. f (k, e.1)) (sym name) ∙ ap (λ cs. f (key, cs)) is in
-          omega (arith, own, after, before)
+          let is : e.1 ≡ cells = same_Some e.1 cells (rw t at h) in
+          let before : f e ≡ f (key, cells) = ap₂ (λ k cs. f (k, cs)) (sym name) is in
+          let after : f (e.0, new) ≡ f (key, new) = ap (λ k. f (k, new)) (sym name) in
+          rw t (omega (arith, sum_by-cons f (e.0, new) es))
       | inr n ↦
-          let rest = sum_set f key cells new es (sym (ap (λ b. cond b (Some e.1) (lookup (test key) es)) n) ∙ h) in
-          let after : sum_by f (set_value (test key) (e ∷ es) new) ≡ f e + sum_by f (set_value (test key) es new) =
-          ap (λ b. sum_by f (cond b ((e.0, new) ∷ es) (e ∷ set_value (test key) es new))) n
-          ∙ sum_by-cons f e (set_value (test key) es new) in
-          omega (arith, own, after, rest)
+          let rest = sum_set f key cells new es (rw n at h) in
+          rw n (omega (arith, sum_by-cons f e (set_value (test key) es new)))
     ]
 
 pub length_set : (key : List ℕ) (new : List Cell) (es : List Entry) → length (set_value (test key) es new) ≡ length es
 length_set key new [] = refl
 length_set key new (e ∷ es) =
-    elim (test key e.0) as (λ b. length (cond b ((e.0, new) ∷ es) (e ∷ set_value (test key) es new))
-    ≡ length (e ∷ es)) [
-      | true ↦ refl
-      | false ↦ ap suc (length_set key new es)
-    ]
+    cond_both (test key e.0) ((e.0, new) ∷ es) (e ∷ set_value (test key) es new) (λ l. length l ≡ length (e ∷ es))
+    (λ t. refl) (λ n. ap suc (length_set key new es))
 
 -- a number of each column, when a column is added
 pub sum_added : (f : Entry → ℕ) (k : List ℕ) (cells : List Cell) (es : List Entry) → lookup (test k) es ≡ None
@@ -144,14 +129,12 @@ sizes_pushed key cell cells new es after found more is =
     let values = sum_set (λ (e : Entry). sum_by cell_bytes e.1) key cells new es found in
     let long = ap length more ∙ length-append cells (cell ∷ []) in
     let bytes = ap (sum_by cell_bytes) more ∙ sum_by_push cell_bytes cells cell in
-    ap sizes_of is
-    ∙ equal (sizes_of (set_value (test key) es new)) (with_row (sizes_of es) (cell_bytes cell))
+    ap sizes_of is ∙ equal (sizes_of (set_value (test key) es new)) (with_row (sizes_of es) (cell_bytes cell))
     (omega (arith, rows, long)) (length_set key new es) (omega (arith, names)) (omega (arith, values, bytes))
 
 -- one row of a new key
 pub sizes_added : (k : List ℕ) (cell : Cell) (new : List Cell) (es after : List Entry)
-    → lookup (test k) es ≡ None → new ≡ cell ∷ []
-    → after ≡ insert_entry (λ a b. slice_cmp nat_cmp a b) es k new
+    → lookup (test k) es ≡ None → new ≡ cell ∷ [] → after ≡ insert_entry (λ a b. slice_cmp nat_cmp a b) es k new
     → sizes_of after ≡ with_key (with_row (sizes_of es) (cell_bytes cell)) (length k)
 sizes_added k cell new es after absent one is =
     let rows = sum_added (λ (e : Entry). length e.1) k new es absent in
@@ -159,8 +142,7 @@ sizes_added k cell new es after absent one is =
     let values = sum_added (λ (e : Entry). sum_by cell_bytes e.1) k new es absent in
     let long = ap length one in
     let bytes = ap (sum_by cell_bytes) one ∙ sum_by-cons cell_bytes cell [] in
-    ap sizes_of is
-    ∙ equal (sizes_of (insert_entry (λ a b. slice_cmp nat_cmp a b) es k new))
+    ap sizes_of is ∙ equal (sizes_of (insert_entry (λ a b. slice_cmp nat_cmp a b) es k new))
     (with_key (with_row (sizes_of es) (cell_bytes cell)) (length k))
     (omega (arith, rows, long)) (length_added k new es absent) (omega (arith, names)) (omega (arith, values, bytes))
 
@@ -168,16 +150,7 @@ sizes_added k cell new es after absent one is =
 pub fit_less : (a b : Sizes) → a.rows ≤ b.rows → a.keys ≤ b.keys → a.key_bytes ≤ b.key_bytes
     → a.value_bytes ≤ b.value_bytes → Fit b → Fit a
 fit_less a b rows keys names values fit =
-    let f = fit.rows in
-    let g = fit.keys in
-    let h = fit.key_bytes in
-    let i = fit.value_bytes in
-    record {
-      rows = omega (arith, rows, f);
-      keys = omega (arith, keys, g);
-      key_bytes = omega (arith, names, h);
-      value_bytes = omega (arith, values, i);
-    }
+    record { rows = omega arith; keys = omega arith; key_bytes = omega arith; value_bytes = omega arith }
 
 -- the sizes of a table
 pub are_sizes : (es : List Entry) (rows : List Row) → AllByRecursion (λ e. 0 < length e.1) es
@@ -208,18 +181,27 @@ pub sum_kept : {X : Type 0} (f : X → ℕ) (flags : List Bool) (xs : List X)
 sum_kept f [] xs = omega arith
 sum_kept f (b ∷ flags) [] = omega arith
 sum_kept f (true ∷ flags) (x ∷ xs) =
-    let a = sum_by-cons f x xs in
-    let b = sum_by-cons f x (items_where_true flags xs) in
-    let rest = sum_kept f flags xs in
-    omega (arith, a, b, rest)
-sum_kept f (false ∷ flags) (x ∷ xs) =
-    let a = sum_by-cons f x xs in
-    let rest = sum_kept f flags xs in
-    omega (arith, a, rest)
+    omega (arith, sum_by-cons f x xs, sum_by-cons f x (items_where_true flags xs), sum_kept f flags xs)
+sum_kept f (false ∷ flags) (x ∷ xs) = omega (arith, sum_by-cons f x xs, sum_kept f flags xs)
 
 -- no more rows are kept than there were
 pub length_kept : (flags : List Bool) (cells : List Cell) → length (items_where_true flags cells) ≤ length cells
 length_kept [] cells = omega arith
 length_kept (b ∷ flags) [] = omega arith
-length_kept (true ∷ flags) (c ∷ cells) = let rest = length_kept flags cells in omega (arith, rest)
-length_kept (false ∷ flags) (c ∷ cells) = let rest = length_kept flags cells in omega (arith, rest)
+length_kept (true ∷ flags) (c ∷ cells) = omega (arith, length_kept flags cells)
+length_kept (false ∷ flags) (c ∷ cells) = omega (arith, length_kept flags cells)
+
+-- so fewer rows of a column are a part of them
+pub less_one : (key : List ℕ) (flags : List Bool) (cells : List Cell)
+    → IsPart (sizes_of ((key, items_where_true flags cells) ∷ [])) (sizes_of ((key, cells) ∷ []))
+less_one key flags cells = record {
+  rows = single (λ (e : Entry). length e.1) (length_kept flags cells);
+  keys = omega arith;
+  key_bytes = single (λ (e : Entry). length e.0) (omega arith);
+  value_bytes = single (λ (e : Entry). sum_by cell_bytes e.1) (sum_kept cell_bytes flags cells);
+}
+  where
+    single : (f : Entry → ℕ) → f (key, items_where_true flags cells) ≤ f (key, cells)
+        → sum_by f ((key, items_where_true flags cells) ∷ []) ≤ sum_by f ((key, cells) ∷ [])
+    single f le =
+        omega (arith, sum_by-cons f (key, items_where_true flags cells) [], sum_by-cons f (key, cells) [])

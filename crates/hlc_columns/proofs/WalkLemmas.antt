@@ -1,13 +1,15 @@
 -- Walks over leaves and their entries: what is listed or counted of one more.
-use Rattle.std.proofs.Common.{◌≡◌, ◌≤◌, ◌+◌, ◌++◌, ◌∷◌, ◌∙◌, ℕ, List, [], Bool, true, false, cond, length, arith}
-use Rattle.std.proofs.Common.{ap, sym, refl, take, map, filter, leb, Bor}
-use Rattle.std.proofs.lemmas.List.{append_assoc, map_push, length-append, take_all}
+use Rattle.std.proofs.Common.{true, false, suc, inl, inr, All, ap₂, ◌≡◌, ◌≤◌, ◌+◌, ◌++◌, ◌∷◌, ◌∙◌, ℕ, List, [], Bool}
+use Rattle.std.proofs.Common.{length, arith, append_assoc, length-append, take_all, ap, sym, refl, take, map, filter}
+use Rattle.std.proofs.Common.{leb, Bor}
+use Rattle.std.proofs.lemmas.List.{map_push}
 use Rattle.std.proofs.lemmas.List.Concat.{flat_map-append}
-use Rattle.std.proofs.lemmas.List.Elements.{filter-append}
+use Rattle.std.proofs.lemmas.List.Elements.{filter-append, All-map}
+use Rattle.std.proofs.lemmas.Bool.{cases_Bool, cond_both}
 use Rattle.hlc_rows.specs.declared.row.Row.{Row}
 use Rattle.hlc_table_index.specs.Entries.{entries_in, entries_from, keys_in}
 use Rattle.hlc_table_column.specs.Cells.{Cell}
-use Rattle.hlc_table_column.specs.Rows.{KeyCells, rows_of}
+use Rattle.hlc_table_column.specs.Rows.{KeyCells, row_of, rows_of}
 use Rattle.hlc_columns.specs.Table.{table_rows}
 
 abbrev pub Entry : Type 0
@@ -24,8 +26,7 @@ name_next list more one left after e all is grown same inv =
     let listed = map (λ (key : Bor (List ℕ)). key.now) list in
     ap (λ m. map (λ (key : Bor (List ℕ)). key.now) m ++ keys_in after) grown
     ∙ ap (λ m. m ++ keys_in after) (map_push (λ (key : Bor (List ℕ)). key.now) list one)
-    ∙ append_assoc listed (one.now ∷ []) (keys_in after)
-    ∙ ap (λ key. listed ++ key ∷ keys_in after) same
+    ∙ append_assoc listed (one.now ∷ []) (keys_in after) ∙ ap (λ key. listed ++ key ∷ keys_in after) same
     ∙ ap (λ es. listed ++ keys_in es) (sym is) ∙ inv
 
 -- all are listed at the end
@@ -36,17 +37,39 @@ whole xs n le = take_all n xs le
 pub rows_both : (xs ys : List Entry) → table_rows (xs ++ ys) ≡ table_rows xs ++ table_rows ys
 rows_both xs ys = flat_map-append (λ (e : Entry). rows_of e.0 e.1) xs ys
 
+-- items that a test selects
+pub filter_all : {X : Type 0} (p : X → Bool) (xs : List X) → All (λ x. p x ≡ true) xs → filter p xs ≡ xs
+filter_all p [] all = refl
+filter_all p (x ∷ xs) all =
+    rw (all 0 x (omega arith)) (ap (λ l. x ∷ l) (filter_all p xs (λ i d lt. all (suc i) d (omega arith))))
+
+pub filter_none : {X : Type 0} (p : X → Bool) (xs : List X) → All (λ x. p x ≡ false) xs → filter p xs ≡ []
+filter_none p [] none = refl
+filter_none p (x ∷ xs) none =
+    rw (none 0 x (omega arith)) (filter_none p xs (λ i d lt. none (suc i) d (omega arith)))
+
+-- the rows with keys of a kind are those of the columns with such keys
+pub rows_filtered : (is_of : List ℕ → Bool) (es : List Entry)
+    → filter (λ row. is_of row.key) (table_rows es) ≡ table_rows (filter (λ e. is_of e.0) es)
+rows_filtered is_of [] = refl
+rows_filtered is_of (e ∷ es) =
+    let p : Row → Bool = λ row. is_of row.key in
+    filter-append p (rows_of e.0 e.1) (table_rows es) ∙ elim (cases_Bool (is_of e.0)) [
+      | inl t ↦ rw t (ap₂ (λ a b. a ++ b) (filter_all p (rows_of e.0 e.1)
+          (All-map (λ (row : Row). is_of row.key ≡ true) (row_of e.0) e.1 (λ i d lt. t))) (rows_filtered is_of es))
+      | inr f ↦ rw f (ap₂ (λ a b. a ++ b) (filter_none p (rows_of e.0 e.1)
+          (All-map (λ (row : Row). is_of row.key ≡ false) (row_of e.0) e.1 (λ i d lt. f))) (rows_filtered is_of es))
+    ]
+
 module _ (bound : ℕ) where
   abbrev pub within : Row → Bool
   within row = leb row.stamp bound
 
   pub few : (rows : List Row) → length (filter within rows) ≤ length rows
   few [] = omega arith
-  few (row ∷ rows) = elim (within row) as (λ b. length (cond b (row ∷ filter within rows) (filter within rows))
-      ≤ length (row ∷ rows)) [
-        | true ↦ omega (arith, few rows)
-        | false ↦ omega (arith, few rows)
-      ]
+  few (row ∷ rows) =
+      cond_both (within row) (row ∷ filter within rows) (filter within rows) (λ l. length l ≤ length (row ∷ rows))
+      (λ t. omega (arith, few rows)) (λ f. omega (arith, few rows))
 
   -- the rows of one more entry are counted
   pub count_next : (left after : List Entry) (e : Entry) (total n all : ℕ) → left ≡ e ∷ after

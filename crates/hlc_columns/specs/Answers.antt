@@ -1,7 +1,7 @@
 -- The answers of many keys at one bound.
-use Rattle.std.specs.Prelude.{◌≡◌, ◌≢◌, ◌↔◌, ℕ, List, [], ◌∷◌, ◌++◌, Bool, true, false}
-use Rattle.std.specs.Prelude.{Option, Some, None, map, drop, All, length, filter, not, nat_lt, ◌&&◌, ◌<◌, ◌≤◌}
-use Rattle.std.specs.Prelude.{Contains, IsTrue, if◌then◌else◌, take, reverse, option_copied}
+use Rattle.std.specs.Prelude.{◌≡◌, ◌≢◌, ◌↔◌, ℕ, List, [], ◌∷◌, ◌++◌, Bool, true, false, Option, Some, None, map, drop}
+use Rattle.std.specs.Prelude.{All, length, filter, not, nat_lt, ◌&&◌, ◌<◌, ◌≤◌, Contains, IsTrue, if◌then◌else◌, take}
+use Rattle.std.specs.Prelude.{reverse, option_copied}
 use Rattle.std.specs.List.Sorted.{IsStrictlySortedBy}
 use Rattle.std.specs.Cmp.Lexicographic.{slice_cmp}
 use Rattle.std.specs.Str.{bytes_eq}
@@ -42,15 +42,19 @@ pub record AreAnswers (rows : List Row) (bound : ℕ) (IsWanted : List ℕ → T
 abbrev pub AreAnswersBack : List Row → ℕ → (List ℕ → Type 0) → List (List ℕ × List ℕ) → Type 0
 AreAnswersBack rows bound IsWanted pairs = AreAnswers rows bound IsWanted (reverse pairs)
 
--- a key with its value, if it has one
-abbrev pub pair_of : List ℕ → Option (List ℕ) → List (List ℕ × List ℕ)
+-- a key with what it has, if it has something
+abbrev pub pair_of : {V : Type 0} → List ℕ → Option V → List (List ℕ × V)
 pair_of key None = []
 pair_of key (Some value) = (key, value) ∷ []
 
+-- for some columns in turn the keys that have something, each with it
+abbrev pub pairs_in : {V : Type 0} → (List ℕ × List Cell → Option V) → List (List ℕ × List Cell) → List (List ℕ × V)
+pairs_in has [] = []
+pairs_in has (e ∷ es) = pair_of e.0 (has e) ++ pairs_in has es
+
 -- for some columns in turn the keys that have a value at a bound
 abbrev pub answers_in : List (List ℕ × List Cell) → ℕ → List (List ℕ × List ℕ)
-answers_in [] bound = []
-answers_in (e ∷ es) bound = pair_of e.0 (answer (rows_of e.0 e.1) e.0 bound) ++ answers_in es bound
+answers_in es bound = pairs_in (λ e. answer (rows_of e.0 e.1) e.0 bound) es
 
 -- some entries in turn, up to the first whose key is not of a kind
 abbrev pub leading : (List ℕ → Bool) → List (List ℕ × List Cell) → List (List ℕ × List Cell)

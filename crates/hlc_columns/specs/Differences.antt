@@ -1,6 +1,6 @@
 -- The differences between the answers at two bounds.
-use Rattle.std.specs.Prelude.{◌≡◌, ◌≢◌, ◌↔◌, ℕ, List, [], ◌∷◌, ◌++◌, Bool, true, false, Option, Some, None}
-use Rattle.std.specs.Prelude.{map, Contains, if◌then◌else◌, option_copied}
+use Rattle.std.specs.Prelude.{◌≡◌, ◌≢◌, ◌↔◌, ℕ, List, Bool, true, false, Option, Some, None, map, Contains}
+use Rattle.std.specs.Prelude.{if◌then◌else◌, option_copied}
 use Rattle.std.specs.Borrow.{Bor}
 use Rattle.std.specs.List.Sorted.{IsStrictlySortedBy}
 use Rattle.std.specs.Cmp.Lexicographic.{slice_cmp}
@@ -10,6 +10,7 @@ use Rattle.hlc_rows.specs.declared.row.Row.{Row}
 use Rattle.hlc_rows.specs.Rows.{answer}
 use Rattle.hlc_table_column.specs.Cells.{Cell}
 use Rattle.hlc_table_column.specs.Rows.{rows_of}
+use Rattle.hlc_columns.specs.Answers.{pairs_in}
 
 -- a key with its value at the second bound, or none if it has none there
 abbrev pub Difference : Type 0
@@ -29,16 +30,14 @@ is_same None (Some b) = false
 is_same (Some a) None = false
 is_same (Some a) (Some b) = bytes_eq a b
 
--- a key with its second answer, if the first is another
-abbrev pub difference_of : List ℕ → Option (List ℕ) → Option (List ℕ) → List Difference
-difference_of key before after = if is_same before after then [] else (key, after) ∷ []
+-- the second answer, if the first is another
+abbrev pub difference_of : Option (List ℕ) → Option (List ℕ) → Option (Option (List ℕ))
+difference_of before after = if is_same before after then None else Some after
 
 -- for some columns in turn, the keys whose answers at two bounds differ
 abbrev pub differences_in : List (List ℕ × List Cell) → ℕ → ℕ → List Difference
-differences_in [] from to = []
-differences_in (e ∷ es) from to =
-    difference_of e.0 (answer (rows_of e.0 e.1) e.0 from) (answer (rows_of e.0 e.1) e.0 to)
-    ++ differences_in es from to
+differences_in es from to =
+    pairs_in (λ e. difference_of (answer (rows_of e.0 e.1) e.0 from) (answer (rows_of e.0 e.1) e.0 to)) es
 
 -- a key and a value behind references
 abbrev pub difference_read : Bor (List ℕ) × Option (Bor (List ℕ)) → Difference

@@ -1,6 +1,5 @@
 //! Adding rows to the columns of an index.
-ghost use Rattle.std.specs.Prelude.{◌≡◌, ◌<◌, [], ℕ, List, None, length, slice_index_or};
-ghost use Rattle.std.specs.Prelude.{OnOk, OnErr, IfOk, IfErr};
+ghost use Rattle.std.specs.Prelude.{◌≡◌, ◌<◌, [], ℕ, List, None, length, slice_index_or, OnOk, OnErr, IfOk, IfErr};
 ghost use Rattle.std.specs.Map.{lookup};
 ghost use Rattle.hlc_table_index.specs.Entries.{is_key, entries_in, IsEntryAt, IsGap};
 ghost use Rattle.hlc_columns.specs.Parts.{new_row};

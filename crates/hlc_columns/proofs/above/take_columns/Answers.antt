@@ -7,8 +7,7 @@ use Rattle.hlc_columns.proofs.above.take_columns.Goals as goal
 
 pub returns-in_default : goal.returns-in_default
 returns-in_default c =
-    c.loop.invariant.list
-    ∙ ap keyed (listed_all (entries_left c.args.walk.now) c.loop.counter c.args.limit
+    c.loop.invariant.list ∙ ap keyed (listed_all (entries_left c.args.walk.now) c.loop.counter c.args.limit
     (let lt = c.loop-test.true in omega (arith, lt)) (sym c.loop.invariant.left ∙ c.in_default.ensures.0))
 
 pub loop-preserved : goal.loop-preserved

@@ -1,6 +1,5 @@
 -- The walk is over the columns of the range.
-use Rattle.std.proofs.Common.{subst, sym}
-use Rattle.std.specs.Prelude.{option_copied}
+use Rattle.std.proofs.Common.{subst, sym, option_copied}
 use Rattle.hlc_columns.specs.Answers.{AreAnswers, answers_in, IsBetween}
 use Rattle.hlc_columns.specs.Table.{indexed_rows}
 use Rattle.hlc_table_index.specs.Entries.{entries_in}

@@ -11,8 +11,7 @@ use Rattle.hlc_columns.proofs.dropping.keep_at.Goals.{After-split_at-first}
 
 its_many : (c : After-split_at-first) → c.len.result ≡ length (cells_at c.args.columns.now c.args.at c.args.slot)
 its_many c =
-    c.len.ensures
-    ∙ ap length (ap (λ leaf. (get_or leaf c.args.slot c.index-leaf-slot.result).1) c.leaf.ensures
+    c.len.ensures ∙ ap length (ap (λ leaf. (get_or leaf c.args.slot c.index-leaf-slot.result).1) c.leaf.ensures
     ∙ sym (get_or-map (λ (e : Entry). e.1) (get_or c.args.columns.now c.args.at []) c.args.slot
     c.index-leaf-slot.result [] c.requires.inside))
 

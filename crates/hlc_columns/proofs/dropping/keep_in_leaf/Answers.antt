@@ -2,8 +2,8 @@
 use Rattle.std.proofs.Common.{◌<◌, ◌∙◌, ap, sym, arith, drop, set, length, get_or, []}
 use Rattle.std.proofs.lemmas.List.{set-get_or}
 use Rattle.hlc_columns.proofs.WalkLemmas.{whole}
-use Rattle.hlc_columns.proofs.Kept.{run_none, total_none, total, kept_one, many, leaf_inside, slot_inside}
-use Rattle.hlc_columns.proofs.Kept.{many_inside, next_columns, next_flags, run_all, kept_run, many_rows}
+use Rattle.hlc_columns.proofs.Kept.{run_none, total_none, total, kept_one, many, leaf_inside, slot_inside, many_inside}
+use Rattle.hlc_columns.proofs.Kept.{next_columns, next_flags, run_all, kept_run, many_rows}
 use Rattle.hlc_columns.proofs.dropping.keep_in_leaf.Goals as goal
 use Rattle.hlc_columns.proofs.dropping.keep_in_leaf.Goals.{In-loop-slot}
 
@@ -12,8 +12,7 @@ below c = let lt = c.loop-slot-test.true in let e = ap length c.leaf-slot-end.en
 
 pub loop-slot-init : goal.loop-slot-init
 loop-slot-init c = record {
-  columns = sym (set-get_or c.args.columns.now c.args.at [])
-      ∙ ap (set c.args.columns.now c.args.at)
+  columns = sym (set-get_or c.args.columns.now c.args.at []) ∙ ap (set c.args.columns.now c.args.at)
       (run_none kept_one many c.args.flags (get_or c.args.columns.now c.args.at []));
   left = total_none kept_one many c.args.flags (get_or c.args.columns.now c.args.at []);
   sizes = c.requires.sizes;
@@ -58,20 +57,17 @@ pub returns-clause-kept : goal.returns-clause-kept
 returns-clause-kept c =
     let over = c.loop-slot-test.false in
     let e = ap length c.leaf-slot-end.ensures in
-    c.loop-slot.invariant.columns
-    ∙ ap (set c.args.columns.now c.args.at)
+    c.loop-slot.invariant.columns ∙ ap (set c.args.columns.now c.args.at)
     (run_all kept_one many c.args.flags (get_or c.args.columns.now c.args.at []) c.loop-slot.slot (omega (
       arith,
       over,
       e,
-    ))
-    ∙ sym (kept_run c.args.flags (get_or c.args.columns.now c.args.at [])))
+    )) ∙ sym (kept_run c.args.flags (get_or c.args.columns.now c.args.at [])))
 
 pub returns-clause-left : goal.returns-clause-left
 returns-clause-left c =
     let over = c.loop-slot-test.false in
     let e = ap length c.leaf-slot-end.ensures in
-    c.loop-slot.invariant.left
-    ∙ ap (λ n. drop n c.args.flags)
+    c.loop-slot.invariant.left ∙ ap (λ n. drop n c.args.flags)
     (ap (total kept_one many) (whole (get_or c.args.columns.now c.args.at []) c.loop-slot.slot (omega (arith, over, e)))
     ∙ many_rows (get_or c.args.columns.now c.args.at []))

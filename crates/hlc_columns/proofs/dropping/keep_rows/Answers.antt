@@ -3,8 +3,8 @@ use Rattle.std.proofs.Common.{◌<◌, ◌∙◌, ap, sym, subst, arith, length,
 use Rattle.hlc_table_index.specs.Entries.{entries_in}
 use Rattle.hlc_columns.specs.Table.{kept_in, table_rows}
 use Rattle.hlc_columns.proofs.Kept.{run_none, total_none, leaf_rows, column_inside, leaf_enough, next_leaves, next_left}
-use Rattle.hlc_columns.specs.Sizes.{sizes_of}
 use Rattle.hlc_columns.proofs.Kept.{run_all, kept_leaves, kept_rows, filled_rows, all_filled}
+use Rattle.hlc_columns.specs.Sizes.{sizes_of}
 use Rattle.hlc_columns.proofs.dropping.keep_rows.Goals as goal
 use Rattle.hlc_columns.proofs.dropping.keep_rows.Goals.{In-loop-at}
 
@@ -50,8 +50,7 @@ pub returns-clause-rows : goal.returns-clause-rows
 returns-clause-rows c =
     let over = c.loop-at-test.false in
     let e = c.leaves-at-end.ensures.count in
-    ap table_rows c.keep_filled.ensures
-    ∙ filled_rows (entries_in c.loop-at.columns)
+    ap table_rows c.keep_filled.ensures ∙ filled_rows (entries_in c.loop-at.columns)
     ∙ ap (λ ls. table_rows (entries_in ls)) (c.loop-at.invariant.columns
     ∙ run_all kept_in leaf_rows c.args.flags c.args.columns.now c.loop-at.at (omega (arith, over, e)))
     ∙ ap table_rows (kept_leaves c.args.flags c.args.columns.now)

@@ -1,6 +1,5 @@
 -- One more key.
-use Rattle.std.proofs.Common.{◌∙◌, ◌++◌, ap, sym, map, Bor, List, ℕ}
-use Rattle.std.proofs.lemmas.List.{append-nil}
+use Rattle.std.proofs.Common.{◌∙◌, ◌++◌, ap, sym, map, Bor, List, ℕ, append-nil}
 use Rattle.hlc_table_index.specs.Entries.{keys_in}
 use Rattle.hlc_columns.specs.Answers.{entries_left}
 use Rattle.hlc_columns.proofs.Ranged.{all_lead}

@@ -1,6 +1,5 @@
 -- The walk begins at the position that divides the keys, or at the end.
-use Rattle.std.proofs.Common.{◌≡◌, ◌∙◌, ◌++◌, ℕ, List, [], Some, arith, subst, sym, ap, reverse, take}
-use Rattle.std.specs.Prelude.{option_copied}
+use Rattle.std.proofs.Common.{◌≡◌, ◌∙◌, ◌++◌, ℕ, List, [], Some, arith, subst, sym, ap, reverse, take, option_copied}
 use Rattle.std.specs.List.Sorted.{IsStrictlySortedBy}
 use Rattle.hlc_table_index.specs.Entries.{entries_in, entries_before, entries_from, keys_in, key_cmp}
 use Rattle.hlc_columns.specs.Answers.{is_from, leading}
@@ -39,8 +38,7 @@ returns-else-at-walk-clause-exact c =
     let leaves = c.args.columns.now in
     let count = c.leaves.ensures.count in
     let over = c.if-at-walk.false in
-    ap (λ n. left_of c.args.from.now (entries_in (take n leaves) ++ [])) count
-    ∙ ap (left_of c.args.from.now)
+    ap (λ n. left_of c.args.from.now (entries_in (take n leaves) ++ [])) count ∙ ap (left_of c.args.from.now)
     (before_end leaves c.seek-at.result.0 c.seek-at.result.1 (omega (arith, count, over)))
     ∙ from_place ((goal.at.returns-else-at-walk-clause-exact c).After-seek-at)
 

@@ -13,8 +13,7 @@ returns t c old node stamp all' =
     let row = row_written node stamp write in
     let fewer = c.args.count - 1 in
     let is : take c.args.count c.args.writes ≡ write ∷ take fewer c.in-Some.others =
-    ap (take c.args.count) c.in-Some.ensures
-    ∙ take-more c.args.count write c.in-Some.others c.if-count-eq0.false in
+    ap (take c.args.count) c.in-Some.ensures ∙ take-more c.args.count write c.in-Some.others c.if-count-eq0.false in
     c.remove_last.ensures old row refl
     (first-left old row (rows_written node stamp (take fewer c.in-Some.others)) c.args.self.now
     c.remove_first.new.self

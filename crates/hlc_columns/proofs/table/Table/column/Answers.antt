@@ -1,6 +1,5 @@
 -- The look-up of the key finds its rows, and a column has at least one.
-use Rattle.std.proofs.Common.{◌≡◌, ◌<◌, ◌∙◌, List, Some, None, ap, sym, subst, length}
-use Rattle.std.specs.Prelude.{option_copied, IfSome}
+use Rattle.std.proofs.Common.{◌≡◌, ◌<◌, ◌∙◌, List, Some, None, ap, sym, subst, length, option_copied, IfSome}
 use Rattle.std.proofs.lemmas.Map.Entries.{All-lookup}
 use Rattle.hlc_table_index.specs.Entries.{entries_in, is_key}
 use Rattle.hlc_table_column.specs.Cells.{Cell}
@@ -26,8 +25,7 @@ pub returns-in-Some-clause-rows : goal.returns-in-Some-clause-rows
 returns-in-Some-clause-rows c =
     let at = (goal.at.returns-in-Some-clause-rows c).After-get in
     ap (rows_of c.args.key.now) c.lanes.ensures
-    ∙ ap (λ o. rows_of c.args.key.now (cells_in (option_copied o))) (sym c.in-Some.is)
-    ∙ sym (rows_are at)
+    ∙ ap (λ o. rows_of c.args.key.now (cells_in (option_copied o))) (sym c.in-Some.is) ∙ sym (rows_are at)
 
 pub returns-in-Some-clause-absent : goal.returns-in-Some-clause-absent
 returns-in-Some-clause-absent c =

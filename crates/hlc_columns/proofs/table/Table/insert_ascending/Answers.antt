@@ -1,6 +1,5 @@
 -- The row goes to the end of its key's column, or into a column of its own; all others stay.
-use Rattle.std.proofs.Common.{◌≡◌, ◌∙◌, subst}
-use Rattle.std.specs.Prelude.{OnOk, OnErr}
+use Rattle.std.proofs.Common.{◌≡◌, ◌∙◌, subst, OnOk, OnErr}
 use Rattle.std.proofs.lemmas.Result.{on_ok_weaker, on_err_weaker}
 use Rattle.hlc_rows.specs.declared.row.Row.{Row as ARow}
 use Rattle.hlc_rows.specs.Rows.{IsRowSet}

@@ -1,5 +1,5 @@
 -- The rows of the writes before are in, and those of the writes that are left are new.
-use Rattle.std.specs.Prelude.{length}
+use Rattle.std.proofs.Common.{length}
 use Rattle.hlc_columns.proofs.Removed.{Begun}
 use Rattle.hlc_columns.proofs.table.Table.insert_writes.Given as goal
 

@@ -1,6 +1,6 @@
 -- Rows of the key go, or the key has none.
-use Rattle.std.proofs.Common.{◌≡◌, ◌∙◌, List, [], ap, sym, subst, length, arith, take, drop, get_or}
-use Rattle.std.proofs.lemmas.List.{length-map, length-take-le, get_or-map}
+use Rattle.std.proofs.Common.{◌≡◌, ◌∙◌, List, [], ap, sym, subst, length, arith, take, drop, get_or, length-take-le}
+use Rattle.std.proofs.lemmas.List.{length-map, get_or-map}
 use Rattle.hlc_rows.specs.declared.row.Row.{Row}
 use Rattle.hlc_rows.specs.Rows.{IsRowSet}
 use Rattle.hlc_table_index.specs.Entries.{entries_in}
@@ -23,8 +23,7 @@ its_many c =
 
 read_many : (c : After-len) → c.len.result ≡ length (cells_at c.self.inside.columns c.in-Some.at c.in-Some.slot)
 read_many c =
-    c.len.ensures
-    ∙ ap length (ap (λ leaf. (get_or leaf c.in-Some.slot c.index-leaf-slot.result).1) c.leaf.ensures
+    c.len.ensures ∙ ap length (ap (λ leaf. (get_or leaf c.in-Some.slot c.index-leaf-slot.result).1) c.leaf.ensures
     ∙ sym (get_or-map (λ (e : Entry). e.1) (get_or c.self.inside.columns c.in-Some.at []) c.in-Some.slot
     c.index-leaf-slot.result [] c.in-Some.ensures.place.1))
 
@@ -51,8 +50,7 @@ invariant_of-self c =
     let e = same_many at in
     let le = c.requires in
     let long = ap length c.split_at-first.ensures.first
-    ∙ length-take-le c.len.result c.args.flags (omega (arith, e, le))
-    ∙ read_many at in (
+    ∙ length-take-le c.len.result c.args.flags (omega (arith, e, le)) ∙ read_many at in (
       filled_left c.self.inside.columns c.args.key.now c.in-Some.at c.in-Some.slot c.in-Some.ensures.place
           c.in-Some.ensures.ascend c.split_at-first.result.0 (entries_in c.keep_column.new.columns)
           c.keep_column.ensures.entries c.self.invariant.0,
@@ -70,8 +68,7 @@ returns-clause-kept c =
     let e = same_many at in
     let le = c.requires in
     let long = ap length c.split_at-first.ensures.first
-    ∙ length-take-le c.len.result c.args.flags (omega (arith, e, le))
-    ∙ read_many at in
+    ∙ length-take-le c.len.result c.args.flags (omega (arith, e, le)) ∙ read_many at in
     rows_left c.self.inside.columns c.args.key.now c.in-Some.at c.in-Some.slot
     c.in-Some.ensures.place c.in-Some.ensures.ascend c.split_at-first.result.0
     (entries_in c.keep_column.new.columns) long c.keep_column.ensures.entries

@@ -1,7 +1,7 @@
 -- All rows of the key but the last are kept, and it has a row.
-use Rattle.std.proofs.Common.{rules, ◌-◌, ◌∙◌, ◌∷◌, [], true, false, ap, sym, arith, length, replicate}
+use Rattle.std.proofs.Common.{rules, ◌-◌, ◌∙◌, ◌∷◌, [], true, false, ap, sym, arith, length, replicate, take_all}
 use Rattle.std.proofs.Common.{length-append}
-use Rattle.std.proofs.lemmas.List.{length-map, length-replicate, take_all}
+use Rattle.std.proofs.lemmas.List.{length-map, length-replicate}
 use Rattle.hlc_table_column.specs.Rows.{row_of, rows_with}
 use Rattle.hlc_columns.specs.Table.{rows_kept}
 use Rattle.hlc_columns.proofs.Removed.{last_out, is_there}
@@ -20,8 +20,7 @@ returns c old row own last =
     let some = is_there c.args.key.now old c.args.self.now row own last in
     let sets = length-replicate (c.len-rows.result - 1) true in
     let long = ap length c.run.ensures ∙ length-append (replicate (c.len-rows.result - 1) true) (false ∷ []) in
-    c.keep_of.ensures.kept
-    ∙ ap (λ flags. rows_kept c.args.key.now flags c.args.self.now)
+    c.keep_of.ensures.kept ∙ ap (λ flags. rows_kept c.args.key.now flags c.args.self.now)
     (take_all (length (rows_with c.args.key.now c.args.self.now)) c.run.result (omega (arith, many, some, sets, long))
     ∙ c.run.ensures)
     ∙ last_out c.args.key.now old c.args.self.now row (c.len-rows.result - 1) own last (omega (arith, many, some))
