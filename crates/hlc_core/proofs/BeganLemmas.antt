@@ -1,8 +1,8 @@
 -- The links of a state that a past begins with, and what a checkpoint says of them.
 use Rattle.std.proofs.Common.{◌≡◌, ℕ, zero, suc, ◌<◌, ◌≤◌, List, [], ◌∷◌, length, max, get_or, true, false}
-use Rattle.std.proofs.Common.{refl, ap, sym, ◌∙◌, subst, inl, inr, arith}
+use Rattle.std.proofs.Common.{refl, ap, sym, ◌∙◌, subst, inl, inr, arith, cond}
 use Rattle.std.specs.Prelude.{Contains, nat_lt}
-use Rattle.std.proofs.lemmas.Bool.{cond-true, cond-false, lt-ltb, le-ltb, cases_lt}
+use Rattle.std.proofs.lemmas.Bool.{lt-ltb, cases_lt}
 use Rattle.std.proofs.lemmas.List.{get_or_default, get_or_past}
 use Rattle.std.proofs.lemmas.List.Elements.{All-contains, Contains-append_cases}
 use Rattle.hlc_values.proofs.MemberLemmas.{Contains-none}
@@ -35,7 +35,7 @@ floor-began kept past =
     (ap (λ (link : IntakeView). link.head) is, ap (λ (link : IntakeView). link.retired) is))
 
 -- no head is above the greatest one
-greatest-ge : (links : List IntakeView) (k : ℕ) (d : IntakeView) → k < length links
+pub greatest-ge : (links : List IntakeView) (k : ℕ) (d : IntakeView) → k < length links
     → (get_or links k d).head ≤ greatest_head links
 greatest-ge [] k d lt = absurd (omega arith)
 greatest-ge (link ∷ links) zero d lt = omega arith
@@ -69,36 +69,23 @@ greatest-at (link ∷ next ∷ links) d some =
 issued-ge : (links : List IntakeView) (k : ℕ) (d : IntakeView) → k < length links → 0 < (get_or links k d).next
     → (get_or links k d).head ≤ greatest_issued links
 issued-ge [] k d lt some = absurd (omega arith)
-issued-ge (link ∷ links) zero d lt some =
-    let here : greatest_issued (link ∷ links) ≡ max link.head (greatest_issued links) =
-    cond-true (nat_lt 0 link.next) (max link.head (greatest_issued links)) (greatest_issued links)
-    (lt-ltb 0 link.next some) in omega arith
+issued-ge (link ∷ links) zero d lt some = let has = lt-ltb 0 link.next some in rw has (omega arith)
 issued-ge (link ∷ links) (suc k) d lt some =
     let h : (get_or links k d).head ≤ greatest_issued links = issued-ge links k d (omega arith) some in
-    elim (cases_lt 0 link.next) [
-      | inl has ↦
-          let e : greatest_issued (link ∷ links) ≡ max link.head (greatest_issued links) =
-          cond-true (nat_lt 0 link.next) (max link.head (greatest_issued links)) (greatest_issued links)
-          (lt-ltb 0 link.next has) in omega arith
-      | inr none ↦
-          let e : greatest_issued (link ∷ links) ≡ greatest_issued links =
-          cond-false (nat_lt 0 link.next) (max link.head (greatest_issued links)) (greatest_issued links)
-          (le-ltb 0 link.next none) in omega arith
+    elim (nat_lt 0 link.next) as (λ b. (get_or links k d).head
+    ≤ cond b (max link.head (greatest_issued links)) (greatest_issued links)) [
+      | true ↦ omega arith
+      | false ↦ omega arith
     ]
 
 issued-low : (links : List IntakeView) → greatest_issued links ≤ greatest_head links
 issued-low [] = omega arith
 issued-low (link ∷ links) =
     let h : greatest_issued links ≤ greatest_head links = issued-low links in
-    elim (cases_lt 0 link.next) [
-      | inl has ↦
-          let e : greatest_issued (link ∷ links) ≡ max link.head (greatest_issued links) =
-          cond-true (nat_lt 0 link.next) (max link.head (greatest_issued links)) (greatest_issued links)
-          (lt-ltb 0 link.next has) in omega arith
-      | inr none ↦
-          let e : greatest_issued (link ∷ links) ≡ greatest_issued links =
-          cond-false (nat_lt 0 link.next) (max link.head (greatest_issued links)) (greatest_issued links)
-          (le-ltb 0 link.next none) in omega arith
+    elim (nat_lt 0 link.next) as (λ b. cond b (max link.head (greatest_issued links)) (greatest_issued links)
+    ≤ max link.head (greatest_head links)) [
+      | true ↦ omega arith
+      | false ↦ omega arith
     ]
 
 -- Of a checkpoint: no stamp of an accepted item is above the top.

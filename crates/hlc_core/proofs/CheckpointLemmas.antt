@@ -1,14 +1,15 @@
 -- A state that represents a past has its floor, and with its rows in order is a checkpoint.
 use Rattle.std.proofs.Common.{◌≡◌, ℕ, ◌+◌, ◌<◌, ◌≤◌, List, [], ◌∷◌, ◌++◌, length, max, get_or}
-use Rattle.std.proofs.Common.{true, false, Some, None, Option, refl, ap, sym, ◌∙◌, subst, inl, inr, arith}
-use Rattle.std.specs.Prelude.{All, Contains}
+use Rattle.std.proofs.Common.{true, false, Some, None, Option, refl, ap, sym, ◌∙◌, subst, inl, inr, arith, cond}
+use Rattle.std.specs.Prelude.{All, Contains, nat_le}
 use Rattle.std.proofs.lemmas.Option.{get_or_from_slice_get}
-use Rattle.std.proofs.lemmas.Bool.{cond-true, le-leb, eq-eqb, cases_lt, cases_eq}
+use Rattle.std.proofs.lemmas.Bool.{cases_lt}
 use Rattle.std.proofs.lemmas.Bool.Decides.{nat_tests}
 use Rattle.std.proofs.lemmas.List.{length-append}
 use Rattle.std.proofs.lemmas.List.Elements.{All-nil, All-weaker, All-push, All-contains, All-contains_itself}
 use Rattle.std.proofs.lemmas.List.Quantifiers.{all_pairs_push}
 use Rattle.hlc_intake.specs.IntakeView.{IntakeView}
+use Rattle.hlc_node.specs.Items.{retires}
 use Rattle.hlc_heads.specs.Heads.{no_link, link_at}
 use Rattle.hlc_heads.specs.declared.heads.TheConstants.{MAX_INITIAL_NODES, MAX_NODES}
 use Rattle.hlc_heads.proofs.LowLemmas.{low-same}
@@ -19,9 +20,8 @@ use Rattle.hlc_snapshot.specs.RegistryView.{RegistryView, IsRegister, opened_at,
 use Rattle.hlc_snapshot.proofs.RegisterLemmas.{closed-is_register}
 use Rattle.hlc_witness.specs.Certificate.{RowsAscend}
 use Rattle.hlc_witness.specs.Cost.{IsInLimits}
-use Rattle.hlc_core.specs.Past.{Step, Started, Began, Took, Opened, Closed, Vacuumed, PartVacuumed, Joined}
+use Rattle.hlc_core.specs.Past.{Step, Started, Began, Took, Opened, Closed, Joined}
 use Rattle.hlc_core.specs.Past.{numbered, count, head, retired, top, floor, horizon, last_id, open_snapshots, of_room}
-use Rattle.hlc_events.specs.Faults.{of_registry}
 use Rattle.hlc_core.specs.Past.{initial_nodes, IsLegal, writes, greatest_accepted}
 use Rattle.hlc_events.specs.declared.fault.CoreFault.TheVariants.{Join}
 use Rattle.hlc_heads.specs.declared.heads.JoinFault.TheVariants.{TooManyNodes}
@@ -29,81 +29,52 @@ use Rattle.hlc_core.specs.StoreView.{StoreView, greatest_head, HasNodes, HasStam
 use Rattle.hlc_core.specs.StoreView.{Represents}
 use Rattle.hlc_core.specs.Checkpoint.{IsCheckpoint, IsCopyOf, floor_in}
 use Rattle.hlc_core.proofs.PastLemmas.{inside, rises, head-same, head-other, head-joined, head-joined_other, floor-some}
-use Rattle.hlc_core.proofs.PastLemmas.{count-other, retired-other, fresh, accepted-low, retired-head}
+use Rattle.hlc_core.proofs.PastLemmas.{fresh, accepted-low, retired-head, by_equal, older, unless-none}
 use Rattle.hlc_core.proofs.PastLemmas.{inside-row, below_head, writes-limits, open-low, open-below, open-above}
 use Rattle.hlc_core.proofs.PastLemmas.{open-room, horizon-low, positive}
 use Rattle.hlc_core.proofs.Moved.{represents-moved}
-use Rattle.hlc_core.proofs.Sound.{greatest-ge, greatest-le}
-use Rattle.hlc_core.proofs.BeganLemmas.{began-head, began-top, began-count, began-last}
+use Rattle.hlc_core.proofs.Sound.{greatest-le}
+use Rattle.hlc_core.proofs.BeganLemmas.{greatest-ge, began-head, began-top, began-count, began-last}
 
 -- the nodes at the start keep their numbers
 numbered-from : (past : List Step) → IsLegal past → initial_nodes past ≤ numbered past
 numbered-from [] legal = omega arith
-numbered-from (Took item ∷ past) legal = numbered-from past legal.1
-numbered-from (Opened stamp ∷ past) legal = numbered-from past legal.1
 numbered-from (Started nodes ∷ past) legal = omega arith
 numbered-from (Began kept ∷ past) legal = legal.2.store.sound.nodes.linked
-numbered-from (Closed id ∷ past) legal = numbered-from past legal.1
-numbered-from (Vacuumed at ∷ past) legal = numbered-from past legal.1
-numbered-from (PartVacuumed at dropped ∷ past) legal = numbered-from past legal.1
 numbered-from (Joined node start ∷ past) legal = (let h = numbered-from past legal.3 in omega (arith, h))
+numbered-from (_ ∷ past) legal = numbered-from past legal.1
 
 -- and no more numbers are assigned than there are
 numbered-few : (past : List Step) → initial_nodes past ≤ MAX_INITIAL_NODES → IsLegal past
     → numbered past ≤ MAX_NODES
 numbered-few [] few legal = omega arith
-numbered-few (Took item ∷ past) few legal = numbered-few past few legal.1
-numbered-few (Opened stamp ∷ past) few legal = numbered-few past few legal.1
 numbered-few (Started nodes ∷ past) few legal =
     (let none : numbered past ≡ 0 = ap numbered legal.0 in omega (arith, few))
-numbered-few (Closed id ∷ past) few legal = numbered-few past few legal.1
-numbered-few (Vacuumed at ∷ past) few legal = numbered-few past few legal.1
 numbered-few (Began kept ∷ past) few legal = legal.2.store.sound.nodes.bounded
-numbered-few (PartVacuumed at dropped ∷ past) few legal = numbered-few past few legal.1
 numbered-few (Joined node start ∷ past) few legal =
-    elim (cases_lt (numbered past) MAX_NODES) [
-      | inl below ↦ (let g : numbered past < MAX_NODES = below in omega arith)
-      | inr full ↦ absurd (let g : Some (Join TooManyNodes) ≡ None =
-          sym (cond-true _ _ _ (le-leb MAX_NODES (numbered past) full)) ∙ legal.0 in cc)
-    ]
+    let full = unless-none (nat_le MAX_NODES (numbered past)) (Join TooManyNodes) None legal.0 in
+    grind (arith, nat_tests, full.0)
+numbered-few (_ ∷ past) few legal = numbered-few past few legal.1
 
 -- no head is above the top
 pub heads-low : (past : List Step) → IsLegal past → (n : ℕ) → head n past ≤ top past
 heads-low [] legal n = omega arith
-heads-low (Opened stamp ∷ past) legal n = heads-low past legal.1 n
-heads-low (Started nodes ∷ past) legal n = heads-low past legal.1 n
-heads-low (Closed id ∷ past) legal n = heads-low past legal.1 n
-heads-low (Vacuumed at ∷ past) legal n = heads-low past legal.1 n
 heads-low (Began kept ∷ past) legal n = began-head kept n legal.2
-heads-low (PartVacuumed at dropped ∷ past) legal n = heads-low past legal.1 n
 heads-low (Joined node start ∷ past) legal n =
-    let old : head n past ≤ top past = heads-low past legal.3 n in
-    elim (cases_eq node n) [
-      | inl same ↦
-          (let e : head n (Joined node start ∷ past) ≡ start = head-joined n node start past same in
-          let goal : head n (Joined node start ∷ past) ≤ max (top past) start = omega arith in goal)
-      | inr other ↦ (let e : head n (Joined node start ∷ past) ≡ head n past =
-          head-joined_other n node start past other in
-          let goal : head n (Joined node start ∷ past) ≤ max (top past) start = omega arith in goal)
-    ]
+    by_equal (λ b. cond b start (head n past) ≤ max (top past) start) node n (λ _. omega arith)
+    (λ _. omega (arith, heads-low past legal.3 n))
 heads-low (Took item ∷ past) legal n =
-    let old : head n past ≤ top past = heads-low past legal.1 n in
-    elim (cases_eq item.node n) [
-      | inl same ↦ (let e : head n (Took item ∷ past) ≡ item.stamp = head-same n item past same in omega arith)
-      | inr other ↦ (let e : head n (Took item ∷ past) ≡ head n past = head-other n item past other in omega arith)
-    ]
+    by_equal (λ b. cond b item.stamp (head n past) ≤ max (top past) item.stamp) item.node n (λ _. omega arith)
+    (λ _. omega (arith, heads-low past legal.1 n))
+heads-low (_ ∷ past) legal n = heads-low past legal.1 n
 
 -- and one head is it
 pub top-at : (past : List Step) → 0 < initial_nodes past → IsLegal past
     → (n : ℕ) × (n < numbered past) × (head n past ≡ top past)
 top-at [] some legal = absurd (omega (arith, some))
-top-at (Opened stamp ∷ past) some legal = top-at past some legal.1
 top-at (Started nodes ∷ past) some legal =
     rw legal.0 (0, omega (arith, some), refl)
-top-at (Closed id ∷ past) some legal = top-at past some legal.1
-top-at (Vacuumed at ∷ past) some legal = top-at past some legal.1
 top-at (Began kept ∷ past) some legal = began-top kept legal.2
-top-at (PartVacuumed at dropped ∷ past) some legal = top-at past some legal.1
 top-at (Joined node start ∷ past) some legal =
     let old = top-at past some legal.3 in
     let within : old.0 < numbered past = old.1 in
@@ -144,6 +115,7 @@ top-at (Took item ∷ past) some legal =
             let goal : head old.0 (Took item ∷ past) ≡ max (top past) item.stamp = omega arith in goal),
       )
     ]
+top-at (_ ∷ past) some legal = top-at past some legal.1
 
 -- if all nodes have retired, the floor is the greatest stamp of an accepted item
 pub floor-retired : (past : List Step) → 0 < initial_nodes past → IsLegal past
@@ -163,7 +135,7 @@ floor-retired past some legal has_retired =
 -- the registry of a legal past
 of_room-none : (fault : Option SnapshotFault) → of_room fault ≡ None → fault ≡ None
 of_room-none None h = refl
-of_room-none (Some fault) h = absurd (let g : Some (of_registry fault) ≡ None = h in cc)
+of_room-none (Some fault) h = absurd (cc)
 
 register-open : (register : RegistryView) (stamp : ℕ) → IsRegister register
     → room_in (length register.snapshots) register.last_id ≡ None → IsRegister (opened_at register stamp)
@@ -195,12 +167,7 @@ register-of [] legal =
       few = omega arith;
       in_range = omega arith;
     }
-register-of (Took item ∷ past) legal = register-of past legal.1
-register-of (Vacuumed at ∷ past) legal = register-of past legal.1
 register-of (Began kept ∷ past) legal = legal.2.store.register
-register-of (PartVacuumed at dropped ∷ past) legal = register-of past legal.1
-register-of (Joined node start ∷ past) legal = register-of past legal.3
-register-of (Started nodes ∷ past) legal = register-of past legal.1
 register-of (Closed id ∷ past) legal =
     closed-is_register (record { snapshots = open_snapshots past; last_id = last_id past }) id
     (register-of past legal.1)
@@ -209,58 +176,30 @@ register-of (Opened stamp ∷ past) legal =
     (register-of past legal.1)
     (of_room-none _ (sym (open-room past stamp (open-below past stamp legal.0)
     (open-above past stamp legal.0)) ∙ legal.0))
+register-of (step ∷ past) legal = register-of past (older step past legal)
 
 -- each item has a stamp of its own above 0.0
 count-low : (past : List Step) → IsLegal past → (n : ℕ) → count n past ≤ head n past
 count-low [] legal n = omega arith
-count-low (Opened stamp ∷ past) legal n = count-low past legal.1 n
-count-low (Started nodes ∷ past) legal n = count-low past legal.1 n
-count-low (Closed id ∷ past) legal n = count-low past legal.1 n
-count-low (Vacuumed at ∷ past) legal n = count-low past legal.1 n
 count-low (Began kept ∷ past) legal n = began-count kept n legal.2
-count-low (PartVacuumed at dropped ∷ past) legal n = count-low past legal.1 n
 count-low (Joined node start ∷ past) legal n =
-    let old : count n past ≤ head n past = count-low past legal.3 n in
-    elim (cases_eq node n) [
-      | inl same ↦
-          let none : count n past ≡ 0 =
-          (fresh past n legal.3 (let is : node ≡ numbered past = legal.1 in omega arith)).0 in
-          (let e : head n (Joined node start ∷ past) ≡ start = head-joined n node start past same in omega arith)
-      | inr other ↦ (let e : head n (Joined node start ∷ past) ≡ head n past =
-          head-joined_other n node start past other in omega arith)
-    ]
+    by_equal (λ b. count n past ≤ cond b start (head n past)) node n
+    (λ same. omega (arith, (fresh past n legal.3 (omega (arith, legal.1))).0)) (λ _. count-low past legal.3 n)
 count-low (Took item ∷ past) legal n =
     let old : count n past ≤ head n past = count-low past legal.1 n in
-    elim (cases_eq item.node n) [
-      | inl same ↦
-          let up : head item.node past < item.stamp = rises past item legal.0 in
-          let at : head item.node past ≡ head n past = ap (λ k. head k past) same in
-          let e : head n (Took item ∷ past) ≡ item.stamp = head-same n item past same in
-          let f : count n (Took item ∷ past) ≡ count n past + 1 = cond-true _ _ _ (eq-eqb _ _ same) in omega arith
-      | inr other ↦
-          let e : head n (Took item ∷ past) ≡ head n past = head-other n item past other in
-          let f : count n (Took item ∷ past) ≡ count n past = count-other n item past other in omega arith
-    ]
+    by_equal (λ b. cond b (count n past + 1) (count n past) ≤ cond b item.stamp (head n past)) item.node n
+    (λ same. let at : head item.node past ≡ head n past = ap (λ k. head k past) same in
+    omega (arith, rises past item legal.0)) (λ _. old)
+count-low (_ ∷ past) legal n = count-low past legal.1 n
 
 -- and a node that has retired has an item
 count-retired : (past : List Step) (n : ℕ) → IsLegal past → retired n past ≡ true → 0 < count n past
 count-retired [] n legal has_retired = absurd cc
-count-retired (Opened stamp ∷ past) n legal has_retired = count-retired past n legal.1 has_retired
-count-retired (Started nodes ∷ past) n legal has_retired = count-retired past n legal.1 has_retired
 count-retired (Began kept ∷ past) n legal has_retired = (began-last kept n legal.2 has_retired).1
-count-retired (Closed id ∷ past) n legal has_retired = count-retired past n legal.1 has_retired
-count-retired (Vacuumed at ∷ past) n legal has_retired = count-retired past n legal.1 has_retired
-count-retired (PartVacuumed at dropped ∷ past) n legal has_retired = count-retired past n legal.1 has_retired
-count-retired (Joined node start ∷ past) n legal has_retired = count-retired past n legal.3 has_retired
 count-retired (Took item ∷ past) n legal has_retired =
-    elim (cases_eq item.node n) [
-      | inl same ↦
-          (let f : count n (Took item ∷ past) ≡ count n past + 1 = cond-true _ _ _ (eq-eqb _ _ same) in omega arith)
-      | inr other ↦
-          let old : 0 < count n past =
-          count-retired past n legal.1 (sym (retired-other n item past other) ∙ has_retired) in
-          let f : count n (Took item ∷ past) ≡ count n past = count-other n item past other in omega arith
-    ]
+    by_equal (λ b. cond b (retires item.body) (retired n past) ≡ true → 0 < cond b (count n past + 1) (count n past))
+    item.node n (λ _ _. omega arith) (λ _ old. count-retired past n legal.1 old) has_retired
+count-retired (step ∷ past) n legal has_retired = count-retired past n (older step past legal) has_retired
 
 pub link-is : (kept : StoreView) (past : List Step) → Represents kept past → (k : ℕ) (d : IntakeView)
     → k < length kept.links

@@ -30,15 +30,7 @@ without-first x xs above = cond-false _ _ _ (ap not (eq-eqb x.id x.id refl)) ∙
 pub all-closed : (snapshots : List Snapshot) (kept : StoreView) (past : List Step) → kept.snapshots ≡ snapshots
     → Represents kept past → Represents (without_snapshots kept) (closed_all snapshots past)
 all-closed [] kept past are h =
-    subst (λ (xs : List Snapshot). Represents (record {
-      initial_nodes = kept.initial_nodes;
-      links = kept.links;
-      top = kept.top;
-      snapshots = xs;
-      last_id = kept.last_id;
-      horizon = kept.horizon;
-      rows = kept.rows;
-    }) past) are h
+    subst (λ (xs : List Snapshot). Represents (record kept { snapshots = xs }) past) are h
 all-closed (x ∷ xs) kept past are h =
     let register = register-of past h.legal in
     let same = sym h.snapshots ∙ are in

@@ -6,9 +6,7 @@ use Rattle.std.proofs.lemmas.Grind.{get_or-set_at}
 use Rattle.std.proofs.lemmas.List.{get_or_append_left}
 use Rattle.std.proofs.Math.Seq.{get_or-append_seam}
 use Rattle.std.specs.Prelude.{All, Contains, Result, Ok, Err, Some, None, IfOk, OnErr, not, ◌==◌, slice_set}
-use Rattle.std.specs.Ordering.{is_gt, nat_cmp}
 use Rattle.std.proofs.lemmas.Bool.{cases_eq}
-use Rattle.std.proofs.lemmas.Bool.Decides.{nat_tests}
 use Rattle.std.proofs.lemmas.List.Elements.{All-nil, All-push, All-weaker, All-filter, All-contains}
 use Rattle.std.proofs.lemmas.List.Elements.{All-append, All-contains_itself}
 use Rattle.hlc_rows.specs.declared.row.Row.{Row}
@@ -208,7 +206,3 @@ consistent-close_result marks rows old new id (Ok stamp) h ok err =
     (consistent-close marks old.snapshots rows id h)
 consistent-close_result marks rows old new id (Err fault) h ok err =
     subst (λ register. IsConsistent marks register.snapshots rows) (sym err.1) h
-
--- a stamp that is not greater than another is at or below it
-pub not_gt-le : (a b : ℕ) → is_gt (nat_cmp a b) ≡ false → a ≤ b
-not_gt-le a b h = grind (arith, nat_tests)

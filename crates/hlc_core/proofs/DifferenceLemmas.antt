@@ -69,9 +69,8 @@ not_listed : (key : List ℕ) (listing : List Pair) → AllByRecursion (λ k. ke
     → value_in key listing ≡ None
 not_listed key [] all = refl
 not_listed key (pair ∷ listing) all =
-    ap (λ b. cond b (Some pair.value) (value_in key listing))
-    (apart_eq pair.key key (λ same. less_apart key pair.key all.0 (sym same)))
-    ∙ not_listed key listing all.1
+    let f = apart_eq pair.key key (λ same. less_apart key pair.key all.0 (sym same)) in
+    rw f (not_listed key listing all.1)
 
 -- ---- one change
 with_value : (k : List ℕ) (o : Option (List ℕ)) (listing : List Pair) (key : List ℕ) → value_in k listing ≡ None
@@ -79,10 +78,8 @@ with_value : (k : List ℕ) (o : Option (List ℕ)) (listing : List Pair) (key :
 with_value k (Some value) listing key none = refl
 with_value k None listing key none =
     elim (cases_Bool (bytes_eq k key)) [
-      | inl t ↦
-          ap (λ x. value_in x listing) (sym ((bytes_eq-Decides k key).0 t)) ∙ none
-          ∙ ap (λ b. cond b None (value_in key listing)) (sym t)
-      | inr f ↦ ap (λ b. cond b None (value_in key listing)) (sym f)
+      | inl t ↦ let same = (bytes_eq-Decides k key).0 t in rw (t, ← same) none
+      | inr f ↦ rw f refl
     ]
 
 -- of two keys that are apart at most one is this
@@ -94,11 +91,8 @@ one_of_two k other key o p rest apart =
       | inl t ↦
           let f : bytes_eq other key ≡ false =
           apart_eq other key (λ same. apart ((bytes_eq-Decides k key).0 t ∙ sym same)) in
-          ap (λ b. cond b p (cond (bytes_eq k key) o rest)) f
-          ∙ ap (λ b. cond (bytes_eq k key) o (cond b p rest)) (sym f)
-      | inr f ↦
-          ap (λ b. cond (bytes_eq other key) p (cond b o rest)) f
-          ∙ ap (λ b. cond b o (cond (bytes_eq other key) p rest)) (sym f)
+          rw (t, f) refl
+      | inr f ↦ rw f refl
     ]
 
 changed_value : (one : Difference) (listing : List Pair) (key : List ℕ) → Ascend listing
@@ -134,9 +128,8 @@ changed_value one (pair ∷ listing) key up =
         → cond (bytes_eq k key) o rest ≡ cond (bytes_eq k key) o (cond (bytes_eq other key) p rest)
     same_place k other key o p rest same =
         elim (cases_Bool (bytes_eq k key)) [
-          | inl t ↦ ap (λ b. cond b o rest) t ∙ ap (λ b. cond b o (cond (bytes_eq other key) p rest)) (sym t)
-          | inr f ↦ ap (λ b. cond (bytes_eq k key) o (cond b p rest))
-              (sym (ap (λ x. bytes_eq x key) (sym same) ∙ f))
+          | inl t ↦ rw t refl
+          | inr f ↦ let g = ap (λ x. bytes_eq x key) (sym same) ∙ f in rw (f, g) refl
         ]
 
 -- the keys still ascend
@@ -203,9 +196,8 @@ value_stays : (key : List ℕ) (changes : List Difference) (value : Option (List
     → ((one : Difference) → Contains changes one → one.0 ≢ key) → value_after key changes value ≡ value
 value_stays key [] value none = refl
 value_stays key (one ∷ more) value none =
-    ap (λ b. value_after key more (cond b one.1 value))
-    (apart_eq one.0 key (none one (Contains-first {X = Difference} one more)))
-    ∙ value_stays key more value (λ other m. none other (Contains-rest {X = Difference} one other more m))
+    let f = apart_eq one.0 key (none one (Contains-first {X = Difference} one more)) in
+    rw f (value_stays key more value (λ other m. none other (Contains-rest {X = Difference} one other more m)))
 
 abbrev firsts : List Difference → List (List ℕ)
 firsts changes = map (λ one. one.0) changes
@@ -240,12 +232,10 @@ unfolding IsStrictlySortedBy
 value_set [] one value up m = absurd (Contains-none {X = Difference} one m)
 value_set (c ∷ changes) one value up m = elim (Contains-cons_cases {X = Difference} c one changes m) [
   | inl same ↦
-      ap (λ b. value_after one.0 changes (cond b c.1 value))
-      ((bytes_eq-Decides c.0 one.0).1 (ap (λ (x : Difference). x.0) same))
-      ∙ value_stays one.0 changes c.1 (λ other there is.
-      less_apart c.0 other.0 (first_later c.0 changes other up.0 there)
-      (ap (λ (x : Difference). x.0) same ∙ sym is))
-      ∙ ap (λ (x : Difference). x.1) same
+      let t = (bytes_eq-Decides c.0 one.0).1 (ap (λ (x : Difference). x.0) same) in
+      rw t (value_stays one.0 changes c.1 (λ other there is.
+      less_apart c.0 other.0 (first_later c.0 changes other up.0 there) (ap (λ (x : Difference). x.0) same ∙ sym is))
+      ∙ ap (λ (x : Difference). x.1) same)
   | inr there ↦ value_set changes one (cond (bytes_eq c.0 one.0) c.1 value) up.1 there
 ]
 
@@ -257,14 +247,12 @@ into_value [] key value up m = absurd (Contains-none {X = Pair} _ m)
 into_value (pair ∷ listing) key value up m =
     elim (Contains-cons_cases pair (record { key = key; value = value }) listing m) [
       | inl same ↦
-          ap (λ b. cond b (Some pair.value) (value_in key listing))
-          ((bytes_eq-Decides pair.key key).1 (ap (λ (x : Pair). x.key) same))
-          ∙ ap (λ (x : Pair). Some x.value) same
+          let t = (bytes_eq-Decides pair.key key).1 (ap (λ (x : Pair). x.key) same) in
+          rw t (ap (λ (x : Pair). Some x.value) same)
       | inr there ↦
-          ap (λ b. cond b (Some pair.value) (value_in key listing))
-          (apart_eq pair.key key (less_apart pair.key key
-          (later_at pair.key listing (record { key = key; value = value }) up.0 there)))
-          ∙ into_value listing key value up.1 there
+          let f = apart_eq pair.key key (less_apart pair.key key
+          (later_at pair.key listing (record { key = key; value = value }) up.0 there)) in
+          rw f (into_value listing key value up.1 there)
     ]
 
 from_value : (listing : List Pair) (key value : List ℕ) → value_in key listing ≡ Some value
@@ -273,15 +261,12 @@ from_value [] key value is = absurd (cc)
 from_value (pair ∷ listing) key value is = elim (cases_Bool (bytes_eq pair.key key)) [
   | inl t ↦
       let k : pair.key ≡ key = (bytes_eq-Decides pair.key key).0 t in
-      let v : Some pair.value ≡ Some value =
-      ap (λ b. cond b (Some pair.value) (value_in key listing)) (sym t) ∙ is in
+      let v : Some pair.value ≡ Some value = rw t at is in
       let same : pair.value ≡ value = cc in
-      subst (λ x. Contains (pair ∷ listing) (record { key = x; value = value })) k
-      (subst (λ y. Contains (pair ∷ listing) (record { key = pair.key; value = y })) same
-      (Contains-first pair listing))
+      rw (← k, ← same) (Contains-first pair listing)
   | inr f ↦
       Contains-rest pair (record { key = key; value = value }) listing
-      (from_value listing key value (ap (λ b. cond b (Some pair.value) (value_in key listing)) (sym f) ∙ is))
+      (from_value listing key value (rw f at is))
 ]
 
 listed_value : (listing : List Pair) (key value : List ℕ) → Ascend listing

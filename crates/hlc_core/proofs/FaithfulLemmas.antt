@@ -16,9 +16,9 @@ use Rattle.hlc_vacuum_draft.specs.declared.report.Report.{Report}
 use Rattle.hlc_core.specs.Stored.{IsReport, LeavesFewest}
 use Rattle.hlc_core.specs.StoreView.{StoreView, Represents}
 use Rattle.hlc_events.specs.declared.event.CoreEvent.{CoreEvent}
-use Rattle.hlc_events.specs.declared.event.CoreEvent.TheVariants.{Accept, Join, OpenAt, OpenFloor, Read}
+use Rattle.hlc_events.specs.declared.event.CoreEvent.TheVariants.{Read}
 use Rattle.hlc_events.specs.declared.event.CoreEvent.TheVariants.{List as ListAll}
-use Rattle.hlc_events.specs.declared.event.CoreEvent.TheVariants.{Close, Vacuum, JoinAt, VacuumTo, VacuumPart}
+use Rattle.hlc_events.specs.declared.event.CoreEvent.TheVariants.{Vacuum, VacuumTo, VacuumPart}
 use Rattle.hlc_core.specs.declared.listing.Pair.{Pair}
 use Rattle.hlc_core.specs.declared.reply.CoreReply.{CoreReply}
 use Rattle.hlc_core.specs.declared.reply.CoreReply.TheVariants.{Answer, Listing, Vacuumed, VacuumedPart}
@@ -162,17 +162,9 @@ shows-whole nodes h = λ before id stamp item moment is took.
 reported : (past : List Step) (event : CoreEvent) (report : Report)
     → IsExpected past event (Vacuumed report)
     → (at : ℕ) × (vacuum_stamp past event ≡ Some at) × IsReport at past report
-reported past (Accept item) report expected = absurd expected.1
-reported past Join report expected = absurd expected.1
-reported past (OpenAt stamp) report expected = absurd expected.1
-reported past OpenFloor report expected = absurd expected.1
-reported past (Read id key) report expected = absurd expected.1
-reported past (ListAll id) report expected = absurd expected.1
-reported past (Close id) report expected = absurd expected.1
-reported past (JoinAt start) report expected = absurd expected.1
 reported past Vacuum report expected = (floor past, refl, expected.1)
 reported past (VacuumTo at) report expected = (at, refl, expected.1)
-reported past (VacuumPart at after limit) report expected = absurd expected.1
+reported past _ report expected = absurd expected.1
 
 vacuums-least : (nodes : ℕ) (h : List (CoreEvent × CoreReply)) → IsLegalHistory nodes h
     → VacuumsAreFewest nodes h
@@ -207,20 +199,12 @@ left : (nodes : ℕ) (kept : StoreView) (before : List (CoreEvent × CoreReply))
     → IsExpected (past_of nodes before) event (Vacuumed report)
     → Represents kept (past_of nodes ((event, Vacuumed report) ∷ before))
     → LeavesFewest kept.rows (writes (past_of nodes before)) report
-left nodes kept before (Accept item) report expected core = absurd expected.1
-left nodes kept before Join report expected core = absurd expected.1
-left nodes kept before (OpenAt stamp) report expected core = absurd expected.1
-left nodes kept before OpenFloor report expected core = absurd expected.1
-left nodes kept before (Read id key) report expected core = absurd expected.1
-left nodes kept before (ListAll id) report expected core = absurd expected.1
-left nodes kept before (Close id) report expected core = absurd expected.1
-left nodes kept before (JoinAt start) report expected core = absurd expected.1
 left nodes kept before Vacuum report expected core =
     leaves-fewest kept report.floor (past_of nodes before) report core
     (subst (λ at. IsReport at (past_of nodes before) report) (sym expected.1.at_stamp) expected.1)
 left nodes kept before (VacuumTo at) report expected core =
     leaves-fewest kept at (past_of nodes before) report core expected.1
-left nodes kept before (VacuumPart at after limit) report expected core = absurd expected.1
+left nodes kept before _ report expected core = absurd expected.1
 
 fewest-left : (nodes : ℕ) (kept : StoreView) (h : List (CoreEvent × CoreReply)) → RepresentsHistory nodes kept h
     → FewestAreLeft nodes h kept.rows

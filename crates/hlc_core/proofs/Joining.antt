@@ -2,34 +2,25 @@
 use Rattle.std.proofs.Common.{◌≡◌, ℕ, ◌+◌, ◌<◌, ◌≤◌, List, [], ◌∷◌, ◌++◌, length, max}
 use Rattle.std.proofs.Common.{false, Some, None, refl, ap, sym, ◌∙◌, inl, inr}
 use Rattle.std.proofs.Common.{arith, length-append}
-use Rattle.std.specs.Prelude.{slice_get, Ok, Err, ⊤}
-use Rattle.std.proofs.lemmas.Bool.{cond-true, cond-false, le-leb, lt-leb, le-ltb, lt-ltb, cases_lt}
-use Rattle.std.proofs.lemmas.Bool.{cases_eq}
+use Rattle.std.specs.Prelude.{Ok, Err, ⊤, nat_le}
+use Rattle.std.proofs.lemmas.Bool.{cond-true, cond-false, le-leb, lt-leb, le-ltb, lt-ltb}
+use Rattle.std.proofs.lemmas.Bool.{cases_eq, eq-eqb, ne_eqb}
 use Rattle.hlc_intake.specs.IntakeView.{IntakeView}
 use Rattle.hlc_heads.specs.declared.heads.TheConstants.{MAX_NODES}
 use Rattle.hlc_events.specs.declared.fault.CoreFault.TheVariants.{Join, NoMemory}
 use Rattle.std.specs.declared.alloc.AllocError.{AllocError}
 use Rattle.hlc_heads.specs.declared.heads.JoinFault.{JoinFault}
 use Rattle.hlc_heads.specs.declared.heads.JoinFault.TheVariants.{TooManyNodes, BelowFloor}
-use Rattle.hlc_core.specs.Past.{Step, Joined, numbered, count, head, retired, floor}
+use Rattle.hlc_core.specs.Past.{Step, Joined, numbered, floor}
 use Rattle.hlc_core.specs.Past.{join_refusal, join_at_refusal}
 use Rattle.hlc_core.specs.StoreView.{StoreView, Represents}
-use Rattle.hlc_core.proofs.PastLemmas.{fresh, head-joined}
-use Rattle.hlc_core.proofs.PastLemmas.{head-joined_other}
+use Rattle.hlc_core.proofs.PastLemmas.{fresh, unless-none}
 use Rattle.hlc_heads.specs.Heads.{HeadsView, JoinsAt, a_link, floor_of}
 use Rattle.hlc_core.specs.Calls.{IsRefusal}
 use Rattle.hlc_core.proofs.Links.{get-append_left, get-push}
 
 abbrev pub with_link : StoreView → ℕ → StoreView
-with_link kept start = record {
-  initial_nodes = kept.initial_nodes;
-  links = kept.links ++ a_link 0 start false ∷ [];
-  top = max kept.top start;
-  snapshots = kept.snapshots;
-  last_id = kept.last_id;
-  horizon = kept.horizon;
-  rows = kept.rows;
-}
+with_link kept start = record kept { links = kept.links ++ a_link 0 start false ∷ []; top = max kept.top start }
 
 -- a node whose join is not refused joins
 pub joins : (kept : StoreView) (past : List Step) (node start : ℕ) → Represents kept past
@@ -47,20 +38,13 @@ joins kept past node start h none is up =
         each = λ n lt.
             elim (cases_eq n (length kept.links)) [
               | inl last ↦
-                  let own : node ≡ n = is ∙ sym many ∙ sym last in
                   let none' = fresh past n h.legal (omega (arith, many)) in
-                  ap (λ k. slice_get (kept.links ++ link ∷ []) k) last
-                  ∙ get-push kept.links link
-                  ∙ sym (ap (λ k. Some (a_link k (head n (Joined node start ∷ past)) (retired n past))) none'.0
-                  ∙ ap (λ k. Some (a_link 0 k (retired n past))) (head-joined n node start past own)
-                  ∙ ap (λ k. Some (a_link 0 start k)) none'.1)
+                  let hit = eq-eqb node n (is ∙ sym many ∙ sym last) in
+                  rw (hit, none'.0, none'.1, last) (get-push kept.links link)
               | inr earlier ↦
-                  let within : n < length kept.links = omega (arith, lt, l) in
-                  let other : node ≡ n → ⊥ = λ e. omega (arith, is, many) in
-                  get-append_left kept.links (link ∷ []) n within
-                  ∙ h.links.each n within
-                  ∙ sym (ap (λ k. Some (a_link (count n past) k (retired n past)))
-                  (head-joined_other n node start past other))
+                  let miss = ne_eqb node n (λ e. omega (arith, is, many)) in
+                  rw miss (get-append_left kept.links (link ∷ []) n (omega (arith, lt, l))
+                  ∙ h.links.each n (omega (arith, lt, l)))
             ];
       };
       top = ap (λ t. max t start) h.top;
@@ -80,12 +64,8 @@ joins-none past many few is = cond-false _ _ _ (lt-leb MAX_NODES (numbered past)
 pub joins-at_none : (past : List Step) (start : ℕ) → join_refusal past ≡ None
     → floor past ≤ start → join_at_refusal past start ≡ None
 joins-at_none past start none up =
-    elim (cases_lt (numbered past) MAX_NODES) [
-      | inl few ↦ cond-false _ _ _ (lt-leb MAX_NODES (numbered past) few)
-          ∙ cond-false _ _ _ (le-ltb start (floor past) up)
-      | inr full ↦ absurd (let e : Some (Join TooManyNodes) ≡ None =
-          sym (cond-true _ _ _ (le-leb MAX_NODES (numbered past) full)) ∙ none in cc)
-    ]
+    let full = unless-none (nat_le MAX_NODES (numbered past)) (Join TooManyNodes) None none in
+    cond-false _ _ _ full.0 ∙ cond-false _ _ _ (le-ltb start (floor past) up)
 
 -- and a refusal of the heads is the expected one
 pub refused : (past : List Step) (old new : HeadsView) (start : ℕ) (fault : JoinFault)

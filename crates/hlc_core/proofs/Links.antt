@@ -1,14 +1,11 @@
 -- Each link of a core follows the items that it accepted.
-use Rattle.std.proofs.Common.{◌≡◌, ℕ, ◌+◌, ◌<◌, List, [], ◌∷◌, ◌++◌, length, max, get_or}
+use Rattle.std.proofs.Common.{◌≡◌, ℕ, zero, suc, ◌+◌, ◌<◌, List, [], ◌∷◌, ◌++◌, length, max, get_or}
 use Rattle.std.proofs.Common.{false, Some, None, Option, Ok, Err, Result, refl, ap, sym, ◌∙◌, subst, inl, inr}
-use Rattle.std.proofs.Common.{arith, length-set, length-append, get_or-set_other}
-use Rattle.std.proofs.lemmas.Grind.{get_or-set_at}
-use Rattle.std.specs.Prelude.{◌==◌, slice_get, slice_set, MatchOption, MatchResult}
+use Rattle.std.proofs.Common.{arith}
+use Rattle.std.specs.Prelude.{slice_get, slice_set, MatchOption, MatchResult}
 use Rattle.std.proofs.lemmas.Option.{slice_get-get_or, slice_get_past}
 use Rattle.std.proofs.lemmas.Bool.{cond-true, cond-false, eq-eqb, ne_eqb, le-leb, cases_lt}
 use Rattle.std.proofs.lemmas.Bool.{cases_eq}
-use Rattle.std.proofs.lemmas.List.{get_or_append_left}
-use Rattle.std.proofs.Math.Seq.{get_or-append_seam}
 use Rattle.hlc_node.specs.declared.item.Item.{Item}
 use Rattle.hlc_node.specs.Items.{body_refusal, retires}
 use Rattle.hlc_intake.specs.IntakeView.{IntakeView}
@@ -20,42 +17,33 @@ use Rattle.hlc_core.specs.Past.{Step, Took, numbered, count, head, retired}
 use Rattle.hlc_core.specs.Past.{item_rows, link_refusal, item_refusal}
 use Rattle.hlc_core.specs.StoreView.{StoreView, Represents}
 use Rattle.hlc_core.specs.Calls.{Checks}
-use Rattle.hlc_core.proofs.PastLemmas.{admissible, on_link, retired-same, retired-other}
+use Rattle.hlc_core.proofs.PastLemmas.{admissible, on_link}
 
 -- the link of a node, from the past
 abbrev link_of : ℕ → List Step → IntakeView
 link_of n past = a_link (count n past) (head n past) (retired n past)
 
 pub get-append_left : (xs ys : List IntakeView) (i : ℕ) → i < length xs → slice_get (xs ++ ys) i ≡ slice_get xs i
-get-append_left xs ys i h =
-    slice_get-get_or (xs ++ ys) i no_link
-    (let l : length (xs ++ ys) ≡ length xs + length ys = length-append xs ys in omega arith)
-    ∙ ap Some (get_or_append_left xs ys no_link i h)
-    ∙ sym (slice_get-get_or xs i no_link h)
+get-append_left [] ys i h = absurd (omega arith)
+get-append_left (x ∷ xs) ys zero h = refl
+get-append_left (x ∷ xs) ys (suc i) h = get-append_left xs ys i (omega arith)
 
 pub get-push : (xs : List IntakeView) (x : IntakeView) → slice_get (xs ++ x ∷ []) (length xs) ≡ Some x
-get-push xs x =
-    slice_get-get_or (xs ++ x ∷ []) (length xs) no_link
-    (let l : length (xs ++ x ∷ []) ≡ length xs + 1 = length-append xs (x ∷ []) in omega arith)
-    ∙ ap Some (get_or-append_seam xs x [] no_link)
+get-push [] x = refl
+get-push (y ∷ xs) x = get-push xs x
 
 get-set_at : (links : List IntakeView) (i : ℕ) (link : IntakeView) → i < length links
     → slice_get (slice_set links i link) i ≡ Some link
-get-set_at links i link h =
-    slice_get-get_or (slice_set links i link) i link
-    (let l : length (slice_set links i link) ≡ length links = length-set links i link in omega arith)
-    ∙ ap Some (get_or-set_at links i i link link refl h)
+get-set_at [] i link h = absurd (omega arith)
+get-set_at (x ∷ links) zero link h = refl
+get-set_at (x ∷ links) (suc i) link h = get-set_at links i link (omega arith)
 
 get-set_other : (links : List IntakeView) (i k : ℕ) (link : IntakeView) → (k ≡ i → ⊥)
     → slice_get (slice_set links i link) k ≡ slice_get links k
-get-set_other links i k link other =
-    let l : length (slice_set links i link) ≡ length links = length-set links i link in
-    elim (cases_lt k (length links)) [
-      | inl within ↦
-          slice_get-get_or (slice_set links i link) k link (omega arith)
-          ∙ ap Some (get_or-set_other links i k link link other) ∙ sym (slice_get-get_or links k link within)
-      | inr outside ↦ slice_get_past (slice_set links i link) k (omega arith) ∙ sym (slice_get_past links k outside)
-    ]
+get-set_other [] i k link other = refl
+get-set_other (x ∷ links) zero zero link other = absurd (other refl)
+get-set_other (x ∷ links) (suc i) (suc k) link other = get-set_other links i k link (λ e. other (ap suc e))
+get-set_other (x ∷ links) _ _ link other = refl
 
 -- the result of a look-up of an item's link
 abbrev pub LooksUp : Option IntakeView → Item → Result Unit CoreFault → Type 0
@@ -133,33 +121,17 @@ links-took links past item number next within h n lt =
     elim (cases_eq item.node n) [
       | inl same ↦
           let hit = eq-eqb item.node n same in
-          ap (λ k. slice_get (slice_set links item.node (a_link (number + 1) item.stamp (retires item.body))) k)
-          (sym same)
-          ∙ get-set_at links item.node (a_link (number + 1) item.stamp (retires item.body)) within
-          ∙ ap (λ k. Some (a_link (k + 1) item.stamp (retires item.body))) (next ∙ ap (λ k. count k past) same)
-          ∙ sym (ap (λ k. Some (a_link k (head n (Took item ∷ past)) (retired n (Took item ∷ past))))
-          (cond-true (item.node == n) (count n past + 1) (count n past) hit)
-          ∙ ap (λ k. Some (a_link (count n past + 1) k (retired n (Took item ∷ past))))
-          (cond-true (item.node == n) item.stamp (head n past) hit)
-          ∙ ap (λ k. Some (a_link (count n past + 1) item.stamp k)) (retired-same n item past same))
+          let link : ℕ → IntakeView = λ k. a_link (count k past + 1) item.stamp (retires item.body) in
+          rw (hit, next) (subst (λ k. slice_get (slice_set links item.node (link item.node)) k ≡ Some (link k)) same
+          (get-set_at links item.node (link item.node) within))
       | inr other ↦
           let miss = ne_eqb item.node n other in
-          get-set_other links item.node n (a_link (number + 1) item.stamp (retires item.body)) (λ e. other (sym e))
-          ∙ h n lt
-          ∙ sym (ap (λ k. Some (a_link k (head n (Took item ∷ past)) (retired n (Took item ∷ past))))
-          (cond-false (item.node == n) (count n past + 1) (count n past) miss)
-          ∙ ap (λ k. Some (a_link (count n past) k (retired n (Took item ∷ past))))
-          (cond-false (item.node == n) item.stamp (head n past) miss)
-          ∙ ap (λ k. Some (a_link (count n past) (head n past) k)) (retired-other n item past other))
+          rw miss (get-set_other links item.node n _ (λ e. other (sym e)) ∙ h n lt)
     ]
 
 abbrev pub after_item : StoreView → Item → StoreView
-after_item kept item = record {
-  initial_nodes = kept.initial_nodes;
+after_item kept item = record kept {
   links = slice_set kept.links item.node (a_link (item.number + 1) item.stamp (retires item.body));
   top = max kept.top item.stamp;
-  snapshots = kept.snapshots;
-  last_id = kept.last_id;
-  horizon = kept.horizon;
   rows = kept.rows ++ item_rows item;
 }

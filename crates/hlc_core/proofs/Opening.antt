@@ -1,7 +1,7 @@
 -- Snapshots are opened and closed where that is not refused: the core represents one more step.
 use Rattle.std.proofs.Common.{◌≡◌, ℕ, ◌+◌, List, [], ◌∷◌, ◌++◌, length}
 use Rattle.std.proofs.Common.{Some, None, Ok, Err, Result, refl, ap, sym, ◌∙◌, subst, inl, inr}
-use Rattle.std.specs.Prelude.{⊤, ◌==◌, not, Contains, IfOk, OnErr}
+use Rattle.std.specs.Prelude.{◌==◌, not, Contains, IfOk, OnErr}
 use Rattle.std.proofs.lemmas.Bool.{cond-true, cond-false}
 use Rattle.std.proofs.lemmas.Bool.{cases_Bool}
 use Rattle.std.proofs.lemmas.List.{map-append}
@@ -10,17 +10,14 @@ use Rattle.hlc_rows.specs.declared.row.Row.{Row}
 use Rattle.hlc_core.specs.Past.{Step, Opened, Closed, horizon}
 use Rattle.hlc_core.specs.Past.{last_id, writes, open_snapshots}
 use Rattle.hlc_core.specs.Past.{of_room, room_refusal, open_refusal}
-use Rattle.hlc_events.specs.Faults.{of_registry}
 use Rattle.hlc_core.specs.Past.{stamp_of}
 use Rattle.hlc_core.specs.StoreView.{StoreView, Represents}
-use Rattle.hlc_snapshot.specs.declared.fault.SnapshotFault.{SnapshotFault}
 use Rattle.hlc_snapshot.specs.declared.snapshot.Snapshot.{Snapshot}
 use Rattle.hlc_vacuum.specs.Representing.{RowsRepresent}
 use Rattle.hlc_vacuum.proofs.RepresentingLemmas.{opens_keep_representing}
 use Rattle.hlc_snapshot.specs.declared.fault.NoSnapshot.{NoSnapshot}
 use Rattle.hlc_snapshot.specs.RegistryView.{RegistryView, closed, stamps, stamp_in, without, room_refusal as room_in}
-use Rattle.hlc_snapshot.specs.RegistryView.{IsRefusal as IsRoomRefusal}
-use Rattle.hlc_core.specs.Calls.{IsRefusal, Closes}
+use Rattle.hlc_core.specs.Calls.{Closes}
 use Rattle.hlc_core.proofs.PastLemmas.{open-above}
 
 -- the remaining room is that of the past
@@ -28,23 +25,10 @@ pub room-expected : (kept : StoreView) (past : List Step) → Represents kept pa
     → of_room (room_in (length kept.snapshots) kept.last_id) ≡ room_refusal past
 room-expected kept past h = rw (h.snapshots, h.last_id) refl
 
--- a registry's refusal is that of the past, which comes last
-pub room-fault : (kept : StoreView) (past : List Step) (fault : SnapshotFault)
-    → Represents kept past → IsRoomRefusal (room_in (length kept.snapshots) kept.last_id) fault
-    → IsRefusal (room_refusal past) ⊤ (of_registry fault)
-room-fault kept past fault h (inl expected) = inl (sym (room-expected kept past h) ∙ ap of_room expected)
-room-fault kept past fault h (inr lost) =
-    inr (sym (room-expected kept past h) ∙ ap of_room lost.0, ap of_registry lost.1, tt)
-
 abbrev pub with_snapshot : StoreView → ℕ → StoreView
-with_snapshot kept stamp = record {
-  initial_nodes = kept.initial_nodes;
-  links = kept.links;
-  top = kept.top;
+with_snapshot kept stamp = record kept {
   snapshots = kept.snapshots ++ record { id = kept.last_id + 1; stamp = stamp } ∷ [];
   last_id = kept.last_id + 1;
-  horizon = kept.horizon;
-  rows = kept.rows;
 }
 
 -- a snapshot whose opening is not refused is opened
@@ -69,15 +53,7 @@ opens kept past stamp h none =
     }
 
 abbrev pub less_snapshot : StoreView → ℕ → StoreView
-less_snapshot kept id = record {
-  initial_nodes = kept.initial_nodes;
-  links = kept.links;
-  top = kept.top;
-  snapshots = without id kept.snapshots;
-  last_id = kept.last_id;
-  horizon = kept.horizon;
-  rows = kept.rows;
-}
+less_snapshot kept id = record kept { snapshots = without id kept.snapshots }
 
 -- the stamps that are still open were open before
 still-open : (id stamp : ℕ) (xs : List Snapshot) → Contains (stamps (without id xs)) stamp → Contains (stamps xs) stamp
@@ -94,9 +70,10 @@ still-open id stamp (x ∷ xs) m =
           (still-open id stamp xs (subst (λ ys. Contains (stamps ys) stamp) (cond-false _ _ _ has_retired) m))
     ]
 
-fewer-open : (stored all : List Row) (horizon : ℕ) (opened fewer : List ℕ) → RowsRepresent stored all horizon opened
+-- with fewer stamps open
+pub fewer-stamps : (stored all : List Row) (horizon : ℕ) (opened fewer : List ℕ) → RowsRepresent stored all horizon opened
     → ((stamp : ℕ) → Contains fewer stamp → Contains opened stamp) → RowsRepresent stored all horizon fewer
-fewer-open stored all horizon opened fewer represent still = record {
+fewer-stamps stored all horizon opened fewer represent still = record {
   row_set = represent.row_set;
   all_row_set = represent.all_row_set;
   within = represent.within;
@@ -119,7 +96,7 @@ closes kept past id stamp h there =
         top = h.top;
         snapshots = ap (without id) h.snapshots;
         last_id = h.last_id;
-        rows = fewer-open kept.rows (writes past) (horizon past) (stamps (open_snapshots past))
+        rows = fewer-stamps kept.rows (writes past) (horizon past) (stamps (open_snapshots past))
             (stamps (without id (open_snapshots past))) h.rows (λ stamp m. still-open id stamp (open_snapshots past) m);
         stored = h.stored;
         horizon = h.horizon;

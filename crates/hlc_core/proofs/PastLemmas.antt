@@ -2,20 +2,21 @@
 -- twice, and the floor never falls, so no open snapshot is above it; and its body is allowed, so no accepted write is
 -- out of the limits.
 use Rattle.std.proofs.Common.{◌≡◌, ℕ, ◌+◌, ◌<◌, ◌≤◌, ◌⊎◌, List, [], ◌∷◌, ◌++◌, max, Bool, true}
-use Rattle.std.proofs.Common.{false, Option, Some, None, refl, ap, sym, ◌∙◌, subst, inl, inr, arith}
-use Rattle.std.specs.Prelude.{All, Contains, ◌==◌, ◌≢◌, not}
-use Rattle.std.proofs.lemmas.Bool.{cond-true, cond-false, le-leb, lt-leb, lt-ltb, le-ltb, eq-eqb, ne_eqb, cases_lt}
+use Rattle.std.proofs.Common.{false, Option, Some, None, refl, ap, sym, ◌∙◌, subst, inl, inr, arith, cond}
+use Rattle.std.specs.Prelude.{All, Contains, ◌==◌, ◌≢◌, if◌then◌else◌, not, nat_le, nat_lt}
+use Rattle.std.proofs.lemmas.Bool.{cond-true, cond-false, le-leb, lt-leb, le-ltb, eq-eqb, ne_eqb, cases_lt}
 use Rattle.std.proofs.lemmas.Bool.{cases_eq}
+use Rattle.std.proofs.lemmas.Bool.Decides.{nat_tests}
 use Rattle.std.proofs.lemmas.List.Elements.{Contains-append_cases, All-nil, All-cons, All-weaker, All-push, All-filter}
 use Rattle.std.proofs.lemmas.List.Elements.{All-append, Contains-append_left, Contains-append_right}
 use Rattle.hlc_values.proofs.MemberLemmas.{Contains-none, Contains-cons_cases}
 use Rattle.hlc_rows.specs.declared.row.Row.{Row}
 use Rattle.hlc_node.specs.declared.item.Item.{Item}
 use Rattle.hlc_node.specs.declared.item.Body.{Body}
-use Rattle.hlc_node.specs.declared.item.Body.TheVariants.{Write, Batch, Report, Retire}
-use Rattle.hlc_intake.specs.declared.intake.LinkFault.TheVariants.{NotNext, NumbersSpent, StampNotRising}
+use Rattle.hlc_node.specs.declared.item.Body.TheVariants.{Write, Batch}
+use Rattle.hlc_intake.specs.declared.intake.LinkFault.TheVariants.{Retired, NotNext, NumbersSpent, StampNotRising}
+use Rattle.hlc_events.specs.declared.fault.CoreFault.{CoreFault}
 use Rattle.hlc_events.specs.declared.fault.CoreFault.TheVariants.{NoNode, Link, AboveFloor, BelowHorizon}
-use Rattle.hlc_events.specs.declared.fault.CoreFault.TheVariants.{Body as bad_body}
 use Rattle.hlc_rows.specs.declared.limits.BodyFault.{BodyFault}
 use Rattle.hlc_node.specs.Items.{body_refusal, retires}
 use Rattle.hlc_rows.specs.Rows.{IsSameVersion, IsRowSet}
@@ -27,7 +28,7 @@ use Rattle.hlc_core.proofs.BatchLemmas.{rows_written-are, rows_written-set, rows
 use Rattle.hlc_core.proofs.BatchLemmas.{row_set-append}
 use Rattle.hlc_core.specs.Past.{Step, Started, Began, Took, Opened, Closed, Vacuumed, PartVacuumed, Joined}
 use Rattle.hlc_core.specs.Past.{numbered, count, head, retired, top, floor, horizon, vacuumed, open_snapshots}
-use Rattle.hlc_core.specs.Past.{room_refusal, open_refusal, body_rows}
+use Rattle.hlc_core.specs.Past.{room_refusal, open_refusal, open_after, body_rows}
 use Rattle.hlc_core.specs.Past.{item_rows, writes, link_refusal, of_body, item_refusal, vacuum_refusal, IsLegal}
 use Rattle.hlc_core.specs.Past.{greatest_accepted, join_refusal, join_at_refusal}
 use Rattle.hlc_heads.specs.declared.heads.TheConstants.{MAX_NODES}
@@ -35,6 +36,24 @@ use Rattle.hlc_intake.specs.IntakeView.{IntakeView}
 use Rattle.hlc_checkpoint.specs.Checkpoint.{floor_in}
 use Rattle.hlc_core.proofs.BeganLemmas.{link_in-out, floor-began, began-issued, began-retired, began-row, began-under}
 use Rattle.hlc_core.proofs.BeganLemmas.{began-positive}
+
+-- a reason that is none was not found, nor any after it
+pub unless-none : {A : Type 0} (b : Bool) (x : A) (rest : Option A) → (if b then Some x else rest) ≡ None
+    → (b ≡ false) × (rest ≡ None)
+unless-none true x rest none = absurd (cc)
+unless-none false x rest none = (refl, none)
+
+-- what is true of two numbers that are equal, and of two that are not
+pub by_equal : (P : Bool → Type 0) (a b : ℕ) → (a ≡ b → P true) → ((a ≡ b → ⊥) → P false) → P (a == b)
+by_equal P a b same other = elim (cases_eq a b) [
+  | inl e ↦ subst P (sym (eq-eqb a b e)) (same e)
+  | inr e ↦ subst P (sym (ne_eqb a b e)) (other e)
+]
+
+-- a past without its last step is legal
+pub older : (step : Step) (past : List Step) → IsLegal (step ∷ past) → IsLegal past
+older (Joined node start) past legal = legal.3
+older _ past legal = legal.1
 
 -- what is true of an item that is not refused
 pub record IsAdmissible (has_retired : Bool) (next last : ℕ) (item : Item) : Type 0 where
@@ -46,47 +65,35 @@ pub record IsAdmissible (has_retired : Bool) (next last : ℕ) (item : Item) : T
 
 of_body-none : (fault : Option BodyFault) → of_body fault ≡ None → fault ≡ None
 of_body-none None h = refl
-of_body-none (Some fault) h = absurd (let g : Some (bad_body fault) ≡ None = h in cc)
+of_body-none (Some fault) h = absurd (cc)
+
+none_of : (a b c d : Bool) (x y z w : CoreFault) (rest : Option CoreFault)
+    → (if a then Some x else if b then Some y else if c then Some z else if d then Some w else rest) ≡ None
+    → (a ≡ false) × (b ≡ false) × (c ≡ false) × (d ≡ false) × (rest ≡ None)
+none_of false false false false x y z w rest none = (refl, refl, refl, refl, none)
+none_of _ _ _ _ x y z w rest none = absurd (cc)
 
 pub admissible : (has_retired : Bool) (next last : ℕ) (item : Item) → link_refusal has_retired next last item ≡ None
     → IsAdmissible has_retired next last item
-admissible true next last item h = absurd (cc)
-admissible false next last item h =
-    elim (cases_eq item.number next) [
-      | inr other ↦ absurd (let e : not (item.number == next) ≡ true = ap not (ne_eqb _ _ other) in
-          let g : Some (Link (NotNext next)) ≡ None = sym (cond-true _ _ _ e) ∙ h in cc)
-      | inl same ↦
-          let h1 = sym (cond-false _ _ _ (ap not (eq-eqb _ _ same))) ∙ h in
-          elim (cases_eq item.number 18446744073709551615) [
-            | inl spent ↦
-                absurd (let g : Some (Link NumbersSpent) ≡ None = sym (cond-true _ _ _ (eq-eqb _ _ spent)) ∙ h1 in cc)
-            | inr left ↦
-                let h2 = sym (cond-false _ _ _ (ne_eqb _ _ left)) ∙ h1 in
-                elim (cases_lt last item.stamp) [
-                  | inl rises ↦ record {
-                    here = refl;
-                    number = same;
-                    left = left;
-                    stamp = rises;
-                    limits = of_body-none (body_refusal item.body)
-                        (sym (cond-false _ _ _ (lt-leb item.stamp last rises)) ∙ h2);
-                  }
-                  | inr falls ↦ absurd
-                      (let g : Some (Link (StampNotRising last)) ≡ None =
-                      sym (cond-true _ _ _ (le-leb _ _ falls)) ∙ h2 in cc)
-                ]
-          ]
-    ]
+admissible has_retired next last item h =
+    let parts = none_of has_retired (not (item.number == next)) (item.number == 18446744073709551615)
+    (nat_le item.stamp last) (Link Retired) (Link (NotNext next)) (Link NumbersSpent) (Link (StampNotRising last))
+    (of_body (body_refusal item.body)) h in
+    record {
+      here = parts.0;
+      number = grind (arith, nat_tests, parts.1);
+      left = grind (arith, nat_tests, parts.2);
+      stamp = grind (arith, nat_tests, parts.3);
+      limits = of_body-none (body_refusal item.body) parts.4;
+    }
 
 -- the node is one of the core's
 pub inside : (past : List Step) (item : Item) → item_refusal past item ≡ None
     → item.node < numbered past
 inside past item h =
-    elim (cases_lt item.node (numbered past)) [
-      | inl below ↦ below
-      | inr outside ↦ absurd (let g : Some NoNode ≡ None =
-          sym (cond-true _ _ _ (le-leb (numbered past) item.node outside)) ∙ h in cc)
-    ]
+    let out = unless-none (nat_le (numbered past) item.node) NoNode
+    (link_refusal (retired item.node past) (count item.node past) (head item.node past) item) h in
+    grind (arith, nat_tests, out.0)
 
 -- at a node of the core, the item is refused as on its link
 pub on_link : (past : List Step) (item : Item) → item.node < numbered past
@@ -125,15 +132,11 @@ head-joined_other n node start past e = cond-false _ _ _ (ne_eqb _ _ e)
 pub fresh : (past : List Step) (n : ℕ) → IsLegal past → numbered past ≤ n
     → (count n past ≡ 0) × (retired n past ≡ false)
 fresh [] n legal out = (refl, refl)
-fresh (Opened stamp ∷ past) n legal out = fresh past n legal.1 out
 fresh (Started nodes ∷ past) n legal out =
     fresh past n legal.1 (let out' : numbered past + nodes ≤ n = out in omega arith)
-fresh (Closed id ∷ past) n legal out = fresh past n legal.1 out
-fresh (Vacuumed at ∷ past) n legal out = fresh past n legal.1 out
 fresh (Began kept ∷ past) n legal out =
     let e = link_in-out kept n out in
     (ap (λ (link : IntakeView). link.next) e, ap (λ (link : IntakeView). link.retired) e)
-fresh (PartVacuumed at dropped ∷ past) n legal out = fresh past n legal.1 out
 fresh (Joined node start ∷ past) n legal out =
     fresh past n legal.3 (let out' : numbered past + 1 ≤ n = out in omega arith)
 fresh (Took item ∷ past) n legal out =
@@ -142,27 +145,24 @@ fresh (Took item ∷ past) n legal out =
     let other : item.node ≡ n → ⊥ = λ e. omega arith in
     let rest = fresh past n legal.1 out in
     (count-other n item past other ∙ rest.0, retired-other n item past other ∙ rest.1)
+fresh (_ ∷ past) n legal out = fresh past n legal.1 out
 
 -- each row of an item has its node and its stamp
 pub body_rows-are : (node stamp : ℕ) (body : Body) (row : Row) → Contains (body_rows node stamp body) row
     → (row.node ≡ node) × (row.stamp ≡ stamp)
-body_rows-are node stamp Report row m = absurd (Contains-none row m)
-body_rows-are node stamp Retire row m = absurd (Contains-none row m)
 body_rows-are node stamp (Batch writes) row m = rows_written-are node stamp writes row m
 body_rows-are node stamp (Write key value) row m =
     elim (Contains-cons_cases (record { key = key; stamp = stamp; node = node; value = value }) row [] m) [
       | inl same ↦ (sym (ap (λ r. r.node) same), sym (ap (λ r. r.stamp) same))
       | inr rest ↦ absurd (Contains-none row rest)
     ]
+body_rows-are node stamp _ row m = absurd (Contains-none row m)
 
 head-up : (n : ℕ) (item : Item) (past : List Step) → head item.node past < item.stamp
     → head n past ≤ head n (Took item ∷ past)
 head-up n item past up =
-    elim (cases_eq item.node n) [
-      | inl same ↦ (let e : head n (Took item ∷ past) ≡ item.stamp = head-same n item past same in
-          let f : head item.node past ≡ head n past = ap (λ k. head k past) same in omega arith)
-      | inr other ↦ (let e : head n (Took item ∷ past) ≡ head n past = head-other n item past other in omega arith)
-    ]
+    by_equal (λ b. head n past ≤ cond b item.stamp (head n past)) item.node n
+    (λ same. let e : head item.node past ≡ head n past = ap (λ k. head k past) same in omega arith) (λ _. omega arith)
 
 -- an item that is not refused has a stamp above its node's head
 pub rises : (past : List Step) (item : Item) → item_refusal past item ≡ None
@@ -206,15 +206,11 @@ above_floor past item h =
 pub inside-row : (past : List Step) → IsLegal past → (row : Row) → Contains (writes past) row
     → row.node < numbered past
 inside-row [] legal row m = absurd (Contains-none row m)
-inside-row (Opened stamp ∷ past) legal row m = inside-row past legal.1 row m
 inside-row (Started nodes ∷ past) legal row m =
     let within : row.node < numbered past = inside-row past legal.1 row m in
     let goal : row.node < numbered past + nodes = omega arith in goal
-inside-row (Closed id ∷ past) legal row m = inside-row past legal.1 row m
-inside-row (Vacuumed at ∷ past) legal row m = inside-row past legal.1 row m
 inside-row (Began kept ∷ past) legal row m =
     (began-under kept row legal.2 (began-row kept past row legal.0 m)).0
-inside-row (PartVacuumed at dropped ∷ past) legal row m = inside-row past legal.1 row m
 inside-row (Joined node start ∷ past) legal row m =
     let within : row.node < numbered past = inside-row past legal.3 row m in
     let goal : row.node < numbered past + 1 = omega arith in goal
@@ -227,28 +223,18 @@ inside-row (Took item ∷ past) legal row m =
           let within : item.node < numbered past = inside past item legal.0 in
           let goal : row.node < numbered past = omega (arith, are.0) in goal
     ]
+inside-row (_ ∷ past) legal row m = inside-row past legal.1 row m
 
 -- each accepted write is at or below its node's head
 pub below_head : (past : List Step) → IsLegal past → (row : Row) → Contains (writes past) row
     → row.stamp ≤ head row.node past
 below_head [] legal row m = absurd (Contains-none row m)
-below_head (Opened stamp ∷ past) legal row m = below_head past legal.1 row m
-below_head (Started nodes ∷ past) legal row m = below_head past legal.1 row m
-below_head (Closed id ∷ past) legal row m = below_head past legal.1 row m
-below_head (Vacuumed at ∷ past) legal row m = below_head past legal.1 row m
 below_head (Began kept ∷ past) legal row m =
     (began-under kept row legal.2 (began-row kept past row legal.0 m)).1
-below_head (PartVacuumed at dropped ∷ past) legal row m = below_head past legal.1 row m
 below_head (Joined node start ∷ past) legal row m =
-    let old : row.stamp ≤ head row.node past = below_head past legal.3 row m in
-    elim (cases_eq node row.node) [
-      | inr other ↦
-          let e : head row.node (Joined node start ∷ past) ≡ head row.node past =
-          head-joined_other row.node node start past other in omega arith
-      | inl same ↦
-          absurd (let within : row.node < numbered past = inside-row past legal.3 row m in
-          let e : node ≡ numbered past = legal.1 in omega arith)
-    ]
+    by_equal (λ b. row.stamp ≤ cond b start (head row.node past)) node row.node
+    (λ same. absurd (let within = inside-row past legal.3 row m in omega (arith, within, legal.1)))
+    (λ _. below_head past legal.3 row m)
 below_head (Took item ∷ past) legal row m =
     let up : head item.node past < item.stamp = rises past item legal.0 in
     elim (Contains-append_cases (writes past) (item_rows item) row m) [
@@ -261,17 +247,12 @@ below_head (Took item ∷ past) legal row m =
           let e : head row.node (Took item ∷ past) ≡ item.stamp = head-same row.node item past (sym are.0) in
           omega (arith, are.1)
     ]
+below_head (_ ∷ past) legal row m = below_head past legal.1 row m
 
 -- each accepted write has a stamp above 0.0
 pub positive : (past : List Step) → IsLegal past → (row : Row) → Contains (writes past) row → 0 < row.stamp
 positive [] legal row m = absurd (Contains-none row m)
-positive (Opened stamp ∷ past) legal row m = positive past legal.1 row m
-positive (Started nodes ∷ past) legal row m = positive past legal.1 row m
 positive (Began kept ∷ past) legal row m = began-positive kept row legal.2 (began-row kept past row legal.0 m)
-positive (Closed id ∷ past) legal row m = positive past legal.1 row m
-positive (Vacuumed at ∷ past) legal row m = positive past legal.1 row m
-positive (PartVacuumed at dropped ∷ past) legal row m = positive past legal.1 row m
-positive (Joined node start ∷ past) legal row m = positive past legal.3 row m
 positive (Took item ∷ past) legal row m =
     elim (Contains-append_cases (writes past) (item_rows item) row m) [
       | inl old ↦ positive past legal.1 row old
@@ -279,46 +260,12 @@ positive (Took item ∷ past) legal row m =
           (let e : row.stamp ≡ item.stamp = (body_rows-are item.node item.stamp item.body row here).1 in
           let up : head item.node past < item.stamp = rises past item legal.0 in omega arith)
     ]
+positive (step ∷ past) legal row m = positive past (older step past legal) row m
 
 -- each row of an item that was accepted is an accepted write
 pub took-writes : (past : List Step) (item : Item) (row : Row) → Contains past (Took item)
     → Contains (item_rows item) row → Contains (writes past) row
 took-writes [] item row m r = absurd (Contains-none (Took item) m)
-took-writes (Opened stamp ∷ past) item row m r =
-    elim (Contains-cons_cases (Opened stamp) (Took item) past m) [
-      | inl same ↦ absurd cc
-      | inr rest ↦ took-writes past item row rest r
-    ]
-took-writes (Started nodes ∷ past) item row m r =
-    elim (Contains-cons_cases (Started nodes) (Took item) past m) [
-      | inl same ↦ absurd cc
-      | inr rest ↦ took-writes past item row rest r
-    ]
-took-writes (Closed id ∷ past) item row m r =
-    elim (Contains-cons_cases (Closed id) (Took item) past m) [
-      | inl same ↦ absurd cc
-      | inr rest ↦ took-writes past item row rest r
-    ]
-took-writes (Vacuumed at ∷ past) item row m r =
-    elim (Contains-cons_cases (Vacuumed at) (Took item) past m) [
-      | inl same ↦ absurd cc
-      | inr rest ↦ took-writes past item row rest r
-    ]
-took-writes (Began kept ∷ past) item row m r =
-    elim (Contains-cons_cases (Began kept) (Took item) past m) [
-      | inl same ↦ absurd cc
-      | inr rest ↦ Contains-append_left (writes past) kept.rows row (took-writes past item row rest r)
-    ]
-took-writes (PartVacuumed at dropped ∷ past) item row m r =
-    elim (Contains-cons_cases (PartVacuumed at dropped) (Took item) past m) [
-      | inl same ↦ absurd cc
-      | inr rest ↦ took-writes past item row rest r
-    ]
-took-writes (Joined node start ∷ past) item row m r =
-    elim (Contains-cons_cases (Joined node start) (Took item) past m) [
-      | inl same ↦ absurd cc
-      | inr rest ↦ took-writes past item row rest r
-    ]
 took-writes (Took last ∷ past) item row m r =
     elim (Contains-cons_cases (Took last) (Took item) past m) [
       | inl same ↦
@@ -326,6 +273,16 @@ took-writes (Took last ∷ past) item row m r =
           Contains-append_right (writes past) (item_rows last) row
           (subst (λ x. Contains (item_rows x) row) (sym is) r)
       | inr rest ↦ Contains-append_left (writes past) (item_rows last) row (took-writes past item row rest r)
+    ]
+took-writes (Began kept ∷ past) item row m r =
+    elim (Contains-cons_cases (Began kept) (Took item) past m) [
+      | inl same ↦ absurd cc
+      | inr rest ↦ Contains-append_left (writes past) kept.rows row (took-writes past item row rest r)
+    ]
+took-writes (step ∷ past) item row m r =
+    elim (Contains-cons_cases step (Took item) past m) [
+      | inl same ↦ absurd cc
+      | inr rest ↦ took-writes past item row rest r
     ]
 
 new_version : (past : List Step) (item : Item) → IsLegal past → item_refusal past item ≡ None
@@ -339,10 +296,9 @@ new_version past item legal none row other m k v =
 
 -- the rows of a body that is not refused are a row set
 body_rows-set : (node stamp : ℕ) (body : Body) → body_refusal body ≡ None → IsRowSet (body_rows node stamp body)
-body_rows-set node stamp Report good = tt
-body_rows-set node stamp Retire good = tt
 body_rows-set node stamp (Write key value) good = ((λ other m same. Contains-none other m), tt)
 body_rows-set node stamp (Batch writes) good = rows_written-set node stamp writes (writes-good writes good).once
+body_rows-set node stamp _ good = tt
 
 -- the rows of an item are added to others that are not versions of them
 pub row_set-body : (node stamp : ℕ) (body : Body) (rows : List Row) → body_refusal body ≡ None
@@ -354,25 +310,19 @@ row_set-body node stamp body rows good fresh set' =
 -- no two accepted writes are alike in key, stamp and node
 pub writes-row_set : (past : List Step) → IsLegal past → IsRowSet (writes past)
 writes-row_set [] legal = tt
-writes-row_set (Opened stamp ∷ past) legal = writes-row_set past legal.1
-writes-row_set (Started nodes ∷ past) legal = writes-row_set past legal.1
-writes-row_set (Closed id ∷ past) legal = writes-row_set past legal.1
-writes-row_set (Vacuumed at ∷ past) legal = writes-row_set past legal.1
 writes-row_set (Began kept ∷ past) legal =
     subst (λ (p : List Step). IsRowSet (writes p ++ kept.rows)) (sym legal.0) legal.2.store.consistent.row_set
-writes-row_set (PartVacuumed at dropped ∷ past) legal = writes-row_set past legal.1
-writes-row_set (Joined node start ∷ past) legal = writes-row_set past legal.3
 writes-row_set (Took item ∷ past) legal =
     row_set-body item.node item.stamp item.body (writes past) (good_body past item legal.0)
     (new_version past item legal.1 legal.0) (writes-row_set past legal.1)
+writes-row_set (step ∷ past) legal = writes-row_set past (older step past legal)
 
 -- the rows of a body that is not refused are in the limits
 body_rows-limits : (node stamp : ℕ) (body : Body) → body_refusal body ≡ None → AreInLimits (body_rows node stamp body)
-body_rows-limits node stamp Report good = All-nil _
-body_rows-limits node stamp Retire good = All-nil _
 body_rows-limits node stamp (Write key value) good =
     All-cons IsInLimits (record { key = key; stamp = stamp; node = node; value = value }) [] good (All-nil _)
 body_rows-limits node stamp (Batch writes) good = rows_written-limits node stamp writes (writes-good writes good).none
+body_rows-limits node stamp _ good = All-nil _
 
 -- the rows of an item are added to others that are in the limits
 pub limits-body : (node stamp : ℕ) (body : Body) (rows : List Row) → body_refusal body ≡ None → AreInLimits rows
@@ -383,17 +333,12 @@ limits-body node stamp body rows good all' =
 -- the keys and values of all accepted writes are in the limits
 pub writes-limits : (past : List Step) → IsLegal past → AreInLimits (writes past)
 writes-limits [] legal = All-nil _
-writes-limits (Opened stamp ∷ past) legal = writes-limits past legal.1
-writes-limits (Started nodes ∷ past) legal = writes-limits past legal.1
-writes-limits (Closed id ∷ past) legal = writes-limits past legal.1
-writes-limits (Vacuumed at ∷ past) legal = writes-limits past legal.1
 writes-limits (Began kept ∷ past) legal =
     subst (λ (p : List Step). AreInLimits (writes p ++ kept.rows)) (sym legal.0) legal.2.store.sound.limits
-writes-limits (PartVacuumed at dropped ∷ past) legal = writes-limits past legal.1
-writes-limits (Joined node start ∷ past) legal = writes-limits past legal.3
 writes-limits (Took item ∷ past) legal =
     limits-body item.node item.stamp item.body (writes past) (good_body past item legal.0)
     (writes-limits past legal.1)
+writes-limits (step ∷ past) legal = writes-limits past (older step past legal)
 
 -- the floor never falls: not with an item
 pub floor-grows : (past : List Step) (item : Item) → item_refusal past item ≡ None
@@ -431,15 +376,19 @@ floor-stays past node start n is up within here =
     (λ n. retired n (Joined node start ∷ past)) (numbered past) (top past) (max (top past) start) n within here
     (omega arith) (λ k within. (head-joined_other k node start past (λ e. omega (arith, is)), refl))
 
+-- a stamp that is not refused is between these
+open_after-none : (most least : ℕ) (room : Option CoreFault) (stamp : ℕ) → open_after most least room stamp ≡ None
+    → (stamp ≤ most) × (least ≤ stamp)
+open_after-none most least room stamp none =
+    let high = unless-none (nat_lt most stamp) (AboveFloor most)
+    (if nat_lt stamp least then Some (BelowHorizon least) else room) none in
+    let low = unless-none (nat_lt stamp least) (BelowHorizon least) room high.1 in
+    (grind (arith, nat_tests, high.0), grind (arith, nat_tests, low.0))
+
 -- a stamp at which an opening is not refused is not above the floor
 pub open-below : (past : List Step) (stamp : ℕ) → open_refusal past stamp ≡ None
     → stamp ≤ floor past
-open-below past stamp none =
-    elim (cases_lt (floor past) stamp) [
-      | inl above ↦ absurd (let e : Some (AboveFloor (floor past)) ≡ None =
-          sym (cond-true _ _ _ (lt-ltb (floor past) stamp above)) ∙ none in cc)
-      | inr low ↦ low
-    ]
+open-below past stamp none = (open_after-none _ _ _ stamp none).0
 
 -- no open snapshot is above the floor
 pub open-low : (past : List Step) → IsLegal past
@@ -456,11 +405,9 @@ open-low (Opened stamp ∷ past) legal = All-push (λ snapshot. snapshot.stamp �
 open-low (Started nodes ∷ past) legal = rw legal.0 (All-nil _)
 open-low (Closed id ∷ past) legal =
     All-filter _ (λ snapshot. snapshot.stamp ≤ floor past) _ (open-low past legal.1)
-open-low (Vacuumed at ∷ past) legal = open-low past legal.1
 open-low (Began kept ∷ past) legal =
     subst (λ f. All (λ snapshot. snapshot.stamp ≤ f) kept.snapshots) (sym (floor-began kept past))
     legal.2.store.consistent.opened
-open-low (PartVacuumed at dropped ∷ past) legal = open-low past legal.1
 open-low (Joined node start ∷ past) legal =
     let up : floor past ≤ floor (Joined node start ∷ past) =
     floor-joins past node start legal.1 legal.2 in
@@ -468,40 +415,20 @@ open-low (Joined node start ∷ past) legal =
     (λ snapshot. snapshot.stamp ≤ floor (Joined node start ∷ past))
     (λ snapshot low. (let low' : snapshot.stamp ≤ floor past = low in omega arith)) _
     (open-low past legal.3)
+open-low (_ ∷ past) legal = open-low past legal.1
 
 -- nor below the horizon
 pub open-above : (past : List Step) (stamp : ℕ) → open_refusal past stamp ≡ None
     → horizon past ≤ stamp
-open-above past stamp none =
-    elim (cases_lt stamp (horizon past)) [
-      | inl low ↦
-          let low_floor : stamp ≤ floor past = open-below past stamp none in
-          absurd (let e : Some (BelowHorizon (horizon past)) ≡ None =
-          sym (cond-true _ _ _ (lt-ltb stamp (horizon past) low))
-          ∙ sym (cond-false _ _ _ (le-ltb (floor past) stamp low_floor)) ∙ none in cc)
-      | inr high ↦ high
-    ]
+open-above past stamp none = (open_after-none _ _ _ stamp none).1
 
 -- a stamp to which a vacuum is not refused is not above the floor
 pub vacuum-below : (past : List Step) (at : ℕ) → vacuum_refusal past at ≡ None → at ≤ floor past
-vacuum-below past at none =
-    elim (cases_lt (floor past) at) [
-      | inl above ↦ absurd (let e : Some (AboveFloor (floor past)) ≡ None =
-          sym (cond-true _ _ _ (lt-ltb (floor past) at above)) ∙ none in cc)
-      | inr low ↦ low
-    ]
+vacuum-below past at none = (open_after-none _ _ _ at none).0
 
 -- nor below the horizon
 pub vacuum-above : (past : List Step) (at : ℕ) → vacuum_refusal past at ≡ None → horizon past ≤ at
-vacuum-above past at none =
-    elim (cases_lt at (horizon past)) [
-      | inl low ↦
-          let low_floor : at ≤ floor past = vacuum-below past at none in
-          absurd (let e : Some (BelowHorizon (horizon past)) ≡ None =
-          sym (cond-true _ _ _ (lt-ltb at (horizon past) low))
-          ∙ sym (cond-false _ _ _ (le-ltb (floor past) at low_floor)) ∙ none in cc)
-      | inr high ↦ high
-    ]
+vacuum-above past at none = (open_after-none _ _ _ at none).1
 
 -- and a stamp between them is not refused
 pub vacuum-none : (past : List Step) (at : ℕ) → at ≤ floor past → horizon past ≤ at
@@ -515,9 +442,7 @@ horizon-low [] legal = omega arith
 horizon-low (Took item ∷ past) legal =
     let low : horizon past ≤ floor past = horizon-low past legal.1 in
     let up : floor past ≤ floor (Took item ∷ past) = floor-grows past item legal.0 in omega arith
-horizon-low (Opened stamp ∷ past) legal = horizon-low past legal.1
 horizon-low (Started nodes ∷ past) legal = rw legal.0 (omega arith)
-horizon-low (Closed id ∷ past) legal = horizon-low past legal.1
 horizon-low (Vacuumed at ∷ past) legal = vacuum-below past at legal.0
 horizon-low (Began kept ∷ past) legal =
     let e : floor (Began kept ∷ past) ≡ floor_in kept = floor-began kept past in
@@ -528,14 +453,11 @@ horizon-low (Joined node start ∷ past) legal =
     let low : horizon past ≤ floor past = horizon-low past legal.3 in
     let up : floor past ≤ floor (Joined node start ∷ past) =
     floor-joins past node start legal.1 legal.2 in omega arith
+horizon-low (_ ∷ past) legal = horizon-low past legal.1
 
 -- nor is the stamp of the last whole vacuum above the horizon
 pub vacuumed-low : (past : List Step) → IsLegal past → vacuumed past ≤ horizon past
 vacuumed-low [] legal = omega arith
-vacuumed-low (Took item ∷ past) legal = vacuumed-low past legal.1
-vacuumed-low (Opened stamp ∷ past) legal = vacuumed-low past legal.1
-vacuumed-low (Started nodes ∷ past) legal = vacuumed-low past legal.1
-vacuumed-low (Closed id ∷ past) legal = vacuumed-low past legal.1
 vacuumed-low (Vacuumed at ∷ past) legal = omega arith
 vacuumed-low (Began kept ∷ past) legal =
     let none : vacuumed past ≡ 0 = ap vacuumed legal.0 in
@@ -544,7 +466,7 @@ vacuumed-low (PartVacuumed at dropped ∷ past) legal =
     let low : vacuumed past ≤ horizon past = vacuumed-low past legal.1 in
     let up : horizon past ≤ at = vacuum-above past at legal.0 in
     let goal : vacuumed past ≤ at = omega arith in goal
-vacuumed-low (Joined node start ∷ past) legal = vacuumed-low past legal.3
+vacuumed-low (step ∷ past) legal = vacuumed-low past (older step past legal)
 
 -- an item that is accepted is above the horizon
 pub above-horizon : (past : List Step) (item : Item) → IsLegal past
@@ -562,49 +484,25 @@ open-room past stamp low high = cond-false _ _ _ (le-ltb (floor past) stamp low)
 -- the greatest accepted stamp is not above the top, which also counts starts
 pub accepted-low : (past : List Step) → IsLegal past → greatest_accepted past ≤ top past
 accepted-low [] legal = omega arith
-accepted-low (Took item ∷ past) legal =
-    let old : greatest_accepted past ≤ top past = accepted-low past legal.1 in
-    let goal : max (greatest_accepted past) item.stamp ≤ max (top past) item.stamp = omega arith in goal
-accepted-low (Opened stamp ∷ past) legal = accepted-low past legal.1
-accepted-low (Started nodes ∷ past) legal = accepted-low past legal.1
+accepted-low (Took item ∷ past) legal = omega (arith, accepted-low past legal.1)
 accepted-low (Began kept ∷ past) legal = began-issued kept legal.2
-accepted-low (Closed id ∷ past) legal = accepted-low past legal.1
-accepted-low (Vacuumed at ∷ past) legal = accepted-low past legal.1
-accepted-low (PartVacuumed at dropped ∷ past) legal = accepted-low past legal.1
-accepted-low (Joined node start ∷ past) legal =
-    let old : greatest_accepted past ≤ top past = accepted-low past legal.3 in
-    let goal : greatest_accepted past ≤ max (top past) start = omega arith in goal
+accepted-low (Joined node start ∷ past) legal = omega (arith, accepted-low past legal.3)
+accepted-low (_ ∷ past) legal = accepted-low past legal.1
 
 -- a node that has retired issued its head
 pub retired-head : (past : List Step) (n : ℕ) → IsLegal past → retired n past ≡ true
     → head n past ≤ greatest_accepted past
 retired-head [] n legal has_retired = omega arith
-retired-head (Opened stamp ∷ past) n legal has_retired = retired-head past n legal.1 has_retired
-retired-head (Started nodes ∷ past) n legal has_retired = retired-head past n legal.1 has_retired
-retired-head (Closed id ∷ past) n legal has_retired = retired-head past n legal.1 has_retired
-retired-head (Vacuumed at ∷ past) n legal has_retired = retired-head past n legal.1 has_retired
 retired-head (Began kept ∷ past) n legal has_retired = began-retired kept n legal.2 has_retired
-retired-head (PartVacuumed at dropped ∷ past) n legal has_retired = retired-head past n legal.1 has_retired
 retired-head (Joined node start ∷ past) n legal has_retired =
-    elim (cases_eq node n) [
-      | inl same ↦
-          let none = fresh past n legal.3 (let is : node ≡ numbered past = legal.1 in omega arith) in
-          absurd (let e : false ≡ true = sym none.1 ∙ has_retired in cc)
-      | inr other ↦
-          let e : head n (Joined node start ∷ past) ≡ head n past = head-joined_other n node start past other in
-          let old : head n past ≤ greatest_accepted past = retired-head past n legal.3 has_retired in omega arith
-    ]
+    by_equal (λ b. cond b start (head n past) ≤ greatest_accepted past) node n
+    (λ same. let none = fresh past n legal.3 (omega (arith, legal.1)) in
+    absurd (let e : false ≡ true = sym none.1 ∙ has_retired in cc)) (λ _. retired-head past n legal.3 has_retired)
 retired-head (Took item ∷ past) n legal has_retired =
-    elim (cases_eq item.node n) [
-      | inl same ↦
-          let e : head n (Took item ∷ past) ≡ item.stamp = head-same n item past same in
-          let goal : head n (Took item ∷ past) ≤ max (greatest_accepted past) item.stamp = omega arith in goal
-      | inr other ↦
-          let e : head n (Took item ∷ past) ≡ head n past = head-other n item past other in
-          let old : head n past ≤ greatest_accepted past =
-          retired-head past n legal.1 (sym (retired-other n item past other) ∙ has_retired) in
-          let goal : head n (Took item ∷ past) ≤ max (greatest_accepted past) item.stamp = omega arith in goal
-    ]
+    by_equal (λ b. cond b (retires item.body) (retired n past) ≡ true
+    → cond b item.stamp (head n past) ≤ max (greatest_accepted past) item.stamp) item.node n
+    (λ _ _. omega arith) (λ _ old. omega (arith, retired-head past n legal.1 old)) has_retired
+retired-head (_ ∷ past) n legal has_retired = retired-head past n legal.1 has_retired
 
 -- a join at the floor does not move it
 pub floor-at_floor : (past : List Step) (node : ℕ) → IsLegal past → node ≡ numbered past

@@ -1,9 +1,6 @@
 -- There is one report of a vacuum: its points are one list, and so are its changes and those of the one before.
-use Rattle.std.proofs.Common.{◌≡◌, ℕ, ◌≤◌, List, [], ◌∷◌, length, ap, sym, ◌∙◌, arith}
-use Rattle.std.specs.Prelude.{Contains}
-use Rattle.std.proofs.lemmas.List.Elements.{All-map, All-contains}
-use Rattle.hlc_snapshot.specs.declared.snapshot.Snapshot.{Snapshot}
-use Rattle.hlc_snapshot.specs.RegistryView.{stamps, stamps_to}
+use Rattle.std.proofs.Common.{◌≡◌, ℕ, List, [], ◌∷◌, length, ap, sym, ◌∙◌, arith}
+use Rattle.hlc_snapshot.specs.RegistryView.{stamps_to}
 use Rattle.hlc_witness.specs.declared.witness.Witness.{Witness}
 use Rattle.hlc_witness.specs.Changes.{AreChanges}
 use Rattle.hlc_witness.specs.Cost.{changes_cost}
@@ -11,20 +8,10 @@ use Rattle.hlc_witness.specs.AllChanges.{all_changes}
 use Rattle.hlc_vacuum_draft.specs.declared.report.Report.{Report}
 use Rattle.hlc_clock.proofs.PointLemmas.{ArePoints-unique, points-ascend}
 use Rattle.hlc_witness.proofs.ChangeLemmas.{changes_are_one}
-use Rattle.hlc_core.specs.Past.{Step, Started, Began, Took, Opened, Closed, Vacuumed, PartVacuumed, Joined, floor}
+use Rattle.hlc_core.specs.Past.{Step, Vacuumed}
 use Rattle.hlc_core.specs.Past.{open_snapshots}
 use Rattle.hlc_core.specs.Past.{writes}
-use Rattle.hlc_core.specs.Past.{IsLegal}
 use Rattle.hlc_core.specs.Stored.{AreVacuumPoints, AreLastChanges, IsStoredCount, IsReport}
-use Rattle.hlc_core.proofs.PastLemmas.{open-low}
-
--- no open stamp is above the floor
-pub open-stamps-low : (past : List Step) → IsLegal past → (stamp : ℕ)
-    → Contains (stamps (open_snapshots past)) stamp → stamp ≤ floor past
-open-stamps-low past legal stamp m =
-    All-contains (λ stamp. stamp ≤ floor past) (stamps (open_snapshots past)) stamp
-    (All-map (λ stamp. stamp ≤ floor past) (λ (snapshot : Snapshot). snapshot.stamp) (open_snapshots past)
-    (open-low past legal)) m
 
 -- the changes of one vacuum are one list
 pub one-changes : (at : ℕ) (past : List Step) (points others : List ℕ) (changes before : List Witness)
@@ -41,15 +28,9 @@ one-changes at past points others changes before found also are were =
 pub one-last : (past : List Step) (changes before : List Witness)
     → AreLastChanges past changes → AreLastChanges past before → length changes ≡ length before
 one-last [] changes before are were = ap length (are ∙ sym were)
-one-last (Took item ∷ past) changes before are were = one-last past changes before are were
-one-last (Opened stamp ∷ past) changes before are were = one-last past changes before are were
-one-last (Started nodes ∷ past) changes before are were = one-last past changes before are were
-one-last (Began kept ∷ past) changes before are were = one-last past changes before are were
-one-last (Closed id ∷ past) changes before are were = one-last past changes before are were
-one-last (Joined node start ∷ past) changes before are were = one-last past changes before are were
-one-last (PartVacuumed at dropped ∷ past) changes before are were = one-last past changes before are were
 one-last (Vacuumed at ∷ past) changes before are were =
     ap length (one-changes at past are.0 were.0 changes before are.1 were.1 are.2 were.2)
+one-last (_ ∷ past) changes before are were = one-last past changes before are were
 
 -- there is one expected number of stored rows
 pub there_is_one_count : (past : List Step) (count other : ℕ)
@@ -76,9 +57,5 @@ there_is_one_report at past report other is also =
     one-last past is.dropped.0 also.dropped.0 is.dropped.1 also.dropped.1 in
     let dropped : report.dropped ≡ other.dropped = omega (arith, is.dropped.2, also.dropped.2) in
     let bytes : report.bytes ≡ other.bytes = is.bytes ∙ ap (changes_cost (writes past)) witnesses ∙ sym also.bytes in
-    ap (λ x. a_report x report.points report.kept report.bytes report.dropped report.witnesses) stamp
-    ∙ ap (λ x. a_report other.floor x report.kept report.bytes report.dropped report.witnesses) points
-    ∙ ap (λ x. a_report other.floor other.points x report.bytes report.dropped report.witnesses) kept
-    ∙ ap (λ x. a_report other.floor other.points other.kept x report.dropped report.witnesses) bytes
-    ∙ ap (λ x. a_report other.floor other.points other.kept other.bytes x report.witnesses) dropped
-    ∙ ap (λ x. a_report other.floor other.points other.kept other.bytes other.dropped x) witnesses
+    let same : a_report report.floor report.points report.kept report.bytes report.dropped report.witnesses
+    ≡ a_report other.floor other.points other.kept other.bytes other.dropped other.witnesses = cc in same

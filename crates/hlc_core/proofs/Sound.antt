@@ -19,13 +19,6 @@ use Rattle.hlc_core.specs.StoreView.{HasStamps, HasLastItem, IsSound, greatest_h
 use Rattle.hlc_core.proofs.PastLemmas.{limits-body}
 use Rattle.hlc_core.proofs.Consistent.{floor-advanced, floor-joined}
 
-pub greatest-ge : (links : List IntakeView) (k : ℕ) (d : IntakeView) → k < length links
-    → (get_or links k d).head ≤ greatest_head links
-greatest-ge [] k d lt = absurd (omega arith)
-greatest-ge (link ∷ links) zero d lt = omega arith
-greatest-ge (link ∷ links) (suc k) d lt =
-    (let h : (get_or links k d).head ≤ greatest_head links = greatest-ge links k d (omega arith) in omega arith)
-
 pub greatest-le : (links : List IntakeView) (most : ℕ)
     → ((k : ℕ) (d : IntakeView) → k < length links → (get_or links k d).head ≤ most) → greatest_head links ≤ most
 greatest-le [] most low = omega arith

@@ -1,8 +1,9 @@
 -- A new core represents the past of its start, and a checkpoint that which begins with it.
 use Rattle.std.proofs.Common.{◌≡◌, ℕ, zero, suc, ◌<◌, ◌≤◌, [], ◌∷◌, length}
-use Rattle.std.proofs.Common.{false, Some, None, refl, ap}
+use Rattle.std.proofs.Common.{false, Some, None, refl}
 use Rattle.std.proofs.Common.{arith, replicate}
 use Rattle.std.specs.Prelude.{slice_get}
+use Rattle.std.proofs.lemmas.List.{length-replicate}
 use Rattle.std.proofs.lemmas.Bool.{cond-false, ne_eqb, le-ltb, or_from}
 use Rattle.hlc_intake.specs.IntakeView.{IntakeView}
 use Rattle.hlc_heads.specs.Heads.{a_link}
@@ -32,14 +33,10 @@ get-replicate zero k link lt = absurd (omega arith)
 get-replicate (suc n) zero link lt = refl
 get-replicate (suc n) (suc k) link lt = get-replicate n k link (omega arith)
 
-replicate-length : (count : ℕ) (link : IntakeView) → length (replicate count link) ≡ count
-replicate-length zero link = refl
-replicate-length (suc n) link = ap suc (replicate-length n link)
-
 -- a new core represents the past of its start
 pub starts : (many : ℕ) → Represents (new_core many) (Started many ∷ [])
 starts many =
-    let l : length (replicate many (a_link 0 0 false)) ≡ many = replicate-length many (a_link 0 0 false) in record {
+    let l = length-replicate many (a_link 0 0 false) in record {
       legal = (refl, tt);
       initial_nodes = refl;
       links = record {

@@ -17,22 +17,16 @@ use Rattle.hlc_snapshot.proofs.RegisterLemmas.{open_before, stamp_in-push_cases,
 use Rattle.hlc_snapshot.proofs.RegisterLemmas.{stamp_in-without_itself, stamp_in-without_other}
 use Rattle.hlc_vacuum_draft.specs.Vacuumed.{rows_to}
 use Rattle.hlc_vacuum_draft.proofs.PartLemmas.{answer-rows_to}
-use Rattle.hlc_core.specs.Past.{Step, Started, Began, Took, Opened, Closed, Vacuumed, PartVacuumed, Joined}
+use Rattle.hlc_core.specs.Past.{Step, Started, Began, Took, Opened, Closed, Joined}
 use Rattle.hlc_core.specs.Past.{floor, last_id, open_snapshots, stamp_of, writes, body_rows, IsLegal}
 use Rattle.hlc_core.proofs.BeganLemmas.{began-positive}
+use Rattle.hlc_core.proofs.PastLemmas.{older}
 use Rattle.hlc_core.proofs.PastLemmas.{writes-row_set, above_floor, floor-grows, floor-joins, open-low, body_rows-are}
 
 -- what took place before a legal past's last steps is legal
 pub legal-before : (past more : List Step) → IsLegal (more ++ past) → IsLegal past
 legal-before past [] legal = legal
-legal-before past (Took item ∷ more) legal = legal-before past more legal.1
-legal-before past (Opened stamp ∷ more) legal = legal-before past more legal.1
-legal-before past (Started nodes ∷ more) legal = legal-before past more legal.1
-legal-before past (Closed id ∷ more) legal = legal-before past more legal.1
-legal-before past (Vacuumed at ∷ more) legal = legal-before past more legal.1
-legal-before past (Began kept ∷ more) legal = legal-before past more legal.1
-legal-before past (PartVacuumed at dropped ∷ more) legal = legal-before past more legal.1
-legal-before past (Joined node start ∷ more) legal = legal-before past more legal.3
+legal-before past (step ∷ more) legal = legal-before past more (older step (more ++ past) legal)
 
 -- if all is nothing, so is what came first
 pub nothing-before : (more past : List Step) → more ++ past ≡ [] → past ≡ []
@@ -47,18 +41,15 @@ floor-never_falls past (Took item ∷ more) legal =
     let low : floor past ≤ floor (more ++ past) = floor-never_falls past more legal.1 in
     let up : floor (more ++ past) ≤ floor (Took item ∷ (more ++ past)) =
     floor-grows (more ++ past) item legal.0 in omega arith
-floor-never_falls past (Opened stamp ∷ more) legal = floor-never_falls past more legal.1
 floor-never_falls past (Started nodes ∷ more) legal =
     subst (λ p. floor p ≤ floor (Started nodes ∷ (more ++ past))) (sym (nothing-before more past legal.0)) (omega arith)
-floor-never_falls past (Closed id ∷ more) legal = floor-never_falls past more legal.1
-floor-never_falls past (Vacuumed at ∷ more) legal = floor-never_falls past more legal.1
 floor-never_falls past (Began kept ∷ more) legal =
     subst (λ p. floor p ≤ floor (Began kept ∷ (more ++ past))) (sym (nothing-before more past legal.0)) (omega arith)
-floor-never_falls past (PartVacuumed at dropped ∷ more) legal = floor-never_falls past more legal.1
 floor-never_falls past (Joined node start ∷ more) legal =
     let low : floor past ≤ floor (more ++ past) = floor-never_falls past more legal.3 in
     let up : floor (more ++ past) ≤ floor (Joined node start ∷ (more ++ past)) =
     floor-joins (more ++ past) node start legal.1 legal.2 in omega arith
+floor-never_falls past (_ ∷ more) legal = floor-never_falls past more legal.1
 
 -- rows above a stamp are not among those at or below it
 none-below : (stamp : ℕ) (rows : List Row) → ((row : Row) → Contains rows row → stamp < row.stamp)
@@ -87,8 +78,6 @@ above-misses node at body rows key stamp set' pushed up =
 pub answers-stay : (past more : List Step) → IsLegal (more ++ past) → (key : List ℕ) (stamp : ℕ)
     → stamp ≤ floor past → answer (writes (more ++ past)) key stamp ≡ answer (writes past) key stamp
 answers-stay past [] legal key stamp low = refl
-answers-stay past (Opened at ∷ more) legal key stamp low = answers-stay past more legal.1 key stamp low
-answers-stay past (Started nodes ∷ more) legal key stamp low = answers-stay past more legal.1 key stamp low
 answers-stay past (Began kept ∷ more) legal key stamp low =
     let none : past ≡ [] = nothing-before more past legal.0 in
     let at : floor past ≡ 0 = ap floor none in
@@ -100,12 +89,6 @@ answers-stay past (Began kept ∷ more) legal key stamp low =
     ∙ ap (λ rs. answer rs key stamp) out in
     ap (λ (p : List Step). answer (writes p ++ kept.rows) key stamp) legal.0
     ∙ here ∙ sym (ap (λ (p : List Step). answer (writes p) key stamp) none)
-answers-stay past (Closed id ∷ more) legal key stamp low = answers-stay past more legal.1 key stamp low
-answers-stay past (Vacuumed at ∷ more) legal key stamp low = answers-stay past more legal.1 key stamp low
-answers-stay past (PartVacuumed at dropped ∷ more) legal key stamp low =
-    answers-stay past more legal.1 key stamp low
-answers-stay past (Joined node start ∷ more) legal key stamp low =
-    answers-stay past more legal.3 key stamp low
 answers-stay past (Took item ∷ more) legal key stamp low =
     let up : floor (more ++ past) < item.stamp = above_floor (more ++ past) item legal.0 in
     let rose : floor past ≤ floor (more ++ past) = floor-never_falls past more legal.1 in
@@ -113,6 +96,8 @@ answers-stay past (Took item ∷ more) legal key stamp low =
     (writes-row_set (more ++ past) legal.1) (writes-row_set (Took item ∷ (more ++ past)) legal)
     (omega arith)
     ∙ answers-stay past more legal.1 key stamp low
+answers-stay past (step ∷ more) legal key stamp low =
+    answers-stay past more (older step (more ++ past) legal) key stamp low
 
 -- the register of a past
 abbrev register : List Step → RegistryView
@@ -123,13 +108,9 @@ follows : (past more : List Step) → (past ≡ [] → ⊥) → IsLegal (more ++
     → Follows (register past) (register (more ++ past))
 follows past [] some legal = at_once
 follows past (Opened stamp ∷ more) some legal = opening stamp (follows past more some legal.1)
-follows past (Started nodes ∷ more) some legal = follows past more some legal.1
 follows past (Began kept ∷ more) some legal = absurd (some (nothing-before more past legal.0))
 follows past (Closed id ∷ more) some legal = closing id (follows past more some legal.1)
-follows past (Took item ∷ more) some legal = follows past more some legal.1
-follows past (Vacuumed at ∷ more) some legal = follows past more some legal.1
-follows past (PartVacuumed at dropped ∷ more) some legal = follows past more some legal.1
-follows past (Joined node start ∷ more) some legal = follows past more some legal.3
+follows past (step ∷ more) some legal = follows past more some (older step (more ++ past) legal)
 
 -- nor has one of a register
 id-bounded : (last id stamp : ℕ) (xs : List Snapshot)
@@ -155,7 +136,6 @@ id-low (Opened at ∷ past) id stamp legal is =
       | inl before ↦ (let low = id-low past id stamp legal.1 before in omega (arith, low))
       | inr last ↦ (let same : last_id past + 1 ≡ id = last.0 in omega (arith, same))
     ]
-id-low (Started nodes ∷ past) id stamp legal is = id-low past id stamp legal.1 is
 id-low (Closed other ∷ past) id stamp legal is =
     elim (cases_eq id other) [
       | inl same ↦ absurd (let none : stamp_of id (Closed id ∷ past) ≡ None =
@@ -168,10 +148,7 @@ id-low (Closed other ∷ past) id stamp legal is =
     ]
 id-low (Began kept ∷ past) id stamp legal is =
     id-bounded kept.last_id id stamp kept.snapshots legal.2.store.register.bounded is
-id-low (Took item ∷ past) id stamp legal is = id-low past id stamp legal.1 is
-id-low (Vacuumed at ∷ past) id stamp legal is = id-low past id stamp legal.1 is
-id-low (PartVacuumed at dropped ∷ past) id stamp legal is = id-low past id stamp legal.1 is
-id-low (Joined node start ∷ past) id stamp legal is = id-low past id stamp legal.3 is
+id-low (step ∷ past) id stamp legal is = id-low past id stamp (older step past legal) is
 
 -- a snapshot that is open later has the stamp and the answers that it had
 pub snapshots-stay : (past more : List Step) (id stamp again : ℕ) → IsLegal (more ++ past)

@@ -1,6 +1,6 @@
 -- Part of a vacuum is what its event asks for after each past that the core represented, and so is a refusal, which is
 -- never that memory runs out. What a core does after its past is a step of its history.
-use Rattle.std.proofs.Common.{◌≡◌, ◌∙◌, ℕ, List, Option, Some, None, Bool, true, false, inl, inr}
+use Rattle.std.proofs.Common.{◌≡◌, ◌∙◌, ℕ, List, Option, Some, None, Bool, false, inl, inr}
 use Rattle.std.proofs.Common.{sym, subst, ap}
 use Rattle.std.specs.Prelude.{Ok, Err, ◌≢◌, Result, IfOk, OnErr, if◌then◌else◌}
 use Rattle.std.specs.declared.alloc.AllocError.{AllocError}
@@ -13,9 +13,7 @@ use Rattle.hlc_intake.specs.declared.intake.LinkFault.TheVariants.{Retired, NotN
 use Rattle.hlc_events.specs.declared.fault.CoreFault.{CoreFault}
 use Rattle.hlc_events.specs.declared.fault.CoreFault.TheVariants.{NoMemory, NoNode, Link, AboveFloor, BelowHorizon}
 use Rattle.hlc_events.specs.declared.fault.CoreFault.TheVariants.{Join as joining}
-use Rattle.hlc_events.specs.declared.event.CoreEvent.TheVariants.{Accept, Join, OpenAt, OpenFloor, Read}
-use Rattle.hlc_events.specs.declared.event.CoreEvent.TheVariants.{List as ListAll}
-use Rattle.hlc_events.specs.declared.event.CoreEvent.TheVariants.{Close, Vacuum, JoinAt, VacuumTo}
+use Rattle.hlc_events.specs.declared.event.CoreEvent.TheVariants.{Accept}
 use Rattle.hlc_core.specs.declared.reply.CoreReply.TheVariants.{Refused}
 use Rattle.hlc_events.specs.declared.event.CoreEvent.{CoreEvent}
 use Rattle.hlc_events.specs.declared.event.CoreEvent.TheVariants.{VacuumPart}
@@ -43,16 +41,7 @@ part_is_move past old new at after limit report end represents made = (
 pub refused_is_move : (past : List Step) (old : StoreView) (event : CoreEvent) (fault : CoreFault) → Represents old past
     → expected_refusal past event ≡ Some fault → IsMove past old old event (Refused fault)
 refused_is_move past old (Accept item) fault h is = (is, h, tt, tt)
-refused_is_move past old Join fault h is = (is, h, tt, tt)
-refused_is_move past old (OpenAt at) fault h is = (is, h, tt, tt)
-refused_is_move past old OpenFloor fault h is = (is, h, tt, tt)
-refused_is_move past old (Read id key) fault h is = (is, h, tt, tt)
-refused_is_move past old (ListAll id) fault h is = (is, h, tt, tt)
-refused_is_move past old (Close id) fault h is = (is, h, tt, tt)
-refused_is_move past old Vacuum fault h is = (is, h, tt, tt)
-refused_is_move past old (JoinAt at) fault h is = (is, h, tt, tt)
-refused_is_move past old (VacuumTo at) fault h is = (is, h, tt, tt)
-refused_is_move past old (VacuumPart at after limit) fault h is = (is, h, tt, tt)
+refused_is_move past old _ fault h is = (is, h, tt, tt)
 
 -- no call is refused for memory but where memory runs out
 pub refused_moves : (past : List Step) (old new : StoreView) (event : CoreEvent) (fault : CoreFault)
@@ -94,13 +83,8 @@ item_takes_none past item = first _ _ _ _ _ _ _ (body_refusal item.body)
         else if spent then Some (Link NumbersSpent)
         else if low then Some (Link (StampNotRising last))
         else of_body body) ≢ Some NoMemory
-    first true gone skips spent low next last body = λ e. absurd (cc)
-    first false true skips spent low next last body = λ e. absurd (cc)
-    first false false true spent low next last body = λ e. absurd (cc)
-    first false false false true low next last body = λ e. absurd (cc)
-    first false false false false true next last body = λ e. absurd (cc)
-    first false false false false false next last None = λ e. absurd (cc)
     first false false false false false next last (Some fault) = λ e. absurd (cc)
+    first _ _ _ _ _ next last _ = λ e. absurd (cc)
 
 -- nor of a join at a start
 pub join_takes_none : (past : List Step) (at : ℕ) → join_at_refusal past at ≢ Some NoMemory
@@ -109,9 +93,8 @@ join_takes_none past at = first _ _ _
     first : (full low : Bool) (least : ℕ)
         → (if full then Some (joining TooManyNodes) else if low then Some (joining (BelowFloor least)) else None)
         ≢ Some NoMemory
-    first true low least = λ e. absurd (cc)
-    first false true least = λ e. absurd (cc)
     first false false least = λ e. absurd (cc)
+    first _ _ least = λ e. absurd (cc)
 
 -- nor of an opening
 pub open_takes_none : (past : List Step) (stamp : ℕ) → open_refusal past stamp ≢ Some NoMemory
@@ -122,8 +105,5 @@ open_takes_none past stamp = first _ _ _ _ _ _
         else if low then Some (BelowHorizon least)
         else of_room (if full then Some TooManySnapshots else if spent then Some no_ids else None))
         ≢ Some NoMemory
-    first true low full spent most least = λ e. absurd (cc)
-    first false true full spent most least = λ e. absurd (cc)
-    first false false true spent most least = λ e. absurd (cc)
-    first false false false true most least = λ e. absurd (cc)
     first false false false false most least = λ e. absurd (cc)
+    first _ _ _ _ most least = λ e. absurd (cc)

@@ -26,21 +26,16 @@ use Rattle.hlc_core.specs.StoreView.{StoreView, with_rows_left, Represents}
 use Rattle.hlc_core.specs.Calls.{Vacuums}
 use Rattle.hlc_core.proofs.PastLemmas.{vacuum-above, vacuumed-low, writes-limits}
 use Rattle.hlc_table_column.proofs.FlagLemmas.{filter-IsRowSet}
+use Rattle.hlc_core.proofs.Opening.{fewer-stamps}
 use Rattle.hlc_core.proofs.ReportLemmas.{one-changes}
 use Rattle.hlc_clock.proofs.PointLemmas.{points-ascend, points-last}
 
 -- with fewer snapshots open
 pub fewer-open : (stored all : List Row) (horizon at : ℕ) (snapshots : List Snapshot)
     → RowsRepresent stored all horizon (stamps snapshots) → RowsRepresent stored all horizon (stamps_to at snapshots)
-fewer-open stored all horizon at snapshots represent = record {
-  row_set = represent.row_set;
-  all_row_set = represent.all_row_set;
-  within = represent.within;
-  above = represent.above;
-  at_open = λ key stamp m.
-      represent.at_open key stamp (Contains-from_filter (λ s. leb s at) (stamps snapshots) stamp m).0;
-  from_horizon = represent.from_horizon;
-}
+fewer-open stored all horizon at snapshots represent =
+    fewer-stamps stored all horizon (stamps snapshots) (stamps_to at snapshots) represent
+    (λ stamp m. (Contains-from_filter (λ s. leb s at) (stamps snapshots) stamp m).0)
 
 -- and with those that are open above the horizon
 pub more-open : (stored all : List Row) (at : ℕ) (snapshots : List Snapshot)

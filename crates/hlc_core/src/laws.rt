@@ -44,8 +44,7 @@ pub fn answers_stay()
     ensures floor { (past more : List Step) → IsLegal (more ++ past)
         → (key : List ℕ) (stamp : ℕ) → stamp ≤ floor past
         → answer (writes (more ++ past)) key stamp ≡ answer (writes past) key stamp }
-    ensures snapshots { (past more : List Step) (id stamp again : ℕ)
-        → IsLegal (more ++ past)
+    ensures snapshots { (past more : List Step) (id stamp again : ℕ) → IsLegal (more ++ past)
         → stamp_of id past ≡ Some stamp → stamp_of id (more ++ past) ≡ Some again
         → (again ≡ stamp) × ((key : List ℕ)
         → answer (writes (more ++ past)) key again ≡ answer (writes past) key stamp) }
@@ -55,10 +54,8 @@ pub fn answers_stay()
 /// that has not retired is below it.
 pub fn floor_is_the_least_head()
     ensures some { (past : List Step)
-        → ((n : ℕ) × (n < numbered past) × (retired n past ≡ false)
-        × (head n past ≡ floor past))
-        ⊎ (((n : ℕ) → n < numbered past → retired n past ≡ true)
-        × (floor past ≡ top past)) }
+        → ((n : ℕ) × (n < numbered past) × (retired n past ≡ false) × (head n past ≡ floor past))
+        ⊎ (((n : ℕ) → n < numbered past → retired n past ≡ true) × (floor past ≡ top past)) }
     ensures least { (past : List Step) (n : ℕ) → n < numbered past
         → retired n past ≡ false → floor past ≤ head n past }
 {}
@@ -66,11 +63,9 @@ pub fn floor_is_the_least_head()
 /// The floor never falls: neither when an item is accepted, a node's last one or not, nor when a node joins. No other
 /// step moves it, so no later one is lower.
 pub fn the_floor_never_falls()
-    ensures took { (past : List Step) (item : AnItem)
-        → item_refusal past item ≡ None
+    ensures took { (past : List Step) (item : AnItem) → item_refusal past item ≡ None
         → floor past ≤ floor (Took item ∷ past) }
-    ensures joined { (past : List Step) (node start : ℕ)
-        → IsLegal (Joined node start ∷ past)
+    ensures joined { (past : List Step) (node start : ℕ) → IsLegal (Joined node start ∷ past)
         → floor past ≤ floor (Joined node start ∷ past) }
     ensures later { (past more : List Step) → IsLegal (more ++ past)
         → floor past ≤ floor (more ++ past) }
@@ -78,8 +73,7 @@ pub fn the_floor_never_falls()
 
 /// A node that joins does not move the floor, if some node has not retired.
 pub fn joins_keep_the_floor()
-    ensures { (past : List Step) (node start n : ℕ)
-        → IsLegal (Joined node start ∷ past)
+    ensures { (past : List Step) (node start n : ℕ) → IsLegal (Joined node start ∷ past)
         → n < numbered past → retired n past ≡ false
         → floor (Joined node start ∷ past) ≡ floor past }
 {}
@@ -93,31 +87,26 @@ pub fn retired_nodes_leave_the_greatest_stamp()
 
 /// A join without a start is a join at the floor: it is refused in the same cases, and the floor does not move.
 pub fn a_join_is_one_at_the_floor()
-    ensures refusal { (past : List Step)
-        → join_at_refusal past (floor past) ≡ join_refusal past }
-    ensures floor { (past : List Step) (node : ℕ) → IsLegal past
-        → node ≡ numbered past
+    ensures refusal { (past : List Step) → join_at_refusal past (floor past) ≡ join_refusal past }
+    ensures floor { (past : List Step) (node : ℕ) → IsLegal past → node ≡ numbered past
         → floor (Joined node (floor past) ∷ past) ≡ floor past }
 {}
 
 /// There is one listing of some rows at a stamp.
 pub fn there_is_one_listing()
     ensures { (rows : List ARow) (stamp : ℕ) (listing other : List APair)
-        → IsListing rows stamp listing
-        → IsListing rows stamp other → listing ≡ other }
+        → IsListing rows stamp listing → IsListing rows stamp other → listing ≡ other }
 {}
 
 /// The differences between two stamps lead from the listing at the first to that at the second, and they are the fewest
 /// changes that do: any others, in any order, are at least as many.
 pub fn differences_lead_on()
     ensures leads { (rows : List ARow) (from to : ℕ) (differences : List Difference)
-        (listing next : List APair)
-        → AreDifferences rows from to (λ key. Unit {0}) differences
+        (listing next : List APair) → AreDifferences rows from to (λ key. Unit {0}) differences
         → IsListing rows from listing → IsListing rows to next
         → patched differences listing ≡ next }
     ensures least { (rows : List ARow) (from to : ℕ) (differences others : List Difference)
-        (listing next : List APair)
-        → AreDifferences rows from to (λ key. Unit {0}) differences
+        (listing next : List APair) → AreDifferences rows from to (λ key. Unit {0}) differences
         → IsListing rows from listing → IsListing rows to next
         → patched others listing ≡ next → length differences ≤ length others }
 {}

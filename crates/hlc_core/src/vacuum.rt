@@ -21,8 +21,7 @@ impl Core {
     /// snapshot and at the floor, and returns a report. The floor becomes the horizon. It is `vacuum_to` the floor. All
     /// memory that it needs is allocated before anything changes.
     pub fn vacuum(&mut self) -> Result<Report, NoMemory>
-        ensures ok { IfOk result
-            (λ report. (past : List Step) → Represents self.old past
+        ensures ok { IfOk result (λ report. (past : List Step) → Represents self.old past
             → Vacuums self.new (floor past) past report) }
         ensures within { OnOk result (IsWithin self.old.rows self.new.rows) }
         ensures unchanged { OnErr result (self.new ≡ self.old) }
@@ -34,8 +33,7 @@ impl Core {
 
     /// Vacuums as `vacuum` does, but several threads plan the rows. Of several rows it may keep another one.
     pub fn vacuum_parallel(&mut self, rt: &(impl Threads + Sync)) -> Result<Report, NoMemory>
-        ensures ok { IfOk result
-            (λ report. (past : List Step) → Represents self.old past
+        ensures ok { IfOk result (λ report. (past : List Step) → Represents self.old past
             → Vacuums self.new (floor past) past report) }
         ensures within { OnOk result (IsWithin self.old.rows self.new.rows) }
         ensures unchanged { OnErr result (self.new ≡ self.old) }
@@ -47,8 +45,7 @@ impl Core {
 
     /// Vacuums as `vacuum` does, and returns the report twice. All memory is allocated before anything changes.
     pub fn vacuum_pair(&mut self) -> Result<(Report, Report), NoMemory>
-        ensures ok { IfOk result
-            (λ reports. (past : List Step) → Represents self.old past
+        ensures ok { IfOk result (λ reports. (past : List Step) → Represents self.old past
             → Vacuums self.new (floor past) past reports.0) }
         ensures alike { IfOk result (λ reports. reports.0 ≡ reports.1) }
         ensures within { OnOk result (IsWithin self.old.rows self.new.rows) }
@@ -66,8 +63,7 @@ impl Core {
         &mut self,
         rt: &(impl Threads + Sync),
     ) -> Result<(Report, Report), NoMemory>
-        ensures ok { IfOk result
-            (λ reports. (past : List Step) → Represents self.old past
+        ensures ok { IfOk result (λ reports. (past : List Step) → Represents self.old past
             → Vacuums self.new (floor past) past reports.0) }
         ensures alike { IfOk result (λ reports. reports.0 ≡ reports.1) }
         ensures within { OnOk result (IsWithin self.old.rows self.new.rows) }
@@ -82,8 +78,7 @@ impl Core {
     /// Vacuums as `vacuum` does, and returns the numbers of the report alone. The changes are counted and not listed,
     /// so it needs no memory for them.
     pub fn vacuum_counted(&mut self) -> Result<Numbers, NoMemory>
-        ensures ok { IfOk result
-            (λ numbers. (past : List Step) → Represents self.old past
+        ensures ok { IfOk result (λ numbers. (past : List Step) → Represents self.old past
             → VacuumsCounted self.new (floor past) past numbers) }
         ensures within { OnOk result (IsWithin self.old.rows self.new.rows) }
         ensures unchanged { OnErr result (self.new ≡ self.old) }
@@ -168,8 +163,7 @@ impl Core {
     fn vacuum_by_tally(&mut self, at: Stamp) -> Result<Numbers, NoMemory>
         requires low { at ≤ floor_in self.old }
         requires high { self.old.horizon ≤ at }
-        ensures ok { IfOk result
-            (λ numbers. (past : List Step) → Represents self.old past
+        ensures ok { IfOk result (λ numbers. (past : List Step) → Represents self.old past
             → VacuumsCounted self.new at past numbers) }
         ensures within { OnOk result (IsWithin self.old.rows self.new.rows) }
         ensures unchanged { OnErr result (self.new ≡ self.old) }
