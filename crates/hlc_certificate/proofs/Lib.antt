@@ -1,5 +1,6 @@
 pub mod Taken
 pub mod CheckLines
+pub mod SaidInOrder
 pub mod CheckGoing
 pub mod OneCertificate
 pub mod OneAnswer

@@ -1,30 +1,25 @@
 -- An input has one answer: its lines say one certificate, which is valid or has one first reason, and no good line is a
 -- bad one.
 use Rattle.std.proofs.Common.{◌≡◌, ℕ, ◌+◌, ◌∙◌, sym, ap, ap₂, refl, subst, List, [], ◌∷◌, ◌++◌, length}
-use Rattle.std.proofs.Common.{map, All, append_assoc, arith, ◌⊎◌, inl, inr}
-use Rattle.std.specs.Prelude.{◌≢◌}
+use Rattle.std.proofs.Common.{All, append_assoc, arith, ◌⊎◌, inl, inr}
 use Rattle.hlc_rows.specs.declared.row.Row.{Row as ARow}
 use Rattle.hlc_witness.specs.declared.witness.Witness.{Witness as AWitness}
 use Rattle.hlc_witness.specs.declared.reason.NotShown.{NotShown as AReason}
-use Rattle.hlc_witness.specs.declared.reason.NotShown.TheVariants.{PointsNotAscending, RowsNotAscending}
-use Rattle.hlc_witness.specs.declared.reason.NotShown.TheVariants.{RowAboveLastPoint, WitnessNotAscending, NotAtPoint}
-use Rattle.hlc_witness.specs.declared.reason.NotShown.TheVariants.{SameAnswers, CountsDiffer, RowOutOfLimits}
-use Rattle.hlc_clock.specs.Points.{PointsAscend}
 use Rattle.hlc_witness.specs.Changes.{ChangesAscend, IsChange}
-use Rattle.hlc_witness.specs.Certificate.{IsCertificate, RowsAscend, NoneAbove}
-use Rattle.hlc_witness.specs.Cost.{AreInLimits, rows_cost}
-use Rattle.hlc_witness.specs.Reasons.{IsFault, IsFirstFault, IsFirstReason, AreSorted}
+use Rattle.hlc_witness.specs.Certificate.{IsCertificate}
+use Rattle.hlc_witness.specs.Cost.{rows_cost}
+use Rattle.hlc_witness.specs.Reasons.{IsFault, IsFirstFault, IsFirstReason, Unless}
 use Rattle.hlc_witness.proofs.FaultLemmas.{changes_no_fault}
 use Rattle.hlc_certificate.specs.declared.check.CheckEnd.TheVariants.{Fewest, NotShown, BadLine, NoMemory, NotLoaded}
 use Rattle.hlc_certificate.specs.declared.check.CheckEnd.{CheckEnd}
 use Rattle.hlc_certificate.specs.declared.check.CheckEnd.TheVariants.{WriteFault}
 use Rattle.hlc_text.specs.declared.input.InputFault.TheVariants.{NoMemory as no_memory, ReadFault, TooLong}
 use Rattle.hlc_text.specs.Lines.{lines_of}
-use Rattle.hlc_certificate.specs.CheckLine.{check_line, HasCheckLine, says_point, says_row, says_witness, all_said}
 use Rattle.hlc_certificate.specs.CheckLine.{AreLinesOf, AreGoodLines, IsFirstBadLine}
 use Rattle.hlc_certificate.specs.Check.{ShowsFewest, ShowsReason, MayEnd}
 use Rattle.hlc_certificate.specs.OneAnswer.{OneAnswer}
 use Rattle.hlc_certificate.proofs.OneCertificate.{one_certificate}
+use Rattle.hlc_certificate.proofs.SaidInOrder.{good_front}
 
 -- Two places in a list are equal, or the first is before the second, or after it.
 abbrev Places : {X : Type 0} → List X → X → List X → X → Type 0
@@ -49,29 +44,17 @@ places {X} (z ∷ front) (u ∷ other) x y back rest same =
     subst (λ (w : X). Places (z ∷ front) x (w ∷ other) y) first
     (further z front other x y (places front other x y back rest more))
 
--- one witness has only one first fault
-same_fault : (rows : List ARow) (points : List ℕ) (front : List AWitness) (witness : AWitness)
-    (reason other : AReason) → IsFault rows points front witness reason → IsFault rows points front witness other
+-- where each of two choices has one reason, so has what is chosen
+unless_one : {condition now later now2 later2 : Type 0} {reason other : AReason} → Unless condition now later
+    → Unless condition now2 later2 → (now → now2 → reason ≡ other) → (later → later2 → reason ≡ other)
     → reason ≡ other
-same_fault rows points front witness PointsNotAscending other fault also = absurd fault
-same_fault rows points front witness RowsNotAscending other fault also = absurd fault
-same_fault rows points front witness RowAboveLastPoint other fault also = absurd fault
-same_fault rows points front witness CountsDiffer other fault also = absurd fault
-same_fault rows points front witness RowOutOfLimits other fault also = absurd fault
-same_fault rows points front witness reason PointsNotAscending fault also = absurd also
-same_fault rows points front witness reason RowsNotAscending fault also = absurd also
-same_fault rows points front witness reason RowAboveLastPoint fault also = absurd also
-same_fault rows points front witness reason CountsDiffer fault also = absurd also
-same_fault rows points front witness reason RowOutOfLimits fault also = absurd also
-same_fault rows points front witness WitnessNotAscending WitnessNotAscending fault also = refl
-same_fault rows points front witness WitnessNotAscending NotAtPoint fault also = absurd (fault also.0)
-same_fault rows points front witness WitnessNotAscending SameAnswers fault also = absurd (fault also.0)
-same_fault rows points front witness NotAtPoint WitnessNotAscending fault also = absurd (also fault.0)
-same_fault rows points front witness NotAtPoint NotAtPoint fault also = refl
-same_fault rows points front witness NotAtPoint SameAnswers fault also = absurd (fault.1 also.1)
-same_fault rows points front witness SameAnswers WitnessNotAscending fault also = absurd (also fault.0)
-same_fault rows points front witness SameAnswers NotAtPoint fault also = absurd (also.1 fault.1)
-same_fault rows points front witness SameAnswers SameAnswers fault also = refl
+unless_one (inl first) (inl also) now later = now first.1 also.1
+unless_one (inl first) (inr also) now later = absurd (first.0 also.0)
+unless_one (inr first) (inl also) now later = absurd (also.0 first.0)
+unless_one (inr first) (inr also) now later = later first.1 also.1
+
+both : {reason other one : AReason} → reason ≡ one → other ≡ one → reason ≡ other
+both is also = is ∙ sym also
 
 -- there is only one first fault
 one_fault : (rows : List ARow) (points : List ℕ) (witnesses : List AWitness) (reason other : AReason)
@@ -82,8 +65,8 @@ one_fault rows points witnesses reason other first also =
       | inl same ↦
           let F : List AWitness → Type 0 = λ (l : List AWitness). IsFault rows points l first.witness reason in
           let G : AWitness → Type 0 = λ (w : AWitness). IsFault rows points also.front w reason in
-          same_fault rows points also.front also.witness reason other (subst G same.1 (subst F same.0 first.fault))
-          also.fault
+          unless_one (subst G same.1 (subst F same.0 first.fault)) also.fault both
+          (λ first also. unless_one first also both (λ first also. both first.1 also.1))
       | inr (inl before) ↦ absurd
           (changes_no_fault rows points also.front first.front before.0 first.witness reason before.1 also.ascend
           also.each first.fault)
@@ -92,124 +75,27 @@ one_fault rows points witnesses reason other first also =
           first.each also.fault)
     ]
 
--- each kind of first reason excludes any other
-by_points : (rows : List ARow) (points : List ℕ) (witnesses : List AWitness) (reason : AReason)
-    → (PointsAscend points → ⊥) → IsFirstReason rows points witnesses reason → PointsNotAscending ≡ reason
-by_points rows points witnesses PointsNotAscending none first = refl
-by_points rows points witnesses RowsNotAscending none first = absurd (none first.0)
-by_points rows points witnesses RowAboveLastPoint none first = absurd (none first.0)
-by_points rows points witnesses WitnessNotAscending none first = absurd (none first.0.0)
-by_points rows points witnesses NotAtPoint none first = absurd (none first.0.0)
-by_points rows points witnesses SameAnswers none first = absurd (none first.0.0)
-by_points rows points witnesses CountsDiffer none first = absurd (none first.0.0)
-by_points rows points witnesses RowOutOfLimits none first = absurd (none first.0.0)
-
-by_rows : (rows : List ARow) (points : List ℕ) (witnesses : List AWitness) (reason : AReason) → PointsAscend points
-    → (RowsAscend rows → ⊥) → IsFirstReason rows points witnesses reason → RowsNotAscending ≡ reason
-by_rows rows points witnesses PointsNotAscending up none first = absurd (first up)
-by_rows rows points witnesses RowsNotAscending up none first = refl
-by_rows rows points witnesses RowAboveLastPoint up none first = absurd (none first.1)
-by_rows rows points witnesses WitnessNotAscending up none first = absurd (none first.0.1)
-by_rows rows points witnesses NotAtPoint up none first = absurd (none first.0.1)
-by_rows rows points witnesses SameAnswers up none first = absurd (none first.0.1)
-by_rows rows points witnesses CountsDiffer up none first = absurd (none first.0.1)
-by_rows rows points witnesses RowOutOfLimits up none first = absurd (none first.0.1)
-
-by_above : (rows : List ARow) (points : List ℕ) (witnesses : List AWitness) (reason : AReason) → PointsAscend points
-    → RowsAscend rows → (NoneAbove points rows → ⊥) → IsFirstReason rows points witnesses reason
-    → RowAboveLastPoint ≡ reason
-by_above rows points witnesses PointsNotAscending up rise none first = absurd (first up)
-by_above rows points witnesses RowsNotAscending up rise none first = absurd (first.1 rise)
-by_above rows points witnesses RowAboveLastPoint up rise none first = refl
-by_above rows points witnesses WitnessNotAscending up rise none first = absurd (none first.0.2)
-by_above rows points witnesses NotAtPoint up rise none first = absurd (none first.0.2)
-by_above rows points witnesses SameAnswers up rise none first = absurd (none first.0.2)
-by_above rows points witnesses CountsDiffer up rise none first = absurd (none first.0.2)
-by_above rows points witnesses RowOutOfLimits up rise none first = absurd (none first.0.2)
-
-by_fault : (rows : List ARow) (points : List ℕ) (witnesses : List AWitness) (fault reason : AReason)
-    → AreSorted rows points → IsFirstFault rows points witnesses fault → IsFirstReason rows points witnesses reason
-    → fault ≡ reason
-by_fault rows points witnesses fault PointsNotAscending sorted found first = absurd (first sorted.0)
-by_fault rows points witnesses fault RowsNotAscending sorted found first = absurd (first.1 sorted.1)
-by_fault rows points witnesses fault RowAboveLastPoint sorted found first = absurd (first.2 sorted.2)
-by_fault rows points witnesses fault WitnessNotAscending sorted found first =
-    one_fault rows points witnesses fault WitnessNotAscending found first.1
-by_fault rows points witnesses fault NotAtPoint sorted found first =
-    one_fault rows points witnesses fault NotAtPoint found first.1
-by_fault rows points witnesses fault SameAnswers sorted found first =
-    one_fault rows points witnesses fault SameAnswers found first.1
-by_fault rows points witnesses fault CountsDiffer sorted found first =
-    absurd
-    (changes_no_fault rows points witnesses found.front found.back found.witness fault found.order first.1 first.2
-    found.fault)
-by_fault rows points witnesses fault RowOutOfLimits sorted found first =
-    absurd
-    (changes_no_fault rows points witnesses found.front found.back found.witness fault found.order first.1 first.2
-    found.fault)
-
-by_count : (rows : List ARow) (points : List ℕ) (witnesses : List AWitness) (reason : AReason) → AreSorted rows points
-    → ChangesAscend witnesses → All (IsChange rows points) witnesses → length witnesses ≢ length rows
-    → IsFirstReason rows points witnesses reason → CountsDiffer ≡ reason
-by_count rows points witnesses PointsNotAscending sorted up each differ first = absurd (first sorted.0)
-by_count rows points witnesses RowsNotAscending sorted up each differ first = absurd (first.1 sorted.1)
-by_count rows points witnesses RowAboveLastPoint sorted up each differ first = absurd (first.2 sorted.2)
-by_count rows points witnesses WitnessNotAscending sorted up each differ first =
-    absurd
-    (changes_no_fault rows points witnesses first.1.front first.1.back first.1.witness WitnessNotAscending first.1.order
-    up each first.1.fault)
-by_count rows points witnesses NotAtPoint sorted up each differ first =
-    absurd
-    (changes_no_fault rows points witnesses first.1.front first.1.back first.1.witness NotAtPoint first.1.order up each
-    first.1.fault)
-by_count rows points witnesses SameAnswers sorted up each differ first =
-    absurd
-    (changes_no_fault rows points witnesses first.1.front first.1.back first.1.witness SameAnswers first.1.order up each
-    first.1.fault)
-by_count rows points witnesses CountsDiffer sorted up each differ first = refl
-by_count rows points witnesses RowOutOfLimits sorted up each differ first = absurd (differ first.3)
-
-by_limits : (rows : List ARow) (points : List ℕ) (witnesses : List AWitness) (reason : AReason)
-    → AreSorted rows points → ChangesAscend witnesses → All (IsChange rows points) witnesses
-    → length witnesses ≡ length rows → (AreInLimits rows → ⊥) → IsFirstReason rows points witnesses reason
-    → RowOutOfLimits ≡ reason
-by_limits rows points witnesses PointsNotAscending sorted up each same out first = absurd (first sorted.0)
-by_limits rows points witnesses RowsNotAscending sorted up each same out first = absurd (first.1 sorted.1)
-by_limits rows points witnesses RowAboveLastPoint sorted up each same out first = absurd (first.2 sorted.2)
-by_limits rows points witnesses WitnessNotAscending sorted up each same out first =
-    absurd
-    (changes_no_fault rows points witnesses first.1.front first.1.back first.1.witness WitnessNotAscending first.1.order
-    up each first.1.fault)
-by_limits rows points witnesses NotAtPoint sorted up each same out first =
-    absurd
-    (changes_no_fault rows points witnesses first.1.front first.1.back first.1.witness NotAtPoint first.1.order up each
-    first.1.fault)
-by_limits rows points witnesses SameAnswers sorted up each same out first =
-    absurd
-    (changes_no_fault rows points witnesses first.1.front first.1.back first.1.witness SameAnswers first.1.order up each
-    first.1.fault)
-by_limits rows points witnesses CountsDiffer sorted up each same out first = absurd (first.3 same)
-by_limits rows points witnesses RowOutOfLimits sorted up each same out first = refl
+-- nor is there a first fault among changes, ascending
+no_fault : {rows : List ARow} {points : List ℕ} {witnesses : List AWitness} {reason : AReason}
+    → IsFirstFault rows points witnesses reason → ChangesAscend witnesses → All (IsChange rows points) witnesses → ⊥
+no_fault {rows} {points} {witnesses} {reason} first up each =
+    changes_no_fault rows points witnesses first.front first.back first.witness reason first.order up each first.fault
 
 -- there is only one first reason
 one_reason : (rows : List ARow) (points : List ℕ) (witnesses : List AWitness) (reason other : AReason)
     → IsFirstReason rows points witnesses reason → IsFirstReason rows points witnesses other → reason ≡ other
-one_reason rows points witnesses PointsNotAscending other first also =
-    by_points rows points witnesses other first also
-one_reason rows points witnesses RowsNotAscending other first also =
-    by_rows rows points witnesses other first.0 first.1 also
-one_reason rows points witnesses RowAboveLastPoint other first also =
-    by_above rows points witnesses other first.0 first.1 first.2 also
-one_reason rows points witnesses WitnessNotAscending other first also =
-    by_fault rows points witnesses WitnessNotAscending other first.0 first.1 also
-one_reason rows points witnesses NotAtPoint other first also =
-    by_fault rows points witnesses NotAtPoint other first.0 first.1 also
-one_reason rows points witnesses SameAnswers other first also =
-    by_fault rows points witnesses SameAnswers other first.0 first.1 also
-one_reason rows points witnesses CountsDiffer other first also =
-    by_count rows points witnesses other first.0 first.1 first.2 first.3 also
-one_reason rows points witnesses RowOutOfLimits other first also =
-    by_limits rows points witnesses other first.0 first.1 first.2 first.3 first.4 also
+one_reason rows points witnesses reason other first also =
+    unless_one first also both (λ first also. unless_one first also both
+    (λ first also. unless_one first also both (λ first also. elim first [
+      | inl found ↦ elim also [
+        | inl found2 ↦ one_fault rows points witnesses reason other found found2
+        | inr more ↦ absurd (no_fault found more.0 more.1)
+      ]
+      | inr more ↦ elim also [
+        | inl found ↦ absurd (no_fault found more.0 more.1)
+        | inr more2 ↦ unless_one more.2 more2.2 both (λ first also. both first.1 also.1)
+      ]
+    ])))
 
 -- what is true of one certificate is true of the other
 along : (P : List ARow → List ℕ → List AWitness → Type 0) (lines : List (List ℕ)) (points points2 : List ℕ)
@@ -246,86 +132,11 @@ reason_once lines reason other is also =
     (along P lines is.points also.points is.rows also.rows is.witnesses also.witnesses is.lines_are also.lines_are
     is.first) also.first
 
-together : (line said : List ℕ) (front lines : List (List ℕ)) → line ≡ said → front ≡ lines
-    → line ∷ front ≡ said ∷ lines
-together line said front lines one more = cc
-
--- one more good line in front
-one_witness_more : (w : AWitness) (line : List ℕ) (front : List (List ℕ)) → HasCheckLine (says_witness w)
-    → line ≡ check_line (says_witness w) → (some : List AWitness) × AreLinesOf [] [] some front
-    → (some : List AWitness) × AreLinesOf [] [] some (line ∷ front)
-one_witness_more w line front has one (some, are) = (
-  w ∷ some,
-  (
-    (has, are.0),
-    together line (check_line (says_witness w)) front (map check_line (all_said [] [] some)) one
-        are.1,
-  ),
-)
-
-one_row_more : (r : ARow) (line : List ℕ) (front : List (List ℕ)) → HasCheckLine (says_row r)
-    → line ≡ check_line (says_row r) → (some : List ARow) × (others : List AWitness) × AreLinesOf [] some others front
-    → (some : List ARow) × (others : List AWitness) × AreLinesOf [] some others (line ∷ front)
-one_row_more r line front has one (some, others, are) = (
-  r ∷ some,
-  others,
-  (
-    (has, are.0),
-    together line (check_line (says_row r)) front (map check_line (all_said [] some others)) one
-        are.1,
-  ),
-)
-
-one_point_more : (p : ℕ) (line : List ℕ) (front : List (List ℕ)) → HasCheckLine (says_point p)
-    → line ≡ check_line (says_point p) → AreGoodLines front → AreGoodLines (line ∷ front)
-one_point_more p line front has one (points, rows, witnesses, are) = (
-  p ∷ points,
-  rows,
-  witnesses,
-  (
-    (has, are.0),
-    together line (check_line (says_point p)) front
-        (map check_line (all_said points rows witnesses)) one are.1,
-  ),
-)
-
--- the first ones of some good lines are good
-good_witnesses : (front back : List (List ℕ)) (witnesses : List AWitness) → AreLinesOf [] [] witnesses (front ++ back)
-    → (some : List AWitness) × AreLinesOf [] [] some front
-good_witnesses [] back witnesses are = ([], (tt, refl))
-good_witnesses (line ∷ front) back [] are = absurd (omega (arith, ap length are.1))
-good_witnesses (line ∷ front) back (w ∷ witnesses) are =
-    let one : line ≡ check_line (says_witness w) = cc in
-    let more : front ++ back ≡ map check_line (all_said [] [] witnesses) = cc in
-    one_witness_more w line front are.0.0 one (good_witnesses front back witnesses (are.0.1, more))
-
-good_rows : (front back : List (List ℕ)) (rows : List ARow) (witnesses : List AWitness)
-    → AreLinesOf [] rows witnesses (front ++ back) → (some : List ARow) × (others : List AWitness)
-    × AreLinesOf [] some others front
-good_rows front back [] witnesses are = let found = good_witnesses front back witnesses are in ([], found.0, found.1)
-good_rows [] back (r ∷ rows) witnesses are = ([], [], (tt, refl))
-good_rows (line ∷ front) back (r ∷ rows) witnesses are =
-    let one : line ≡ check_line (says_row r) = cc in
-    let more : front ++ back ≡ map check_line (all_said [] rows witnesses) = cc in
-    one_row_more r line front are.0.0 one (good_rows front back rows witnesses (are.0.1, more))
-
-good_lines : (front back : List (List ℕ)) (points : List ℕ) (rows : List ARow) (witnesses : List AWitness)
-    → AreLinesOf points rows witnesses (front ++ back) → AreGoodLines front
-good_lines front back [] rows witnesses are = let found = good_rows front back rows witnesses are in
-    ([], found.0, found.1, found.2)
-good_lines [] back (p ∷ points) rows witnesses are = ([], [], [], (tt, refl))
-good_lines (line ∷ front) back (p ∷ points) rows witnesses are =
-    let one : line ≡ check_line (says_point p) = cc in
-    let more : front ++ back ≡ map check_line (all_said points rows witnesses) = cc in
-    one_point_more p line front are.0.0 one (good_lines front back points rows witnesses (are.0.1, more))
-
 -- a line that is bad after those before it is bad in all lists of lines that begin so
 no_good : (front mid : List (List ℕ)) (line : List ℕ) (lines : List (List ℕ)) → lines ≡ front ++ line ∷ mid
     → (AreGoodLines (front ++ line ∷ []) → ⊥) → AreGoodLines lines → ⊥
-no_good front mid line lines is bad (points, rows, witnesses, are) =
-    bad
-    (good_lines (front ++ line ∷ []) mid points rows witnesses
-    (subst (AreLinesOf points rows witnesses) (is ∙ sym (append_assoc front (line ∷ []) mid)) are))
+no_good front mid line lines is bad good =
+    bad (good_front (front ++ line ∷ []) mid (subst AreGoodLines (is ∙ sym (append_assoc front (line ∷ []) mid)) good))
 
 bad_not_good : (lines : List (List ℕ)) (number : ℕ) → IsFirstBadLine lines number → AreGoodLines lines → ⊥
 bad_not_good lines number first good = no_good first.front first.back first.line lines first.order first.bad good
@@ -353,8 +164,7 @@ ends_fewest text count bytes (NotShown q) is may = absurd (not_both (lines_of te
 ends_fewest text count bytes (BadLine n) is may =
     absurd (bad_not_good (lines_of text) n may (fewest_good (lines_of text) count bytes is))
 ends_fewest text count bytes NoMemory is may = inr refl
-ends_fewest text count bytes (NotLoaded fault) is may = absurd may
-ends_fewest text count bytes WriteFault is may = absurd may
+ends_fewest text count bytes _ is may = absurd may
 
 pub one_answer : OneAnswer
 one_answer input (NotLoaded no_memory) finish is also e f = inr (inl refl)
@@ -370,20 +180,16 @@ one_answer input (Fewest m b) (Fewest n k) is also e f =
 one_answer input (Fewest m b) (NotShown q) is also e f = absurd (not_both (lines_of input) m b q is.1 also.1)
 one_answer input (Fewest m b) (BadLine n) is also e f =
     absurd (bad_not_good (lines_of input) n also.1 (fewest_good (lines_of input) m b is.1))
-one_answer input (Fewest m b) (NotLoaded TooLong) is also e f = absurd (omega (arith, is.0, also))
 one_answer input (NotShown r) (Fewest n k) is also e f = absurd (not_both (lines_of input) n k r also.1 is.1)
 one_answer input (NotShown r) (NotShown q) is also e f =
     inl (ap NotShown (reason_once (lines_of input) r q is.1 also.1))
 one_answer input (NotShown r) (BadLine n) is also e f =
     absurd (bad_not_good (lines_of input) n also.1 (reason_good (lines_of input) r is.1))
-one_answer input (NotShown r) (NotLoaded TooLong) is also e f = absurd (omega (arith, is.0, also))
 one_answer input (BadLine m) (Fewest n k) is also e f =
     absurd (bad_not_good (lines_of input) m is.1 (fewest_good (lines_of input) n k also.1))
 one_answer input (BadLine m) (NotShown q) is also e f =
     absurd (bad_not_good (lines_of input) m is.1 (reason_good (lines_of input) q also.1))
 one_answer input (BadLine m) (BadLine n) is also e f = inl (ap BadLine (bad_once (lines_of input) m n is.1 also.1))
-one_answer input (BadLine m) (NotLoaded TooLong) is also e f = absurd (omega (arith, is.0, also))
-one_answer input (NotLoaded TooLong) (Fewest n k) is also e f = absurd (omega (arith, is, also.0))
-one_answer input (NotLoaded TooLong) (NotShown q) is also e f = absurd (omega (arith, is, also.0))
-one_answer input (NotLoaded TooLong) (BadLine n) is also e f = absurd (omega (arith, is, also.0))
 one_answer input (NotLoaded TooLong) (NotLoaded TooLong) is also e f = inl refl
+one_answer input (NotLoaded TooLong) _ is also e f = absurd (omega (arith, is, also.0))
+one_answer input _ (NotLoaded TooLong) is also e f = absurd (omega (arith, is.0, also))

@@ -2,27 +2,21 @@
 use Rattle.std.proofs.Common.{◌≡◌, ◌≤◌, ℕ, List, length, refl, subst}
 use Rattle.hlc_text.specs.declared.input.TheConstants.{INPUT_LIMIT}
 use Rattle.hlc_certificate.specs.declared.check.CheckEnd.{CheckEnd}
-use Rattle.hlc_certificate.specs.declared.check.CheckEnd.TheVariants.{Fewest, NotShown, BadLine, NoMemory, NotLoaded}
+use Rattle.hlc_certificate.specs.declared.check.CheckEnd.TheVariants.{NotLoaded}
 use Rattle.hlc_certificate.specs.declared.check.CheckEnd.TheVariants.{WriteFault}
 use Rattle.hlc_certificate.specs.Check.{MayTake, MayEnd, MayAnswer}
 
 pub check_takes_all : (input : List ℕ) (end : CheckEnd) → MayEnd input end → MayTake input input end
-check_takes_all input (Fewest count bytes) may = refl
-check_takes_all input (NotShown reason) may = refl
-check_takes_all input (BadLine number) may = refl
-check_takes_all input NoMemory may = refl
 check_takes_all input (NotLoaded fault) may = absurd may
 check_takes_all input WriteFault may = absurd may
+check_takes_all input _ may = refl
 
 -- so an input within the limit is answered
 pub check_answers : (input : List ℕ) (end : CheckEnd) → length input ≤ INPUT_LIMIT → MayEnd input end
     → MayAnswer input end
-check_answers input (Fewest count bytes) fits may = (fits, may)
-check_answers input (NotShown reason) fits may = (fits, may)
-check_answers input (BadLine number) fits may = (fits, may)
-check_answers input NoMemory fits may = (fits, may)
 check_answers input (NotLoaded fault) fits may = absurd may
 check_answers input WriteFault fits may = absurd may
+check_answers input _ fits may = (fits, may)
 
 pub check_not_cut : (input : List ℕ) (end : CheckEnd) → MayAnswer input end → end ≡ WriteFault → ⊥
 check_not_cut input end may is = subst (MayAnswer input) is may

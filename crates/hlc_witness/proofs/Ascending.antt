@@ -1,7 +1,7 @@
 -- Ascending rows and witnesses by their positions: an order is total, so if neighbours are in order the list is in
 -- order, and what is above the last of an ascending list is above all of it.
-use Rattle.std.proofs.Common.{nat_cmp, Less, Equal, Ordering, Some, length, get_or, drop, refl, sym, ap, ◌∙◌, subst}
-use Rattle.std.proofs.Common.{inl, inr, arith, true, slice_get, Greater, is_lt, take, ◌≡◌, ℕ, List, [], ◌∷◌, ◌-◌, ◌<◌}
+use Rattle.std.proofs.Common.{nat_cmp, Less, Ordering, Some, length, get_or, drop, refl, sym, ap, ◌∙◌, subst}
+use Rattle.std.proofs.Common.{inl, inr, arith, true, slice_get, is_lt, take, ◌≡◌, ℕ, List, [], ◌∷◌, ◌-◌, ◌<◌}
 use Rattle.std.proofs.Common.{◌+◌, ◌++◌, ap₂}
 use Rattle.std.specs.List.Sorted.{IsStrictlySortedBy}
 use Rattle.std.specs.Ordering.{is_gt}
@@ -57,8 +57,7 @@ above_last front last witness is all =
 
 pub is_lt-true : (o : Ordering) → is_lt o ≡ true → o ≡ Less
 is_lt-true Less h = refl
-is_lt-true Equal h = cc
-is_lt-true Greater h = cc
+is_lt-true _ h = cc
 
 pub is_gt-above : (x y : ℕ) → is_gt (nat_cmp x y) ≡ true → y < x
 is_gt-above x y h = grind (arith, nat_tests)

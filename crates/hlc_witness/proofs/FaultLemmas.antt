@@ -1,7 +1,7 @@
 -- A witness that is a change, and above those before it, has no fault, since each fault denies one of the two; so among
 -- ascending changes none has one.
 use Rattle.std.proofs.Common.{All, length, get_or, sym, ap, ◌∙◌, subst, arith, ◌≡◌, ◌<◌, ◌++◌, ℕ, List, ◌∷◌}
-use Rattle.std.proofs.Common.{length-append}
+use Rattle.std.proofs.Common.{length-append, inl, inr}
 use Rattle.std.proofs.Math.Seq.{get_or-append_seam}
 use Rattle.std.proofs.lemmas.List.{get_or_append_left}
 use Rattle.std.proofs.lemmas.Map.Keys.{Less-from_sorted}
@@ -9,21 +9,13 @@ use Rattle.hlc_rows.specs.declared.row.Row.{Row}
 use Rattle.hlc_witness.specs.Changes.{ChangesAscend, IsChange, change_cmp}
 use Rattle.hlc_witness.specs.Reasons.{IsAbove, IsFault}
 use Rattle.hlc_witness.specs.declared.reason.NotShown.{NotShown}
-use Rattle.hlc_witness.specs.declared.reason.NotShown.TheVariants.{PointsNotAscending, RowsNotAscending}
-use Rattle.hlc_witness.specs.declared.reason.NotShown.TheVariants.{RowAboveLastPoint, WitnessNotAscending, NotAtPoint}
-use Rattle.hlc_witness.specs.declared.reason.NotShown.TheVariants.{SameAnswers, CountsDiffer, RowOutOfLimits}
 use Rattle.hlc_witness.specs.declared.witness.Witness.{Witness}
 
 change_no_fault : (rows : List Row) (points : List ℕ) (front : List Witness) (witness : Witness) (reason : NotShown)
     → IsAbove front witness → IsChange rows points witness → IsFault rows points front witness reason → ⊥
-change_no_fault rows points front witness PointsNotAscending above is fault = fault
-change_no_fault rows points front witness RowsNotAscending above is fault = fault
-change_no_fault rows points front witness RowAboveLastPoint above is fault = fault
-change_no_fault rows points front witness WitnessNotAscending above is fault = fault above
-change_no_fault rows points front witness NotAtPoint above is fault = fault.1 is.place
-change_no_fault rows points front witness SameAnswers above is fault = is.differs fault.2
-change_no_fault rows points front witness CountsDiffer above is fault = fault
-change_no_fault rows points front witness RowOutOfLimits above is fault = fault
+change_no_fault rows points front witness reason above is (inl fault) = fault.0 above
+change_no_fault rows points front witness reason above is (inr (_, inl fault)) = fault.0 is.place
+change_no_fault rows points front witness reason above is (inr (_, inr fault)) = is.differs fault.1.0
 
 -- in an ascending list each is above those before it
 front_below : (front back : List Witness) (witness : Witness) → ChangesAscend (front ++ witness ∷ back)

@@ -7,11 +7,8 @@ use Rattle.std.proofs.lemmas.List.Elements.{All-push}
 use Rattle.hlc_rows.specs.declared.row.Row.{Row}
 use Rattle.hlc_witness.specs.Certificate.{IsCertificate}
 use Rattle.hlc_witness.specs.Changes.{ChangesAscend, IsChange}
-use Rattle.hlc_witness.specs.Reasons.{IsFault, IsFirstFault, IsFirstReason, AreSorted}
+use Rattle.hlc_witness.specs.Reasons.{IsFault, IsFirstFault}
 use Rattle.hlc_witness.specs.declared.reason.NotShown.{NotShown}
-use Rattle.hlc_witness.specs.declared.reason.NotShown.TheVariants.{PointsNotAscending, RowsNotAscending}
-use Rattle.hlc_witness.specs.declared.reason.NotShown.TheVariants.{RowAboveLastPoint, WitnessNotAscending, NotAtPoint}
-use Rattle.hlc_witness.specs.declared.reason.NotShown.TheVariants.{SameAnswers, CountsDiffer, RowOutOfLimits}
 use Rattle.hlc_witness.specs.declared.witness.Witness.{Witness}
 use Rattle.hlc_witness.proofs.Ascending.{around}
 use Rattle.hlc_witness.proofs.FaultLemmas.{changes_no_fault}
@@ -37,18 +34,6 @@ first_fault rows points witnesses i witness reason lt is up each fault = record 
   each = each;
   fault = fault;
 }
-
-pub first_reason : (rows : List Row) (points : List ℕ) (witnesses : List Witness) (front : List Witness)
-    (witness : Witness) (reason : NotShown) → AreSorted rows points → IsFault rows points front witness reason
-    → IsFirstFault rows points witnesses reason → IsFirstReason rows points witnesses reason
-first_reason rows points witnesses front witness PointsNotAscending sorted fault first = absurd fault
-first_reason rows points witnesses front witness RowsNotAscending sorted fault first = absurd fault
-first_reason rows points witnesses front witness RowAboveLastPoint sorted fault first = absurd fault
-first_reason rows points witnesses front witness WitnessNotAscending sorted fault first = (sorted, first)
-first_reason rows points witnesses front witness NotAtPoint sorted fault first = (sorted, first)
-first_reason rows points witnesses front witness SameAnswers sorted fault first = (sorted, first)
-first_reason rows points witnesses front witness CountsDiffer sorted fault first = absurd fault
-first_reason rows points witnesses front witness RowOutOfLimits sorted fault first = absurd fault
 
 -- one more change
 pub each_more : (rows : List Row) (points : List ℕ) (witnesses : List Witness) (i : ℕ) (witness : Witness)

@@ -34,28 +34,24 @@ abbrev slot : List ℕ → ℕ → Row
 slot key bound = record { key = key; stamp = bound; node = 0; value = None }
 
 le-not_gt : (o : Ordering) → is_le o ≡ true → is_gt o ≡ false
-le-not_gt Less h = refl
-le-not_gt Equal h = refl
 le-not_gt Greater h = cc
+le-not_gt _ h = refl
 
 not_gt-le : (o : Ordering) → is_gt o ≡ false → is_le o ≡ true
-not_gt-le Less h = refl
-not_gt-le Equal h = refl
 not_gt-le Greater h = cc
+not_gt-le _ h = refl
 
 -- what is less by key, stamp and node is no greater by key and stamp
 less-not_gt : (o s n : Ordering) → ordering_then o (ordering_then s n) ≡ Less → is_gt (ordering_then o s) ≡ false
 less-not_gt Less s n h = refl
-less-not_gt Equal Less n h = refl
-less-not_gt Equal Equal n h = refl
 less-not_gt Equal Greater n h = cc
 less-not_gt Greater s n h = cc
+less-not_gt Equal _ n h = refl
 
 -- what is less by key, stamp and node is no greater by key
 less-key_not_gt : (o s : Ordering) → ordering_then o s ≡ Less → is_gt o ≡ false
-less-key_not_gt Less s h = refl
-less-key_not_gt Equal s h = refl
 less-key_not_gt Greater s h = cc
+less-key_not_gt _ s h = refl
 
 -- the rows that do not come after the key and the stamp come first
 pub partitioned : (rows : List Row) (key : List ℕ) (bound : ℕ) → RowsAscend rows
@@ -96,14 +92,12 @@ reached-below row key bound same h = is_le-le row.stamp bound
 
 -- what is no greater by key and stamp is no greater by key
 first_key : (o s : Ordering) → is_le (ordering_then o s) ≡ true → is_gt o ≡ false
-first_key Less s h = refl
-first_key Equal s h = refl
 first_key Greater s h = cc
+first_key _ s h = refl
 
 no_gt_both : (o : Ordering) → is_gt o ≡ false → is_gt (ordering_reverse o) ≡ false → o ≡ Equal
-no_gt_both Less h k = cc
 no_gt_both Equal h k = refl
-no_gt_both Greater h k = cc
+no_gt_both _ h k = cc
 
 -- of two rows of one key the one that comes first is no later
 first_no_later : (a b : Row) → a.key ≡ b.key → row_cmp a b ≡ Less → IsNoLater a b

@@ -1,5 +1,5 @@
 -- Why rows, points and witnesses are no certificate: the first reason that applies.
-use Rattle.std.specs.Prelude.{◌≡◌, ◌≢◌, ℕ, List, ◌∷◌, ◌++◌, length, All, codes}
+use Rattle.std.specs.Prelude.{◌≡◌, ◌⊎◌, ℕ, List, ◌∷◌, ◌++◌, length, All, codes}
 use Rattle.std.specs.declared.cmp.Ordering.TheVariants.{Less}
 use Rattle.hlc_rows.specs.declared.row.Row.{Row}
 use Rattle.hlc_rows.specs.Rows.{answer}
@@ -39,18 +39,16 @@ reason_text RowOutOfLimits = codes "a key or a value is out of the limits"
 abbrev pub IsAbove : List Witness → Witness → Type 0
 IsAbove front witness = All (λ other. change_cmp other witness ≡ Less) front
 
+-- unless this holds, one thing is so; and if it holds, another
+abbrev pub Unless : Type 0 → Type 0 → Type 0 → Type 0
+Unless condition now later = ((condition → ⊥) × now) ⊎ (condition × later)
+
 -- the first reason against one witness, after those before it
 abbrev pub IsFault : List Row → List ℕ → List Witness → Witness → NotShown → Type 0
-IsFault rows points front witness WitnessNotAscending = IsAbove front witness → ⊥
-IsFault rows points front witness NotAtPoint = IsAbove front witness × (IsAtPoint points witness → ⊥)
-IsFault rows points front witness SameAnswers =
-    IsAbove front witness × IsAtPoint points witness
-    × (answer rows witness.key witness.at ≡ answer_at rows witness.key witness.before)
-IsFault rows points front witness PointsNotAscending = ⊥
-IsFault rows points front witness RowsNotAscending = ⊥
-IsFault rows points front witness RowAboveLastPoint = ⊥
-IsFault rows points front witness CountsDiffer = ⊥
-IsFault rows points front witness RowOutOfLimits = ⊥
+IsFault rows points front witness reason =
+    Unless (IsAbove front witness) (reason ≡ WitnessNotAscending)
+    (Unless (IsAtPoint points witness) (reason ≡ NotAtPoint)
+    ((answer rows witness.key witness.at ≡ answer_at rows witness.key witness.before) × (reason ≡ SameAnswers)))
 
 -- the first reason against the first witness that has one: those before it are changes, ascending
 pub record IsFirstFault (rows : List Row) (points : List ℕ) (witnesses : List Witness)
@@ -63,22 +61,13 @@ pub record IsFirstFault (rows : List Row) (points : List ℕ) (witnesses : List 
   pub each : All (IsChange rows points) front
   pub fault : IsFault rows points front witness reason
 
--- neither the points nor the rows are the reason
-abbrev pub AreSorted : List Row → List ℕ → Type 0
-AreSorted rows points = PointsAscend points × RowsAscend rows × NoneAbove points rows
-
 -- the first reason of all
 abbrev pub IsFirstReason : List Row → List ℕ → List Witness → NotShown → Type 0
-IsFirstReason rows points witnesses PointsNotAscending = PointsAscend points → ⊥
-IsFirstReason rows points witnesses RowsNotAscending = PointsAscend points × (RowsAscend rows → ⊥)
-IsFirstReason rows points witnesses RowAboveLastPoint =
-    PointsAscend points × RowsAscend rows × (NoneAbove points rows → ⊥)
-IsFirstReason rows points witnesses WitnessNotAscending =
-    AreSorted rows points × IsFirstFault rows points witnesses WitnessNotAscending
-IsFirstReason rows points witnesses NotAtPoint = AreSorted rows points × IsFirstFault rows points witnesses NotAtPoint
-IsFirstReason rows points witnesses SameAnswers = AreSorted rows points × IsFirstFault rows points witnesses SameAnswers
-IsFirstReason rows points witnesses CountsDiffer =
-    AreSorted rows points × ChangesAscend witnesses × All (IsChange rows points) witnesses
-    × (length witnesses ≢ length rows)
-IsFirstReason rows points witnesses RowOutOfLimits = AreSorted rows points × ChangesAscend witnesses
-    × All (IsChange rows points) witnesses × (length witnesses ≡ length rows) × (AreInLimits rows → ⊥)
+IsFirstReason rows points witnesses reason =
+    Unless (PointsAscend points) (reason ≡ PointsNotAscending)
+    (Unless (RowsAscend rows) (reason ≡ RowsNotAscending)
+    (Unless (NoneAbove points rows) (reason ≡ RowAboveLastPoint)
+    (IsFirstFault rows points witnesses reason
+    ⊎ (ChangesAscend witnesses × All (IsChange rows points) witnesses
+    × Unless (length witnesses ≡ length rows) (reason ≡ CountsDiffer)
+    ((AreInLimits rows → ⊥) × (reason ≡ RowOutOfLimits))))))

@@ -1,8 +1,8 @@
 -- If a witness has a fault, it is the first reason, since those before it are changes and ascend; and a certificate has
 -- no fault.
-use Rattle.std.proofs.Common.{refl, arith, take}
+use Rattle.std.proofs.Common.{refl, arith, inl, inr}
 use Rattle.hlc_witness.proofs.Ascending.{ascend_more, none_ascend}
-use Rattle.hlc_witness.proofs.Faults.{certificate_no_fault, first_fault, first_reason, each_more}
+use Rattle.hlc_witness.proofs.Faults.{certificate_no_fault, first_fault, each_more}
 use Rattle.hlc_witness.proofs.checker.reason_against.Goals as goal
 
 pub loop-i-init : goal.loop-i-init
@@ -10,16 +10,16 @@ loop-i-init c = record { ascend = none_ascend; each = λ k d lt. absurd (omega a
 
 pub returns-in-Some-clause-reason : goal.returns-in-Some-clause-reason
 returns-in-Some-clause-reason c =
-    first_reason c.args.rows.now c.args.points.now c.args.witnesses.now
-    (take c.loop-i.i c.args.witnesses.now) c.index-witnesses-i.result c.in-Some.reason (
-      c.if-not-do_points_ascend.ensures.0 refl,
-      c.if-not-do_rows_ascend.ensures.0 refl,
-      c.if-not-is_none_above.ensures.0 refl,
-    )
-    c.in-Some.ensures
-    (first_fault c.args.rows.now c.args.points.now c.args.witnesses.now c.loop-i.i c.index-witnesses-i.result
+    let found = first_fault c.args.rows.now c.args.points.now c.args.witnesses.now c.loop-i.i c.index-witnesses-i.result
     c.in-Some.reason c.loop-i-test.true c.index-witnesses-i.is c.loop-i.invariant.ascend c.loop-i.invariant.each
-    c.in-Some.ensures)
+    c.in-Some.ensures in
+    inr (
+      c.if-not-do_points_ascend.ensures.0 refl,
+      inr (
+        c.if-not-do_rows_ascend.ensures.0 refl,
+        inr (c.if-not-is_none_above.ensures.0 refl, inl found),
+      ),
+    )
 
 pub returns-in-Some-clause-only : goal.returns-in-Some-clause-only
 returns-in-Some-clause-only c = λ certificate.
