@@ -20,18 +20,15 @@ use Rattle.hlc_rows.specs.declared.row.Row.{Row}
 use Rattle.hlc_rows.specs.Rows.{IsRowSet}
 use Rattle.hlc_table_column.specs.Cells.{Cell}
 use Rattle.hlc_table_column.specs.Rows.{row_of, rows_of, rows_with, KeyCells, rows_in_one, rows_in, keys_in, KeysAscend}
-use Rattle.std.proofs.Common.{Contains, Option, Some, None, zero, suc, get_or, ◌≤◌, ◌<◌, ◌-◌}
+use Rattle.std.proofs.Common.{Contains, Some, None, zero, suc, get_or, ◌≤◌, ◌<◌, ◌-◌}
 use Rattle.std.proofs.lemmas.Bool.{le-ltb}
 use Rattle.std.proofs.lemmas.List.{length-map, drop_more}
-use Rattle.hlc_clock.specs.Points.{last_point}
-use Rattle.hlc_witness.specs.Cost.{rows_cost}
 use Rattle.hlc_columns.specs.Answers.{in_part, part_end, last_key}
 use Rattle.hlc_columns.specs.Table.{rows_kept}
 use Rattle.hlc_vacuum.specs.Part.{all_kept, HaveFlags, IsPartOf, IsPartVacuum}
 use Rattle.hlc_vacuum.specs.Representing.{IsWithin}
 use Rattle.hlc_vacuum.proofs.WithinLemmas.{within-same, within-twice}
 use Rattle.hlc_vacuum_draft.specs.Report.{report_of}
-use Rattle.hlc_vacuum_draft.specs.Vacuumed.{IsVacuumOf, rows_to}
 use Rattle.hlc_vacuum.specs.declared.part.PartPlan.{PartPlan}
 use Rattle.hlc_vacuum_draft.specs.declared.report.Report.{Report}
 use Rattle.hlc_table_column.proofs.FlagLemmas.{flagged-none, flagged-append, flagged-map, flagged-IsRowSet}
@@ -41,24 +38,8 @@ use Rattle.hlc_columns.proofs.FoundLemmas.{other_key}
 -- a row of another key is kept
 kept_passes : (key : List ℕ) (flags : List Bool) (row : Row) (rows : List Row) → bytes_eq row.key key ≡ false
     → rows_kept key flags (row ∷ rows) ≡ row ∷ rows_kept key flags rows
-kept_passes key [] row rows n = ap (λ b. cond b (rows_kept key [] rows) (row ∷ rows_kept key [] rows)) n
-kept_passes key (flag ∷ flags) row rows n =
-    ap (λ b. cond b (cond flag (row ∷ rows_kept key flags rows) (rows_kept key flags rows))
-    (row ∷ rows_kept key (flag ∷ flags) rows)) n
-
--- a row of the key is not, if no flag is left
-kept_none : (key : List ℕ) (row : Row) (rows : List Row) → bytes_eq row.key key ≡ true
-    → rows_kept key [] (row ∷ rows) ≡ rows_kept key [] rows
-kept_none key row rows t = ap (λ b. cond b (rows_kept key [] rows) (row ∷ rows_kept key [] rows)) t
-
--- and else by its flag
-kept_flag : (key : List ℕ) (flag : Bool) (flags : List Bool) (row : Row) (rows : List Row)
-    → bytes_eq row.key key ≡ true
-    → rows_kept key (flag ∷ flags) (row ∷ rows)
-    ≡ cond flag (row ∷ rows_kept key flags rows) (rows_kept key flags rows)
-kept_flag key flag flags row rows t =
-    ap (λ b. cond b (cond flag (row ∷ rows_kept key flags rows) (rows_kept key flags rows))
-    (row ∷ rows_kept key (flag ∷ flags) rows)) t
+kept_passes key [] row rows n = rw n refl
+kept_passes key (flag ∷ flags) row rows n = rw n refl
 
 -- what is kept are the rows with some flags set
 kept_by_flags : (key : List ℕ) (flags : List Bool) (rows : List Row)
@@ -67,22 +48,18 @@ kept_by_flags key flags [] = ([], refl)
 kept_by_flags key [] (row ∷ rows) =
     let more = kept_by_flags key [] rows in
     elim (cases_Bool (bytes_eq row.key key)) [
-      | inl t ↦ (false ∷ more.0, kept_none key row rows t ∙ more.1)
-      | inr n ↦ (true ∷ more.0, kept_passes key [] row rows n ∙ ap (λ xs. row ∷ xs) more.1)
+      | inl t ↦ (false ∷ more.0, rw t more.1)
+      | inr n ↦ (true ∷ more.0, rw n (ap (λ xs. row ∷ xs) more.1))
     ]
 kept_by_flags key (flag ∷ flags) (row ∷ rows) =
     elim (cases_Bool (bytes_eq row.key key)) [
       | inl t ↦ let more = kept_by_flags key flags rows in (
         flag ∷ more.0,
-        kept_flag key flag flags row rows t
-            ∙ elim flag as (λ f. cond f (row ∷ rows_kept key flags rows) (rows_kept key flags rows)
-            ≡ items_where_true (f ∷ more.0) (row ∷ rows)) [
-              | true ↦ ap (λ xs. row ∷ xs) more.1
-              | false ↦ more.1
-            ],
+        rw t (elim flag as (λ f. cond f (row ∷ rows_kept key flags rows) (rows_kept key flags rows)
+            ≡ items_where_true (f ∷ more.0) (row ∷ rows)) [ true ↦ ap (λ xs. row ∷ xs) more.1 | false ↦ more.1 ]),
       )
       | inr n ↦ let more = kept_by_flags key (flag ∷ flags) rows in
-          (true ∷ more.0, kept_passes key (flag ∷ flags) row rows n ∙ ap (λ xs. row ∷ xs) more.1)
+          (true ∷ more.0, rw n (ap (λ xs. row ∷ xs) more.1))
     ]
 
 -- and so for several keys
@@ -111,24 +88,17 @@ others_stay p key flags [] none = refl
 others_stay p key [] (row ∷ rows) none =
     let more = others_stay p key [] rows none in
     elim (cases_Bool (bytes_eq row.key key)) [
-      | inl t ↦ ap (λ xs. filter p xs) (kept_none key row rows t) ∙ more
-          ∙ sym (ap (λ b. cond b (row ∷ filter p rows) (filter p rows)) (none row t))
-      | inr n ↦ ap (λ xs. filter p xs) (kept_passes key [] row rows n)
-          ∙ ap (λ xs. cond (p row) (row ∷ xs) xs) more
+      | inl t ↦ let out = none row t in rw (t, out) more
+      | inr n ↦ rw n (ap (λ xs. cond (p row) (row ∷ xs) xs) more)
     ]
 others_stay p key (flag ∷ flags) (row ∷ rows) none =
     elim (cases_Bool (bytes_eq row.key key)) [
       | inl t ↦
-          let kept : List Row = rows_kept key flags rows in
-          ap (λ xs. filter p xs) (kept_flag key flag flags row rows t)
-          ∙ elim flag as (λ f. filter p (cond f (row ∷ kept) kept) ≡ filter p kept) [
-            | true ↦ ap (λ b. cond b (row ∷ filter p kept) (filter p kept)) (none row t)
-            | false ↦ refl
-          ]
-          ∙ others_stay p key flags rows none
-          ∙ sym (ap (λ b. cond b (row ∷ filter p rows) (filter p rows)) (none row t))
-      | inr n ↦ ap (λ xs. filter p xs) (kept_passes key (flag ∷ flags) row rows n)
-          ∙ ap (λ xs. cond (p row) (row ∷ xs) xs) (others_stay p key (flag ∷ flags) rows none)
+          let out = none row t in
+          let more = others_stay p key flags rows none in
+          rw (t, out) (elim flag as (λ f. filter p (cond f (row ∷ rows_kept key flags rows) (rows_kept key flags rows))
+          ≡ filter p rows) [ true ↦ rw out more | false ↦ more ])
+      | inr n ↦ rw n (ap (λ xs. cond (p row) (row ∷ xs) xs) (others_stay p key (flag ∷ flags) rows none))
     ]
 
 -- of the rows that pass a test, which all of the key do, the same are kept
@@ -139,38 +109,32 @@ own_stay p key flags [] own = refl
 own_stay p key [] (row ∷ rows) own =
     let more = own_stay p key [] rows own in
     elim (cases_Bool (bytes_eq row.key key)) [
-      | inl t ↦ ap (λ xs. filter p xs) (kept_none key row rows t) ∙ more
-          ∙ sym (kept_none key row (filter p rows) t)
-          ∙ ap (λ b. rows_kept key [] (cond b (row ∷ filter p rows) (filter p rows))) (sym (own row t))
-      | inr n ↦ ap (λ xs. filter p xs) (kept_passes key [] row rows n)
-          ∙ elim (p row) as (λ b. cond b (row ∷ filter p (rows_kept key [] rows)) (filter p (rows_kept key [] rows))
-          ≡ rows_kept key [] (cond b (row ∷ filter p rows) (filter p rows))) [
-            | true ↦ ap (λ xs. row ∷ xs) more ∙ sym (kept_passes key [] row (filter p rows) n)
+      | inl t ↦ let in_own = own row t in rw (t, in_own, t) more
+      | inr n ↦ rw n (elim (p row) as (λ b. cond b (row ∷ filter p (rows_kept key [] rows))
+          (filter p (rows_kept key [] rows)) ≡ rows_kept key [] (cond b (row ∷ filter p rows) (filter p rows))) [
+            | true ↦ rw n (ap (λ xs. row ∷ xs) more)
             | false ↦ more
-          ]
+          ])
     ]
 own_stay p key (flag ∷ flags) (row ∷ rows) own =
     elim (cases_Bool (bytes_eq row.key key)) [
       | inl t ↦
+          let in_own = own row t in
           let more = own_stay p key flags rows own in
           let kept : List Row = rows_kept key flags rows in
           let same : List Row = rows_kept key flags (filter p rows) in
-          ap (λ xs. filter p xs) (kept_flag key flag flags row rows t)
-          ∙ elim flag as (λ f. filter p (cond f (row ∷ kept) kept) ≡ cond f (row ∷ same) same) [
-            | true ↦ ap (λ b. cond b (row ∷ filter p kept) (filter p kept)) (own row t) ∙ ap (λ xs. row ∷ xs) more
+          rw (t, in_own, t) (elim flag as (λ f. filter p (cond f (row ∷ kept) kept) ≡ cond f (row ∷ same) same) [
+            | true ↦ rw in_own (ap (λ xs. row ∷ xs) more)
             | false ↦ more
-          ]
-          ∙ sym (kept_flag key flag flags row (filter p rows) t)
-          ∙ ap (λ b. rows_kept key (flag ∷ flags) (cond b (row ∷ filter p rows) (filter p rows))) (sym (own row t))
+          ])
       | inr n ↦
           let more = own_stay p key (flag ∷ flags) rows own in
-          ap (λ xs. filter p xs) (kept_passes key (flag ∷ flags) row rows n)
-          ∙ elim (p row) as (λ b. cond b (row ∷ filter p (rows_kept key (flag ∷ flags) rows))
+          rw n (elim (p row) as (λ b. cond b (row ∷ filter p (rows_kept key (flag ∷ flags) rows))
           (filter p (rows_kept key (flag ∷ flags) rows))
           ≡ rows_kept key (flag ∷ flags) (cond b (row ∷ filter p rows) (filter p rows))) [
-            | true ↦ ap (λ xs. row ∷ xs) more ∙ sym (kept_passes key (flag ∷ flags) row (filter p rows) n)
+            | true ↦ rw n (ap (λ xs. row ∷ xs) more)
             | false ↦ more
-          ]
+          ])
     ]
 
 -- rows are filtered first by a weaker test, to no effect
@@ -180,13 +144,11 @@ filter_within q p [] weaker = refl
 filter_within q p (row ∷ rows) weaker =
     let more = filter_within q p rows weaker in
     elim (cases_Bool (p row)) [
-      | inl t ↦ ap (λ b. filter q (cond b (row ∷ filter p rows) (filter p rows))) t
-          ∙ ap (λ xs. cond (q row) (row ∷ xs) xs) more
-      | inr n ↦ ap (λ b. filter q (cond b (row ∷ filter p rows) (filter p rows))) n ∙ more
-          ∙ elim (cases_Bool (q row)) [
-            | inl u ↦ absurd (true≢false (sym (weaker row u) ∙ n))
-            | inr u ↦ sym (ap (λ b. cond b (row ∷ filter q rows) (filter q rows)) u)
-          ]
+      | inl t ↦ rw t (ap (λ xs. cond (q row) (row ∷ xs) xs) more)
+      | inr n ↦ elim (cases_Bool (q row)) [
+        | inl u ↦ absurd (true≢false (sym (weaker row u) ∙ n))
+        | inr u ↦ rw (n, u) more
+      ]
     ]
 
 -- a test of the key has the same result for all rows of the key
@@ -211,17 +173,14 @@ kept-others is_of (key ∷ keys) flags rows of =
 own_rows : (key : List ℕ) (cells : List Cell) → rows_with key (rows_of key cells) ≡ rows_of key cells
 own_rows key [] = refl
 own_rows key (c ∷ cs) =
-    ap (λ b. cond b (row_of key c ∷ rows_with key (rows_of key cs)) (rows_with key (rows_of key cs)))
-    ((bytes_eq-Decides key key).1 refl)
-    ∙ ap (λ rows. row_of key c ∷ rows) (own_rows key cs)
+    let same = (bytes_eq-Decides key key).1 refl in rw same (ap (λ rows. row_of key c ∷ rows) (own_rows key cs))
 
 other_rows : (key k : List ℕ) (cells : List Cell) → k ≢ key → rows_with key (rows_of k cells) ≡ []
 other_rows key k [] apart = refl
 other_rows key k (c ∷ cs) apart =
     elim (cases_Bool (bytes_eq k key)) [
       | inl t ↦ absurd (apart ((bytes_eq-Decides k key).0 t))
-      | inr n ↦ ap (λ b. cond b (row_of k c ∷ rows_with key (rows_of k cs)) (rows_with key (rows_of k cs))) n
-          ∙ other_rows key k cs apart
+      | inr n ↦ rw n (other_rows key k cs apart)
     ]
 
 -- columns of later keys have no row of the key
@@ -240,13 +199,9 @@ kept_before : (key : List ℕ) (flags : List Bool) (done rows : List Row) → ro
 kept_before key flags [] rows none = refl
 kept_before key flags (row ∷ done) rows none =
     elim (cases_Bool (bytes_eq row.key key)) [
-      | inl t ↦
-          let e : row ∷ rows_with key done ≡ [] =
-          sym (ap (λ b. cond b (row ∷ rows_with key done) (rows_with key done)) t) ∙ none in
-          let l = ap length e in absurd (omega arith)
+      | inl t ↦ absurd (let e = rw t at none in let l = ap length e in omega arith)
       | inr n ↦ kept_passes key flags row (done ++ rows) n
-          ∙ ap (λ xs. row ∷ xs) (kept_before key flags done rows
-          (sym (ap (λ b. cond b (row ∷ rows_with key done) (rows_with key done)) n) ∙ none))
+          ∙ ap (λ xs. row ∷ xs) (kept_before key flags done rows (rw n at none))
     ]
 
 -- of a column with as many flags, the rows with their flags set are kept
@@ -259,13 +214,13 @@ kept_own key [] (flag ∷ flags) rows e = absurd (omega (arith, e))
 kept_own key (c ∷ cs) [] rows e = absurd (omega (arith, e))
 kept_own key (c ∷ cs) (flag ∷ flags) rows e =
     let more = kept_own key cs flags rows (omega (arith, e)) in
-    kept_flag key flag flags (row_of key c) (rows_of key cs ++ rows) ((bytes_eq-Decides key key).1 refl)
-    ∙ elim flag as (λ f. cond f (row_of key c ∷ rows_kept key flags (rows_of key cs ++ rows))
+    let same = (bytes_eq-Decides key key).1 refl in
+    rw same (elim flag as (λ f. cond f (row_of key c ∷ rows_kept key flags (rows_of key cs ++ rows))
     (rows_kept key flags (rows_of key cs ++ rows))
     ≡ items_where_true (f ∷ flags) (rows_of key (c ∷ cs)) ++ rows_kept key [] rows) [
       | true ↦ ap (λ xs. row_of key c ∷ xs) more
       | false ↦ more
-    ]
+    ])
 
 -- no row of the keys is among rows, and none after those of an earlier key
 absent_nil : (keys : List (List ℕ)) → AllByRecursion (λ key. rows_with key [] ≡ []) keys
@@ -339,23 +294,6 @@ kept_after is_of (one ∷ columns) flags rows done up of none e long =
           ∙ ap (λ xs. done ++ xs) (sym (flagged-append own rest flags long)),
     )
 
--- of the rows of the keys, those with their flags set are kept
-pub kept-own : (is_of : List ℕ → Bool) (columns : List KeyCells) (flags : List Bool) (rows : List Row)
-    → KeysAscend columns → All (λ (one : KeyCells). is_of one.key ≡ true) columns
-    → filter (λ (row : Row). is_of row.key) rows ≡ rows_in columns → length flags ≡ length (rows_in columns)
-    → filter (λ (row : Row). is_of row.key) (all_kept (keys_in columns) flags rows)
-    ≡ items_where_true flags (rows_in columns)
-kept-own is_of columns flags rows up of e long =
-    (kept_after is_of columns flags rows [] up of (absent_nil (keys_in columns)) e long).1
-
--- there are enough flags
-pub have-flags : (is_of : List ℕ → Bool) (columns : List KeyCells) (flags : List Bool) (rows : List Row)
-    → KeysAscend columns → All (λ (one : KeyCells). is_of one.key ≡ true) columns
-    → filter (λ (row : Row). is_of row.key) rows ≡ rows_in columns → length flags ≡ length (rows_in columns)
-    → HaveFlags (keys_in columns) flags rows
-have-flags is_of columns flags rows up of e long =
-    (kept_after is_of columns flags rows [] up of (absent_nil (keys_in columns)) e long).0
-
 -- rows pass a test or do not
 both_counts : (p : Row → Bool) (rows : List Row)
     → length (filter p rows) + length (filter (λ row. not (p row)) rows) ≡ length rows
@@ -378,22 +316,32 @@ flag_counts (flag ∷ flags) [] e = absurd (omega (arith, e))
 flag_counts (true ∷ flags) (x ∷ xs) e = let more = flag_counts flags xs (omega (arith, e)) in omega arith
 flag_counts (false ∷ flags) (x ∷ xs) e = let more = flag_counts flags xs (omega (arith, e)) in omega arith
 
--- as many rows go as flags are not set
-pub kept-count : (is_of : List ℕ → Bool) (columns : List KeyCells) (flags : List Bool) (rows : List Row)
-    → KeysAscend columns → All (λ (one : KeyCells). is_of one.key ≡ true) columns
-    → filter (λ (row : Row). is_of row.key) rows ≡ rows_in columns → length flags ≡ length (rows_in columns)
-    → length (all_kept (keys_in columns) flags rows) + count_by not flags ≡ length rows
-kept-count is_of columns flags rows up of e long =
-    let kept : List Row = all_kept (keys_in columns) flags rows in
-    let a = both_counts (λ row. is_of row.key) kept in
-    let b = both_counts (λ row. is_of row.key) rows in
-    let own = ap length (kept-own is_of columns flags rows up of e long) in
-    let others = ap length (kept-others is_of (keys_in columns) flags rows
-    (All-map (λ key. is_of key ≡ true) (λ (one : KeyCells). one.key) columns of)) in
-    let c = flag_counts flags (rows_in columns) long in
-    let d = length-filter not flags in
-    let g = ap length e in
-    omega arith
+module _ (is_of : List ℕ → Bool) (columns : List KeyCells) (flags : List Bool) (rows : List Row)
+    (up : KeysAscend columns) (of : All (λ (one : KeyCells). is_of one.key ≡ true) columns)
+    (e : filter (λ (row : Row). is_of row.key) rows ≡ rows_in columns) (long : length flags ≡ length (rows_in columns))
+  where
+    -- there are enough flags
+    pub have-flags : HaveFlags (keys_in columns) flags rows
+    have-flags = (kept_after is_of columns flags rows [] up of (absent_nil (keys_in columns)) e long).0
+
+    -- of the rows of the keys, those with their flags set are kept
+    pub kept-own : filter (λ (row : Row). is_of row.key) (all_kept (keys_in columns) flags rows)
+        ≡ items_where_true flags (rows_in columns)
+    kept-own = (kept_after is_of columns flags rows [] up of (absent_nil (keys_in columns)) e long).1
+
+    -- as many rows go as flags are not set
+    pub kept-count : length (all_kept (keys_in columns) flags rows) + count_by not flags ≡ length rows
+    kept-count =
+        let kept : List Row = all_kept (keys_in columns) flags rows in
+        let a = both_counts (λ row. is_of row.key) kept in
+        let b = both_counts (λ row. is_of row.key) rows in
+        let own = ap length kept-own in
+        let others = ap length (kept-others is_of (keys_in columns) flags rows
+        (All-map (λ key. is_of key ≡ true) (λ (one : KeyCells). one.key) columns of)) in
+        let c = flag_counts flags (rows_in columns) long in
+        let d = length-filter not flags in
+        let g = ap length e in
+        omega arith
 
 -- only rows that were there are kept
 pub kept-within : (keys : List (List ℕ)) (flags : List Bool) (rows : List Row) (row : Row)
@@ -412,37 +360,24 @@ pub part-vacuum : (part : PartPlan) (old new : List Row) (after : List ℕ) (lim
 part-vacuum part old new after limit report h is made =
     let columns : List KeyCells = h.columns in
     let keep : List Bool = part.plan.keep in
-    subst (λ (end : Option (List ℕ)). IsPartVacuum old new (in_part after end) report) (sym h.end)
-    (subst (λ (rows : List Row). IsPartVacuum old rows (in_part after (part_end after limit columns)) report)
-    (sym (is ∙ ap (λ keys. all_kept keys keep old) h.keys))
-    (subst (IsPartVacuum old (all_kept (keys_in columns) keep old) (in_part after (part_end after limit columns)))
-    (sym made) (record {
+    let is_of : List ℕ → Bool = in_part after (part_end after limit columns) in
+    let own = kept-own is_of columns keep old h.next.ascend h.next.inside h.next.exact h.plan.each in
+    let count = kept-count is_of columns keep old h.next.ascend h.next.inside h.next.exact h.plan.each in
+    rw (h.end, is, h.keys, made) (record {
       row_set = kept-row_set (keys_in columns) keep old h.row_set;
       within = kept-within (keys_in columns) keep old;
-      others = kept-others (in_part after (part_end after limit columns)) (keys_in columns) keep old
-          (All-map (λ key. in_part after (part_end after limit columns) key ≡ true) (λ (one : KeyCells). one.key)
-          columns h.next.inside);
-      vacuumed =
-          subst (λ (rows : List Row). IsVacuumOf rows part.plan.points part.plan.witnesses
-          (filter (λ (row : Row). in_part after (part_end after limit columns) row.key)
-          (all_kept (keys_in columns) keep old))) (sym h.next.exact)
-          (subst (IsVacuumOf (rows_in columns) part.plan.points part.plan.witnesses)
-          (sym (kept-own (in_part after (part_end after limit columns)) columns keep old h.next.ascend h.next.inside
-          h.next.exact h.plan.each)) h.plan.vacuumed);
+      others = kept-others is_of (keys_in columns) keep old
+          (All-map (λ key. is_of key ≡ true) (λ (one : KeyCells). one.key) columns h.next.inside);
+      vacuumed = rw (h.next.exact, own) h.plan.vacuumed;
       kept = refl;
-      bytes = h.plan.cost ∙ ap (λ rows. rows_cost (rows_to (last_point part.plan.points) rows))
-          (sym (kept-own (in_part after (part_end after limit columns)) columns keep old h.next.ascend h.next.inside
-          h.next.exact h.plan.each));
-      dropped =
-          let count = kept-count (in_part after (part_end after limit columns)) columns keep old h.next.ascend
-          h.next.inside h.next.exact h.plan.each in omega (arith, count);
-    })))
+      bytes = rw own h.plan.cost;
+      dropped = omega (arith, count);
+    })
 
 pub part-flags : (part : PartPlan) (old : List Row) (after : List ℕ) (limit : ℕ) → IsPartOf part old after limit
     → HaveFlags part.keys.items part.plan.keep old
 part-flags part old after limit h =
-    subst (λ keys. HaveFlags keys part.plan.keep old) (sym h.keys)
-    (have-flags (in_part after (part_end after limit h.columns)) h.columns part.plan.keep old h.next.ascend
+    rw h.keys (have-flags (in_part after (part_end after limit h.columns)) h.columns part.plan.keep old h.next.ascend
     h.next.inside h.next.exact h.plan.each)
 
 -- the end of a part by its keys
