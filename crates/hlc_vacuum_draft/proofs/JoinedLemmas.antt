@@ -8,7 +8,8 @@ use Rattle.std.specs.Cmp.Lexicographic.{slice_cmp}
 use Rattle.std.specs.List.Sorted.{IsStrictlySortedBy}
 use Rattle.std.proofs.lemmas.Cmp.{nat_list_cmp_total, tied_itself}
 use Rattle.std.proofs.lemmas.List.{append-nil, length-append, take_more, map-append, take-append-drop}
-use Rattle.std.proofs.lemmas.List.Elements.{Contains-append_cases, Contains-append_right}
+use Rattle.std.proofs.lemmas.List.Elements.{Contains-append_cases, Contains-append_right, All-contains}
+use Rattle.std.proofs.lemmas.Map.Views.{All-after_first}
 use Rattle.std.proofs.lemmas.Grind.{flat_map-append}
 use Rattle.hlc_rows.specs.declared.row.Row.{Row}
 use Rattle.hlc_rows.specs.Rows.{newest, IsRowSet}
@@ -32,15 +33,6 @@ use Rattle.hlc_witness.specs.Cost.{changes_cost}
 use Rattle.hlc_vacuum_draft.proofs.Costs.{cost-append}
 use Rattle.hlc_vacuum_draft.proofs.Drafts.{draft-append, draft-none, draft-KeepsNewest}
 use Rattle.hlc_vacuum_draft.proofs.Steps.{changes_alike, changes-of}
-
--- each later key differs from the first
-all_less : (k : List ℕ) (xs : List (List ℕ)) (y : List ℕ) → AllByRecursion (λ x. slice_cmp nat_cmp k x ≡ Less) xs
-    → Contains xs y → slice_cmp nat_cmp k y ≡ Less
-all_less k [] y all' i = absurd (Contains-none y i)
-all_less k (x ∷ xs) y all' i = elim (Contains-cons_cases x y xs i) [
-  | inl is ↦ subst (λ z. slice_cmp nat_cmp k z ≡ Less) is all'.0
-  | inr r ↦ all_less k xs y all'.1 r
-]
 
 -- the front of an ascending list, and its back, ascend
 all_front : {X : Type 0} (P : X → Type 0) (xs ys : List X) → AllByRecursion P (xs ++ ys) → AllByRecursion P xs
@@ -77,11 +69,11 @@ unfolding IsStrictlySortedBy
 sorted_apart [] back key other up i j same = Contains-none key i
 sorted_apart (x ∷ xs) back key other up i j same = elim (Contains-cons_cases x key xs i) [
   | inl is ↦
-      let less : slice_cmp nat_cmp x other ≡ Less =
-      all_less x (xs ++ back) other up.0 (Contains-append_right xs back other j) in
-      let e : x ≡ other = is ∙ same in
+      let below = All-contains (λ z. slice_cmp nat_cmp x z ≡ Less) (xs ++ back) other
+      (All-after_first (slice_cmp nat_cmp) x (xs ++ back) up) (Contains-append_right xs back other j) in
+      let less : slice_cmp nat_cmp x other ≡ Less = below in
       let itself = tied_itself nat_list_cmp_total other in
-      absurd (let l : slice_cmp nat_cmp other other ≡ Less = subst (λ z. slice_cmp nat_cmp z other ≡ Less) e less in cc)
+      absurd (let l : slice_cmp nat_cmp other other ≡ Less = rw (is ∙ same) at less in cc)
   | inr r ↦ sorted_apart xs back key other up.1 r j same
 ]
 
@@ -181,12 +173,8 @@ draft_append points front back up old more new so also flags number total =
     let first = so.changes in
     let second = also.changes in
     record {
-      joined =
-          subst (λ cs. IsJoined (front ++ back) points cs new.keep new.bytes) (sym both)
-          (subst (λ fs. IsJoined (front ++ back) points (firsts ++ seconds) fs new.bytes) (sym flags)
-          (subst (IsJoined (front ++ back) points (firsts ++ seconds) (old.keep ++ more.keep)) (sym total)
-          (joined_append points front back up firsts seconds old.keep more.keep old.bytes more.bytes
-          so.joined also.joined)));
+      joined = rw (own-append points front back, flags, total) (joined_append points front back up firsts seconds
+          old.keep more.keep old.bytes more.bytes so.joined also.joined);
       changes =
           let sum : new.changes ≡ length (firsts ++ seconds) = omega (arith, number, first, second, long) in
           sum ∙ ap length (sym both);
@@ -206,12 +194,8 @@ draft_push points front one up old new so plan =
     let number = plan.news in
     let first = so.changes in
     record {
-      joined =
-          subst (λ cs. IsJoined (front ++ one ∷ []) points cs new.keep new.bytes) (sym both)
-          (subst (λ fs. IsJoined (front ++ one ∷ []) points (before ++ mine) fs new.bytes) (sym plan.mores)
-          (subst (IsJoined (front ++ one ∷ []) points (before ++ mine) (old.keep ++ plan.keep)) (sym plan.cost)
-          (joined_append points front (one ∷ []) up before mine old.keep plan.keep
-          old.bytes (changes_cost (rows_in_one one) mine) so.joined (joined_one points one plan.keep plan.draft))));
+      joined = rw (both, plan.mores, plan.cost) (joined_append points front (one ∷ []) up before mine old.keep plan.keep
+          old.bytes (changes_cost (rows_in_one one) mine) so.joined (joined_one points one plan.keep plan.draft));
       changes =
           let sum : new.changes ≡ length (before ++ mine) = omega (arith, number, first, long) in
           sum ∙ ap length (sym both);
@@ -241,10 +225,7 @@ pub draft_none : (points : List ℕ) (draft : Draft) → draft.keep ≡ [] → d
     → IsDraftOf [] points draft
 draft_none points draft flags number total =
     record {
-      joined =
-          subst (λ fs. IsJoined [] points [] fs draft.bytes) (sym flags)
-          (subst (IsJoined [] points [] []) (sym total)
-          (record { all_changes = refl; draft = draft-none (last_point points); cost = refl }));
+      joined = rw (flags, total) (record { all_changes = refl; draft = draft-none (last_point points); cost = refl });
       changes = number;
     }
 
@@ -252,12 +233,7 @@ draft_none points draft flags number total =
 pub draft_same : (points : List ℕ) (columns : List KeyCells) (old new : Draft) → new.keep ≡ old.keep
     → new.changes ≡ old.changes → new.bytes ≡ old.bytes → IsDraftOf columns points old → IsDraftOf columns points new
 draft_same points columns old new flags number total so =
-    record {
-      joined =
-          subst (λ fs. IsJoined columns points (own_changes points columns) fs new.bytes) (sym flags)
-          (subst (IsJoined columns points (own_changes points columns) old.keep) (sym total) so.joined);
-      changes = number ∙ so.changes;
-    }
+    record { joined = rw (flags, total) so.joined; changes = number ∙ so.changes }
 
 -- the rows that the joined plan keeps are a vacuum
 pub joined_vacuums : (points : List ℕ) (columns : List KeyCells) (changes : List Witness) (flags : List Bool)

@@ -110,10 +110,7 @@ module _ (rows : List Row) (key points : List ℕ) (i : ℕ) (lt : i < length po
   same_so found keep same so =
       let none = no_change rows key (point_before points i) (get_or points i 0) same in
       record {
-        rest = subst (λ b. found ++ key_changes rows key b (drop (i + 1) points) ≡ key_changes rows key None points)
-            (sym (next_before points i))
-            (subst (λ ds. ds ++ key_changes rows key (Some (get_or points i 0)) (drop (i + 1) points)
-            ≡ key_changes rows key None points) (ap (λ ds. found ++ ds) none ∙ append-nil found)
+        rest = rw (next_before points i) (rw (none, append-nil) at
             (all_of rows key (point_before points i) points i found (key_changes rows key None points) lt so.rest));
         draft = so.draft;
       }
@@ -130,11 +127,7 @@ module _ (rows : List Row) (key points : List ℕ) (i : ℕ) (lt : i < length po
   change_so found keep more differs mark so =
       let one = one_change rows key (point_before points i) (get_or points i 0) differs in
       record {
-        rest = subst
-            (λ b. (found ++ change_here ∷ []) ++ key_changes rows key b (drop (i + 1) points)
-            ≡ key_changes rows key None points) (sym (next_before points i))
-            (subst (λ ds. (found ++ ds) ++ key_changes rows key (Some (get_or points i 0)) (drop (i + 1) points)
-            ≡ key_changes rows key None points) one
+        rest = rw (next_before points i) (rw one at
             (all_of rows key (point_before points i) points i found (key_changes rows key None points) lt so.rest));
         draft = marked rows (last_point points) found keep more change_here so.draft mark;
       }
