@@ -7,5 +7,5 @@ pub use hlc_increment::{
 };
 pub use hlc_log::{
     Applied, Record, RecordFault, Recovered, a_log_may_be_read_again, apply_records, decode_record,
-    encode_record, recover,
+    encode_record, recover, recovered_stores_answer_as_replicas,
 };

@@ -1,2 +1,3 @@
 pub mod RecordLemmas
 pub mod LogLemmas
+pub mod PlaceLemmas

@@ -32,7 +32,7 @@ pub front_is : (bytes : List ℕ) (entry : Record) (rest : List ℕ) → IsBytes
     → RecordFits entry × (bytes ≡ record_bytes entry ++ rest)
 front_is bytes entry rest fits is = let t = record_reader.takes bytes (entry, rest) fits is in (t.1, t.0.parts)
 
-some_bytes : (entry : Record) → 0 < length (record_bytes entry)
+pub some_bytes : (entry : Record) → 0 < length (record_bytes entry)
 some_bytes (Item item) = omega arith
 some_bytes (Join node start) = omega arith
 some_bytes (Threshold at) = omega arith
@@ -44,18 +44,6 @@ front_shortens bytes entry rest fits is =
     ap length (front_is bytes entry rest fits is).1 ∙ length-append (record_bytes entry) rest in
     let some : 0 < length (record_bytes entry) = some_bytes entry in
     omega (arith, long, some)
-
--- a record that came before leaves the past, and another one is applied
-pub passed_over : (core : StoreView) (past : List Step) (entry : Record)
-    → came_before past entry ≡ true → Represents core past → Represents core (with_record entry past)
-passed_over core past entry came h =
-    subst (λ b. Represents core (cond b past (step_of entry ++ past))) (sym came) h
-
-pub applied : (core : StoreView) (past : List Step) (entry : Record)
-    → came_before past entry ≡ false → Represents core (step_of entry ++ past)
-    → Represents core (with_record entry past)
-applied core past entry new h =
-    subst (λ b. Represents core (cond b past (step_of entry ++ past))) (sym new) h
 
 -- ---- one record after another
 
@@ -102,29 +90,6 @@ one_more core bytes rest after past least many greatest raised before so (entry,
   subst (λ (p : List Step). Represents core p) (sym (records-append so.0 (entry ∷ []) past)) h,
   All-push RecordFits so.0 entry so.5 fits,
 )
-
--- the state of the loop, with why it ended
-pub applied_all : (core : StoreView) (bytes rest : List ℕ) (past : List Step) (least many greatest : ℕ)
-    (end : Option RecordFault) (result : Applied)
-    → (so : AppliedSoFar core bytes rest past least many greatest)
-    → IsLogEnd rest (with_records so.0 past) end
-    → result ≡ record { records = many; bytes = length bytes - length rest; threshold = greatest; end = end }
-    → AreApplied core bytes past least result
-applied_all core bytes rest past least many greatest end result so is made =
-    subst (λ r. AreApplied core bytes past least r) (sym made) (record {
-      records = so.0;
-      rest = rest;
-      bytes_are = so.1;
-      fit = so.5;
-      used =
-          let long : length bytes ≡ length (log_bytes so.0) + length rest =
-          ap length so.1 ∙ length-append (log_bytes so.0) rest in
-          omega (arith, long);
-      many = so.2;
-      threshold = so.3;
-      represents = so.4;
-      end = is;
-    })
 
 -- ---- read again
 
@@ -279,7 +244,7 @@ after-itself past (Join node start) legal =
     ]
 
 -- records put their steps before the past
-steps-of : (records : List Record) (past : List Step)
+pub steps-of : (records : List Record) (past : List Step)
     → (more : List Step) × (with_records records past ≡ more ++ past)
 steps-of [] past = ([], refl)
 steps-of (entry ∷ records) past =
@@ -310,23 +275,38 @@ all-passed (entry ∷ records) past legal =
       all-passed records here legal,
     )
 
-passed-all : (past : List Step) (again rest : List Record) → ArePassed past again
-    → with_records (again ++ rest) past ≡ with_records rest past
-passed-all past [] rest passed = refl
-passed-all past (entry ∷ again) rest passed =
-    ap (λ (p : List Step). with_records (again ++ rest) p) (passed-is past entry passed.0)
-    ∙ passed-all past again rest passed.1
+passed-front : (past : List Step) (again left : List Record) → ArePassed past (again ++ left) → ArePassed past again
+passed-front past [] left passed = tt
+passed-front past (entry ∷ again) left passed = (passed.0, passed-front past again left passed.1)
 
--- what was read changes nothing when it is read again
+passed-all : (past : List Step) (again : List Record) → ArePassed past again → with_records again past ≡ past
+passed-all past [] passed = refl
+passed-all past (entry ∷ again) passed =
+    ap (with_records again) (passed-is past entry passed.0) ∙ passed-all past again passed.1
+
+-- what was read changes nothing when a part of it is read again
+pub read-part : (past : List Step) (before again left : List Record)
+    → IsLegal (with_records (before ++ (again ++ left)) past)
+    → with_records again (with_records (before ++ (again ++ left)) past) ≡ with_records (before ++ (again ++ left)) past
+read-part past before again left legal =
+    let all : List Record = again ++ left in
+    let here : List Step = with_records before past in
+    let e = records-append before all past in
+    passed-all (with_records (before ++ all) past) again
+    (subst (λ (p : List Step). ArePassed p again) (sym e)
+    (passed-front (with_records all here) again left (all-passed all here (subst IsLegal e legal))))
+
+-- and what follows is read then
 pub read-again : (past : List Step) (before again rest : List Record)
     → IsLegal (with_records (before ++ again) past)
     → with_records (again ++ rest) (with_records (before ++ again) past)
     ≡ with_records rest (with_records (before ++ again) past)
 read-again past before again rest legal =
-    let e = records-append before again past in
-    passed-all (with_records (before ++ again) past) again rest
-    (subst (λ (p : List Step). ArePassed p again) (sym e)
-    (all-passed again (with_records before past) (subst IsLegal e legal)))
+    let same = λ (read : List Record). with_records again (with_records (before ++ read) past)
+    ≡ with_records (before ++ read) past in
+    records-append again rest (with_records (before ++ again) past)
+    ∙ ap (with_records rest) (subst (λ (r : List Record). IsLegal (with_records (before ++ r) past) → same r)
+    (append-nil again) (read-part past before again []) legal)
 
 -- a record that was read once is passed over, whatever took place since, but for a state
 pub once-passed : (past more : List Step) (entry : Record) → IsLegal (with_record entry past) → begun more ≡ []

@@ -12,7 +12,7 @@ pub use apply::{Applied, RecordFault, apply_records};
 pub use hlc_core::{Core, CoreFault, Item, ItemRef, Stamp};
 pub use hlc_saved::ResumeError;
 pub use hlc_wire::{DecodeError, EncodeError, WireFault};
-pub use laws::a_log_may_be_read_again;
+pub use laws::{a_log_may_be_read_again, recovered_stores_answer_as_replicas};
 pub use record::{
     Record, RecordRef, decode_record, encode_record, put_record, record_ref_at, record_size,
 };
