@@ -1,15 +1,13 @@
 -- Three lists side by side.
-use Rattle.std.proofs.Common.{◌≡◌, ℕ, zero, suc, ◌<◌, ◌≤◌, Bool, true, false, cond, eqb, ltb, ◌||◌, ◌&&◌, List, []}
-use Rattle.std.proofs.Common.{◌∷◌, ◌++◌, Option, Some, None, length, get_or, refl, sym, ap, ◌∙◌, subst, inl, inr, arith}
-use Rattle.std.proofs.Common.{All, slice_get, map, filter, leb, ◌+◌}
-use Rattle.std.proofs.lemmas.Bool.{cases_lt}
+use Rattle.std.proofs.Common.{◌≡◌, ℕ, zero, suc, ◌<◌, ◌≤◌, Bool, true, false, eqb, ltb, ◌||◌, ◌&&◌, List, []}
+use Rattle.std.proofs.Common.{option_map, sum_by, option_and_then, ◌∷◌, ◌++◌, Option, Some, None, length, get_or, refl}
+use Rattle.std.proofs.Common.{sym, ap, ◌∙◌, subst, inl, inr, arith, All, slice_get, map, filter, leb, ◌+◌}
+use Rattle.std.proofs.lemmas.Bool.{cases_lt, cases_Bool}
 use Rattle.std.proofs.lemmas.Bool.Decides.{nat_tests}
-use Rattle.std.specs.Prelude.{option_map, sum_by}
 use Rattle.std.proofs.lemmas.List.Sums.{sum_by-cons}
-use Rattle.std.proofs.lemmas.Option.{none-some, same_Some, slice_get_cases, slice_get-map}
+use Rattle.std.proofs.lemmas.Option.{none-some, same_Some, slice_get-map, slice_get-get_or}
 use Rattle.hlc_rows.specs.declared.row.Row.{Row}
 use Rattle.hlc_rows.specs.Rows.{newest, answer}
-use Rattle.std.specs.Prelude.{option_and_then}
 use Rattle.std.specs.List.{items_where_true}
 use Rattle.hlc_lanes.specs.Newest.{IsNewest}
 use Rattle.hlc_lanes.specs.Places.{IsGreatestNode, IsPlace}
@@ -20,46 +18,34 @@ use Rattle.hlc_table_column.proofs.FirstLemmas.{first_newest, none_newest}
 pub length_cells : (ss ns : List ℕ) (vs : List (Option (List ℕ))) → AreBeside ss ns vs
     → length (cells_of ss ns vs) ≡ length ss
 length_cells [] ns vs b = refl
-length_cells (s ∷ ss) [] vs b = absurd (let e = b.0 in omega (arith, e))
-length_cells (s ∷ ss) (n ∷ ns) [] b = absurd (let e = b.1 in omega (arith, e))
-length_cells (s ∷ ss) (n ∷ ns) (v ∷ vs) b =
-    ap suc (length_cells ss ns vs (let e = b.0 in omega (arith, e), let e = b.1 in omega (arith, e)))
+length_cells (s ∷ ss) (n ∷ ns) (v ∷ vs) b = ap suc (length_cells ss ns vs (omega arith, omega arith))
+length_cells ss ns vs b = absurd (omega arith)
 
 pub cells_push : (ss ns : List ℕ) (vs : List (Option (List ℕ))) (s n : ℕ) (v : Option (List ℕ)) → AreBeside ss ns vs
     → cells_of (ss ++ s ∷ []) (ns ++ n ∷ []) (vs ++ v ∷ [])
     ≡ cells_of ss ns vs ++ record { stamp = s; node = n; value = v } ∷ []
 cells_push [] [] [] s n v b = refl
-cells_push [] [] (w ∷ vs) s n v b = absurd (let e = b.1 in omega (arith, e))
-cells_push [] (m ∷ ns) vs s n v b = absurd (let e = b.0 in omega (arith, e))
-cells_push (t ∷ ss) [] vs s n v b = absurd (let e = b.0 in omega (arith, e))
-cells_push (t ∷ ss) (m ∷ ns) [] s n v b = absurd (let e = b.1 in omega (arith, e))
-cells_push (t ∷ ss) (m ∷ ns) (w ∷ vs) s n v b = ap (λ (cs : List Cell). record { stamp = t; node = m; value = w } ∷ cs)
-    (cells_push ss ns vs s n v (let e = b.0 in omega (arith, e), let e = b.1 in omega (arith, e)))
+cells_push (t ∷ ss) (m ∷ ns) (w ∷ vs) s n v b = rw (cells_push ss ns vs s n v (omega arith, omega arith)) refl
+cells_push ss ns vs s n v b = absurd (omega arith)
 
 -- the row at a position
 pub row_at : (ss ns : List ℕ) (vs : List (Option (List ℕ))) (key : List ℕ) (j : ℕ) (w : Row)
     → slice_get (rows_of key (cells_of ss ns vs)) j ≡ Some w
     → (j < length ss) × (w.key ≡ key) × (get_or ss j 0 ≡ w.stamp) × (get_or ns j 0 ≡ w.node)
-row_at [] ns vs key j w e = absurd (none-some w e)
-row_at (s ∷ ss) [] vs key j w e = absurd (none-some w e)
-row_at (s ∷ ss) (n ∷ ns) [] key j w e = absurd (none-some w e)
 row_at (s ∷ ss) (n ∷ ns) (v ∷ vs) key zero w e =
     let is = same_Some _ w e in
     (omega arith, ap (λ (x : Row). x.key) (sym is), ap (λ (x : Row). x.stamp) is, ap (λ (x : Row). x.node) is)
 row_at (s ∷ ss) (n ∷ ns) (v ∷ vs) key (suc j) w e =
     let h = row_at ss ns vs key j w e in
     (let l = h.0 in omega (arith, l), h.1, h.2, h.3)
+row_at ss ns vs key j w e = absurd (none-some w e)
 
 pub row_from : (ss ns : List ℕ) (vs : List (Option (List ℕ))) (key : List ℕ) (j : ℕ)
-    → AreBeside ss ns vs → j < length ss
-    → slice_get (rows_of key (cells_of ss ns vs)) j
+    → AreBeside ss ns vs → j < length ss → slice_get (rows_of key (cells_of ss ns vs)) j
     ≡ Some (record { key = key; stamp = get_or ss j 0; node = get_or ns j 0; value = get_or vs j None })
-row_from [] ns vs key j b l = absurd (omega (arith, l))
-row_from (s ∷ ss) [] vs key j b l = absurd (let e = b.0 in omega (arith, e))
-row_from (s ∷ ss) (n ∷ ns) [] key j b l = absurd (let e = b.1 in omega (arith, e))
 row_from (s ∷ ss) (n ∷ ns) (v ∷ vs) key zero b l = refl
-row_from (s ∷ ss) (n ∷ ns) (v ∷ vs) key (suc j) b l =
-    row_from ss ns vs key j (let e = b.0 in omega (arith, e), let e = b.1 in omega (arith, e)) (omega (arith, l))
+row_from (s ∷ ss) (n ∷ ns) (v ∷ vs) key (suc j) b l = row_from ss ns vs key j (omega arith, omega arith) (omega arith)
+row_from ss ns vs key j b l = absurd (omega arith)
 
 not_later : (s n t m : ℕ) → t ≤ s → (t ≡ s → m ≤ n) → (ltb s t || (eqb s t && ltb n m)) ≡ false
 not_later s n t m le at =
@@ -120,40 +106,26 @@ newest_missing ss ns vs bound above key =
     let h = row_at ss ns vs key j w e in
     subst (λ t. bound < t) h.2 (above j 0 h.0))
 
-pub value_there : (ss ns : List ℕ) (vs : List (Option (List ℕ))) (i : ℕ) (cell : Cell)
-    → slice_get (cells_of ss ns vs) i ≡ Some cell → slice_get vs i ≡ Some cell.value
-value_there [] ns vs i cell e = absurd (none-some cell e)
-value_there (s ∷ ss) [] vs i cell e = absurd (none-some cell e)
-value_there (s ∷ ss) (n ∷ ns) [] i cell e = absurd (none-some cell e)
-value_there (s ∷ ss) (n ∷ ns) (v ∷ vs) zero cell e = ap (λ (c : Cell). Some c.value) (same_Some _ cell e)
-value_there (s ∷ ss) (n ∷ ns) (v ∷ vs) (suc i) cell e = value_there ss ns vs i cell e
-
-pub stamp_there : (ss ns : List ℕ) (vs : List (Option (List ℕ))) (i : ℕ) (cell : Cell)
-    → slice_get (cells_of ss ns vs) i ≡ Some cell → slice_get ss i ≡ Some cell.stamp
-stamp_there [] ns vs i cell e = absurd (none-some cell e)
-stamp_there (s ∷ ss) [] vs i cell e = absurd (none-some cell e)
-stamp_there (s ∷ ss) (n ∷ ns) [] i cell e = absurd (none-some cell e)
-stamp_there (s ∷ ss) (n ∷ ns) (v ∷ vs) zero cell e = ap (λ (c : Cell). Some c.stamp) (same_Some _ cell e)
-stamp_there (s ∷ ss) (n ∷ ns) (v ∷ vs) (suc i) cell e = stamp_there ss ns vs i cell e
-
-pub node_there : (ss ns : List ℕ) (vs : List (Option (List ℕ))) (i : ℕ) (cell : Cell)
-    → slice_get (cells_of ss ns vs) i ≡ Some cell → slice_get ns i ≡ Some cell.node
-node_there [] ns vs i cell e = absurd (none-some cell e)
-node_there (s ∷ ss) [] vs i cell e = absurd (none-some cell e)
-node_there (s ∷ ss) (n ∷ ns) [] i cell e = absurd (none-some cell e)
-node_there (s ∷ ss) (n ∷ ns) (v ∷ vs) zero cell e = ap (λ (c : Cell). Some c.node) (same_Some _ cell e)
-node_there (s ∷ ss) (n ∷ ns) (v ∷ vs) (suc i) cell e = node_there ss ns vs i cell e
+-- what is at a position of each list
+pub each_there : (ss ns : List ℕ) (vs : List (Option (List ℕ))) (i : ℕ) (cell : Cell)
+    → slice_get (cells_of ss ns vs) i ≡ Some cell
+    → (slice_get ss i ≡ Some cell.stamp) × (slice_get ns i ≡ Some cell.node) × (slice_get vs i ≡ Some cell.value)
+each_there (s ∷ ss) (n ∷ ns) (v ∷ vs) zero cell e =
+    let is = same_Some _ cell e in
+    (ap (λ (c : Cell). Some c.stamp) is, ap (λ (c : Cell). Some c.node) is, ap (λ (c : Cell). Some c.value) is)
+each_there (s ∷ ss) (n ∷ ns) (v ∷ vs) (suc i) cell e = each_there ss ns vs i cell e
+each_there ss ns vs i cell e = absurd (none-some cell e)
 
 -- the row of what is at a position in each list
 pub cell_there : (ss ns : List ℕ) (vs : List (Option (List ℕ))) (i s n : ℕ) (v : Option (List ℕ))
     → slice_get ss i ≡ Some s → slice_get ns i ≡ Some n → slice_get vs i ≡ Some v
     → slice_get (cells_of ss ns vs) i ≡ Some (record { stamp = s; node = n; value = v })
-cell_there [] ns vs i s n v es en ev = absurd (none-some s es)
-cell_there (x ∷ ss) [] vs i s n v es en ev = absurd (none-some n en)
-cell_there (x ∷ ss) (y ∷ ns) [] i s n v es en ev = absurd (none-some v ev)
 cell_there (x ∷ ss) (y ∷ ns) (w ∷ vs) zero s n v es en ev =
     rw (same_Some x s es, same_Some y n en, same_Some w v ev) refl
 cell_there (x ∷ ss) (y ∷ ns) (w ∷ vs) (suc i) s n v es en ev = cell_there ss ns vs i s n v es en ev
+cell_there [] ns vs i s n v es en ev = absurd (none-some s es)
+cell_there ss [] vs i s n v es en ev = absurd (none-some n en)
+cell_there ss ns [] i s n v es en ev = absurd (none-some v ev)
 
 -- the answer from the position of the newest
 pub answer_there : (cells : List Cell) (key : List ℕ) (bound i : ℕ) (value_here : Option (List ℕ)) → i < length cells
@@ -161,44 +133,26 @@ pub answer_there : (cells : List Cell) (key : List ℕ) (bound i : ℕ) (value_h
     → ((cell : Cell) → slice_get cells i ≡ Some cell → value_here ≡ cell.value) → value_here
     ≡ answer (rows_of key cells) key bound
 answer_there cells key bound i value_here l at is =
-    elim (slice_get cells i) as (λ o. slice_get cells i ≡ o
-    → value_here ≡ option_and_then (λ (r : Row). r.value) (newest (rows_of key cells) key bound)) [
-      | None ↦ λ e. absurd (let h = slice_get_cases cells i in elim h.1 [
-        | inl (x, lt, is_some, r) ↦ none-some x (sym e ∙ is_some)
-        | inr (ge, r) ↦ omega (arith, ge, l)
-      ])
-      | Some cell ↦ λ e. is cell e ∙ ap (option_and_then (λ (r : Row). r.value))
-          (sym (ap (option_map (row_of key)) e) ∙ sym (slice_get-map (row_of key) cells i) ∙ at)
-    ] refl
+    let cell = slice_get-get_or cells i (record { stamp = 0; node = 0; value = None }) l in
+    is _ cell ∙ ap (option_and_then (λ (r : Row). r.value))
+    (sym (slice_get-map (row_of key) cells i ∙ ap (option_map (row_of key)) cell) ∙ at)
 
 pub cells_chosen : (bs : List Bool) (ss ns : List ℕ) (vs : List (Option (List ℕ))) → AreBeside ss ns vs
     → cells_of (items_where_true bs ss) (items_where_true bs ns) (items_where_true bs vs)
     ≡ items_where_true bs (cells_of ss ns vs)
-cells_chosen [] [] [] [] b = refl
-cells_chosen [] [] [] (w ∷ vs) b = absurd (let e = b.1 in omega (arith, e))
-cells_chosen [] [] (m ∷ ns) vs b = absurd (let e = b.0 in omega (arith, e))
-cells_chosen [] (s ∷ ss) [] vs b = absurd (let e = b.0 in omega (arith, e))
-cells_chosen [] (s ∷ ss) (m ∷ ns) [] b = absurd (let e = b.1 in omega (arith, e))
-cells_chosen [] (s ∷ ss) (m ∷ ns) (v ∷ vs) b = refl
+cells_chosen [] ss ns vs b = refl
 cells_chosen (f ∷ bs) [] [] [] b = refl
-cells_chosen (f ∷ bs) [] [] (w ∷ vs) b = absurd (let e = b.1 in omega (arith, e))
-cells_chosen (f ∷ bs) [] (m ∷ ns) vs b = absurd (let e = b.0 in omega (arith, e))
-cells_chosen (f ∷ bs) (s ∷ ss) [] vs b = absurd (let e = b.0 in omega (arith, e))
-cells_chosen (f ∷ bs) (s ∷ ss) (m ∷ ns) [] b = absurd (let e = b.1 in omega (arith, e))
-cells_chosen (true ∷ bs) (s ∷ ss) (n ∷ ns) (v ∷ vs) b =
-    ap (λ (cs : List Cell). record { stamp = s; node = n; value = v } ∷ cs)
-    (cells_chosen bs ss ns vs (let e = b.0 in omega (arith, e), let e = b.1 in omega (arith, e)))
-cells_chosen (false ∷ bs) (s ∷ ss) (n ∷ ns) (v ∷ vs) b =
-    cells_chosen bs ss ns vs (let e = b.0 in omega (arith, e), let e = b.1 in omega (arith, e))
+cells_chosen (true ∷ bs) (s ∷ ss) (n ∷ ns) (v ∷ vs) b = rw (cells_chosen bs ss ns vs (omega arith, omega arith)) refl
+cells_chosen (false ∷ bs) (s ∷ ss) (n ∷ ns) (v ∷ vs) b = cells_chosen bs ss ns vs (omega arith, omega arith)
+cells_chosen bs ss ns vs b = absurd (omega arith)
 
 pub length_chosen_same : {X Y : Type 0} (bs : List Bool) (xs : List X) (ys : List Y) → length xs ≡ length ys
     → length (items_where_true bs xs) ≡ length (items_where_true bs ys)
 length_chosen_same [] xs ys e = refl
 length_chosen_same (b ∷ bs) [] [] e = refl
-length_chosen_same (b ∷ bs) [] (y ∷ ys) e = absurd (omega (arith, e))
-length_chosen_same (b ∷ bs) (x ∷ xs) [] e = absurd (omega (arith, e))
-length_chosen_same (true ∷ bs) (x ∷ xs) (y ∷ ys) e = ap suc (length_chosen_same bs xs ys (omega (arith, e)))
-length_chosen_same (false ∷ bs) (x ∷ xs) (y ∷ ys) e = length_chosen_same bs xs ys (omega (arith, e))
+length_chosen_same (true ∷ bs) (x ∷ xs) (y ∷ ys) e = ap suc (length_chosen_same bs xs ys (omega arith))
+length_chosen_same (false ∷ bs) (x ∷ xs) (y ∷ ys) e = length_chosen_same bs xs ys (omega arith)
+length_chosen_same bs xs ys e = absurd (omega arith)
 
 pub beside_chosen : (bs : List Bool) (ss ns : List ℕ) (vs : List (Option (List ℕ))) → AreBeside ss ns vs
     → AreBeside (items_where_true bs ss) (items_where_true bs ns) (items_where_true bs vs)
@@ -207,19 +161,14 @@ beside_chosen bs ss ns vs b = (length_chosen_same bs ns ss b.0, length_chosen_sa
 pub stamps_of_cells : (ss ns : List ℕ) (vs : List (Option (List ℕ))) → AreBeside ss ns vs
     → ss ≡ map (λ (c : Cell). c.stamp) (cells_of ss ns vs)
 stamps_of_cells [] ns vs b = refl
-stamps_of_cells (s ∷ ss) [] vs b = absurd (let e = b.0 in omega (arith, e))
-stamps_of_cells (s ∷ ss) (n ∷ ns) [] b = absurd (let e = b.1 in omega (arith, e))
-stamps_of_cells (s ∷ ss) (n ∷ ns) (v ∷ vs) b =
-    ap (λ xs. s ∷ xs) (stamps_of_cells ss ns vs (let e = b.0 in omega (arith, e), let e = b.1 in omega (arith, e)))
+stamps_of_cells (s ∷ ss) (n ∷ ns) (v ∷ vs) b = ap (λ xs. s ∷ xs) (stamps_of_cells ss ns vs (omega arith, omega arith))
+stamps_of_cells ss ns vs b = absurd (omega arith)
 
 pub nodes_of_cells : (ss ns : List ℕ) (vs : List (Option (List ℕ))) → AreBeside ss ns vs
     → ns ≡ map (λ (c : Cell). c.node) (cells_of ss ns vs)
 nodes_of_cells [] [] vs b = refl
-nodes_of_cells [] (n ∷ ns) vs b = absurd (let e = b.0 in omega (arith, e))
-nodes_of_cells (s ∷ ss) [] vs b = absurd (let e = b.0 in omega (arith, e))
-nodes_of_cells (s ∷ ss) (n ∷ ns) [] b = absurd (let e = b.1 in omega (arith, e))
-nodes_of_cells (s ∷ ss) (n ∷ ns) (v ∷ vs) b =
-    ap (λ xs. n ∷ xs) (nodes_of_cells ss ns vs (let e = b.0 in omega (arith, e), let e = b.1 in omega (arith, e)))
+nodes_of_cells (s ∷ ss) (n ∷ ns) (v ∷ vs) b = ap (λ xs. n ∷ xs) (nodes_of_cells ss ns vs (omega arith, omega arith))
+nodes_of_cells ss ns vs b = absurd (omega arith)
 
 -- a row made of the stamp, the node and the value at a position
 pub row_made : (cells : List Cell) (key : List ℕ) (place stamp node : ℕ) (value : Option (List ℕ))
@@ -229,12 +178,7 @@ pub row_made : (cells : List Cell) (key : List ℕ) (place stamp node : ℕ) (va
     → slice_get (rows_of key cells) place ≡ Some (record { key = key; stamp = stamp; node = node; value = value })
 row_made [] key place stamp node value s n v = absurd (none-some stamp s)
 row_made (c ∷ cs) key zero stamp node value s n v =
-    let same : ◌≡◌ {A = Row} (record { key = key; stamp = c.stamp; node = c.node; value = c.value })
-    (record { key = key; stamp = stamp; node = node; value = value }) =
-    ap (λ (x : ℕ). record { key = key; stamp = x; node = c.node; value = c.value }) (same_Some c.stamp stamp s)
-    ∙ ap (λ (x : ℕ). record { key = key; stamp = stamp; node = x; value = c.value }) (same_Some c.node node n)
-    ∙ ap (λ (x : Option (List ℕ)). record { key = key; stamp = stamp; node = node; value = x }) (sym (v c refl)) in
-    ap Some same
+    rw (← (same_Some c.stamp stamp s), ← (same_Some c.node node n), v c refl) refl
 row_made (c ∷ cs) key (suc place) stamp node value s n v = row_made cs key place stamp node value s n v
 
 -- there are as many rows at or below a bound as stamps
@@ -242,24 +186,16 @@ pub rows_within : (bound : ℕ) (key : List ℕ) (cells : List Cell)
     → length (filter (λ (r : Row). leb r.stamp bound) (rows_of key cells))
     ≡ length (filter (λ s. leb s bound) (map (λ (c : Cell). c.stamp) cells))
 rows_within bound key [] = refl
-rows_within bound key (c ∷ cs) =
-    let rest = rows_within bound key cs in
-    elim (leb c.stamp bound) as (λ b. length
-    (cond b (row_of key c ∷ filter (λ (r : Row). leb r.stamp bound) (rows_of key cs))
-    (filter (λ (r : Row). leb r.stamp bound) (rows_of key cs)))
-    ≡ length (cond b (c.stamp ∷ filter (λ s. leb s bound) (map (λ (d : Cell). d.stamp) cs))
-    (filter (λ s. leb s bound) (map (λ (d : Cell). d.stamp) cs)))) [ true ↦ ap suc rest | false ↦ rest ]
+rows_within bound key (c ∷ cs) = elim (cases_Bool (leb c.stamp bound)) [
+  | inl t ↦ rw (t, rows_within bound key cs) refl
+  | inr f ↦ rw (f, rows_within bound key cs) refl
+]
 
 -- the values of a column
 pub cells_values : (ss ns : List ℕ) (vs : List (Option (List ℕ))) → AreBeside ss ns vs
     → sum_by value_bytes vs ≡ sum_by cell_bytes (cells_of ss ns vs)
 cells_values [] [] [] b = refl
-cells_values [] [] (v ∷ vs) b = absurd (let e = b.1 in omega (arith, e))
-cells_values [] (n ∷ ns) vs b = absurd (let e = b.0 in omega (arith, e))
-cells_values (s ∷ ss) [] vs b = absurd (let e = b.0 in omega (arith, e))
-cells_values (s ∷ ss) (n ∷ ns) [] b = absurd (let e = b.1 in omega (arith, e))
 cells_values (s ∷ ss) (n ∷ ns) (v ∷ vs) b =
-    sum_by-cons value_bytes v vs
-    ∙ ap (λ m. value_bytes v + m)
-    (cells_values ss ns vs (let e = b.0 in omega (arith, e), let e = b.1 in omega (arith, e)))
+    sum_by-cons value_bytes v vs ∙ ap (λ m. value_bytes v + m) (cells_values ss ns vs (omega arith, omega arith))
     ∙ sym (sum_by-cons cell_bytes (record { stamp = s; node = n; value = v }) (cells_of ss ns vs))
+cells_values ss ns vs b = absurd (omega arith)

@@ -1,9 +1,10 @@
 -- The members of a list whose flags are set: of two lists one after the other, after a map, and of a row set, where
 -- they are a row set again since each was in it; so are the rows that pass a test. Each is shown by going through the
 -- list.
-use Rattle.std.proofs.Common.{◌≡◌, Bool, true, false, List, [], ◌∷◌, ◌++◌, length, refl, ap, inl, inr}
-use Rattle.std.proofs.Common.{arith, cond, Contains, filter, map, take, drop}
+use Rattle.std.proofs.Common.{◌≡◌, Bool, true, false, List, [], ◌∷◌, ◌++◌, length, refl, ap, inl, inr, arith, Contains}
+use Rattle.std.proofs.Common.{filter, map, take, drop}
 use Rattle.std.specs.List.{items_where_true}
+use Rattle.std.proofs.lemmas.Bool.{cond_both}
 use Rattle.hlc_values.proofs.MemberLemmas.{Contains-rest, Contains-cons_cases, Contains-from_filter}
 use Rattle.hlc_rows.specs.declared.row.Row.{Row}
 use Rattle.hlc_rows.specs.Rows.{IsRowSet}
@@ -48,7 +49,6 @@ flagged-IsRowSet (false ∷ flags) (row ∷ rows) apart = flagged-IsRowSet flags
 pub filter-IsRowSet : (p : Row → Bool) (rows : List Row) → IsRowSet rows → IsRowSet (filter p rows)
 filter-IsRowSet p [] apart = tt
 filter-IsRowSet p (row ∷ rows) apart =
-    elim (p row) as (λ b. IsRowSet (cond b (row ∷ filter p rows) (filter p rows))) [
-      | true ↦ (λ other i. apart.0 other (Contains-from_filter p rows other i).0, filter-IsRowSet p rows apart.1)
-      | false ↦ filter-IsRowSet p rows apart.1
-    ]
+    cond_both (p row) (row ∷ filter p rows) (filter p rows) IsRowSet
+    (λ t. (λ other i. apart.0 other (Contains-from_filter p rows other i).0, filter-IsRowSet p rows apart.1))
+    (λ f. filter-IsRowSet p rows apart.1)

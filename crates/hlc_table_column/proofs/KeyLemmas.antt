@@ -1,11 +1,10 @@
 -- The versions of a key are the rows of its column that a table has, in the order of their stamps and nodes.
-use Rattle.std.proofs.Common.{◌≡◌, ◌↔◌, ◌<◌, ◌+◌, ◌&&◌, ◌∷◌, ◌∙◌, ℕ, zero, suc, List, [], Bool, true, false, cond}
-use Rattle.std.proofs.Common.{ltb, leb, length, refl, sym, ap, ap₂, subst, inl, inr, arith, Contains, filter, slice_get}
-use Rattle.std.proofs.Common.{true≢false, Option, Some, None, Bor, ◌⊎◌}
-use Rattle.std.specs.Prelude.{IfSome, IsNone, option_copied}
+use Rattle.std.proofs.Common.{◌≡◌, ◌<◌, ◌+◌, ◌&&◌, ◌∷◌, ◌∙◌, ℕ, zero, suc, List, [], Bool, true, false, lt-ltb, le-leb}
+use Rattle.std.proofs.Common.{ltb-true, leb-true, ltb, leb, length, refl, sym, ap, ap₂, subst, inl, inr, arith}
+use Rattle.std.proofs.Common.{Contains, slice_get, Option, Some, None, ◌⊎◌}
 use Rattle.std.specs.Str.{bytes_eq}
-use Rattle.std.proofs.lemmas.Bool.{lt-ltb, le-leb, ltb-true, leb-true, and_parts}
-use Rattle.std.proofs.lemmas.Option.{same_Some, slice_get_within, get_or_from_slice_get}
+use Rattle.std.proofs.lemmas.Bool.{and_parts}
+use Rattle.std.proofs.lemmas.Option.{same_Some, slice_get_within, slice_get-get_or, get_or_from_slice_get}
 use Rattle.std.proofs.lemmas.Slice.Eq.{bytes_eq-Decides}
 use Rattle.hlc_values.proofs.MemberLemmas.{Contains-none, Contains-first, Contains-rest, Contains-cons_cases}
 use Rattle.hlc_values.proofs.MemberLemmas.{Contains-filter, Contains-from_filter, Contains-map}
@@ -13,19 +12,15 @@ use Rattle.hlc_rows.specs.declared.row.Row.{Row}
 use Rattle.hlc_rows.specs.Rows.{IsRowSet}
 use Rattle.hlc_table_column.specs.Cells.{Cell}
 use Rattle.hlc_table_column.specs.Rows.{row_of, rows_of, rows_with}
-use Rattle.hlc_table_column.specs.Cells.{cells_in}
 use Rattle.hlc_table_column.specs.Versions.{AreVersions, AreApart, IsNoNewer, IsNewestLeft, is_left, is_before}
 use Rattle.hlc_table_column.specs.Versions.{versions_left}
+use Rattle.hlc_table_column.proofs.FlagLemmas.{filter-IsRowSet}
 use Rattle.hlc_table_column.proofs.Newer.{left_from, left_in, left_pairs, none_left, next_left, no_newer_trans}
 use Rattle.hlc_table_column.proofs.Newer.{older_no_newer, other_no_newer}
 
 -- ---- places
 place_of : {X : Type 0} (xs : List X) (x : X) → Contains xs x → (i : ℕ) × (i < length xs) × (slice_get xs i ≡ Some x)
-place_of [] x m = absurd (Contains-none x m)
-place_of (y ∷ ys) x m = elim (Contains-cons_cases y x ys m) [
-  | inl same ↦ (0, omega arith, ap (λ z. Some z) same)
-  | inr there ↦ let r = place_of ys x there in (suc r.0, let l = r.1 in omega (arith, l), r.2)
-]
+place_of xs x m = (m.0, m.1, slice_get-get_or xs m.0 x m.1 ∙ ap (λ z. Some z) m.2)
 
 pub at_place : {X : Type 0} (xs : List X) (i : ℕ) → i < length xs → (x : X) × (slice_get xs i ≡ Some x)
 at_place [] i lt = absurd (omega (arith, lt))
@@ -45,23 +40,6 @@ module _ (from to : ℕ) (last : Option (ℕ × ℕ)) (cells : List Cell) (place
 
   same_here : (i : ℕ) (cell : Cell) → slice_get cells i ≡ Some cell → i ≡ place → cell ≡ here
   same_here i cell is same = same_Some cell here (sym is ∙ ap (slice_get cells) same ∙ at)
-
-  -- one more cell that is not left
-  pub one_passed : (best : Option ℕ) → left here ≡ false → IsNewestLeft from to last cells place best
-      → IsNewestLeft from to last cells (place + 1) best
-  one_passed None unwanted none = λ i cell lt is wanted. elim (below_or_at place i lt) [
-    | inl below ↦ none i cell below is wanted
-    | inr same ↦ absurd (true≢false (sym wanted ∙ ap left (same_here i cell is same) ∙ unwanted))
-  ]
-  one_passed (Some best) unwanted (newest, found, is_one, top) = (
-    newest,
-    found,
-    is_one,
-    λ i cell lt is wanted. elim (below_or_at place i lt) [
-      | inl below ↦ top i cell below is wanted
-      | inr same ↦ absurd (true≢false (sym wanted ∙ ap left (same_here i cell is same) ∙ unwanted))
-    ],
-  )
 
   no_newer_itself : (cell : Cell) → cell ≡ here → IsNoNewer cell here
   no_newer_itself cell same =
@@ -85,8 +63,7 @@ module _ (from to : ℕ) (last : Option (ℕ × ℕ)) (cells : List Cell) (place
   )
 
   -- a newer one
-  pub one_newer : (best : ℕ) → left here ≡ true
-      → ((cell : Cell) → slice_get cells best ≡ Some cell
+  pub one_newer : (best : ℕ) → left here ≡ true → ((cell : Cell) → slice_get cells best ≡ Some cell
       → is_before cell.stamp cell.node here.stamp here.node ≡ true)
       → IsNewestLeft from to last cells place (Some best) → IsNewestLeft from to last cells (place + 1) (Some place)
   one_newer best wanted older (newest, found, is_one, top) = (
@@ -118,8 +95,7 @@ module _ (from to : ℕ) (last : Option (ℕ × ℕ)) (cells : List Cell) (place
 -- the newest of all is the next version
 pub next_is : (cells : List Cell) (from to : ℕ) (last : Option (ℕ × ℕ)) (place : ℕ) → AreApart cells
     → IsNewestLeft from to last cells (length cells) (Some place)
-    → (newest : Cell) × (slice_get cells place ≡ Some newest)
-    × (versions_left cells from to last
+    → (newest : Cell) × (slice_get cells place ≡ Some newest) × (versions_left cells from to last
     ≡ newest ∷ versions_left cells from to (Some (newest.stamp, newest.node)))
 next_is cells from to last place apart (newest, found, wanted, top) = (
   newest,
@@ -136,19 +112,9 @@ none_is cells from to last none =
 
 pub read_is : (stamp node : ℕ) (value : Option (List ℕ)) (cell : Cell) → stamp ≡ cell.stamp → node ≡ cell.node
     → value ≡ cell.value → record { stamp = stamp; node = node; value = value } ≡ cell
-read_is stamp node value cell p q r =
-    ap₂ {C = Cell} (λ s n. record { stamp = s; node = n; value = value }) p q
-    ∙ ap {B = Cell} (λ v. record { stamp = cell.stamp; node = cell.node; value = v }) r
+read_is stamp node value cell p q r = rw (p, q, r) refl
 
 -- ---- of a table
-row_set_filter : (p : Row → Bool) (rows : List Row) → IsRowSet rows → IsRowSet (filter p rows)
-row_set_filter p [] apart = tt
-row_set_filter p (row ∷ rows) apart =
-    elim (p row) as (λ b. IsRowSet (cond b (row ∷ filter p rows) (filter p rows))) [
-      | true ↦ (λ other m. apart.0 other (Contains-from_filter p rows other m).0, row_set_filter p rows apart.1)
-      | false ↦ row_set_filter p rows apart.1
-    ]
-
 cells_apart : (key : List ℕ) (cells : List Cell) → IsRowSet (rows_of key cells) → AreApart cells
 cells_apart key [] apart = tt
 cells_apart key (cell ∷ cells) apart = (
@@ -160,13 +126,7 @@ cells_apart key (cell ∷ cells) apart = (
 pub column_apart : (key : List ℕ) (rows : List Row) (cells : List Cell) → IsRowSet rows
     → rows_of key cells ≡ rows_with key rows → AreApart cells
 column_apart key rows cells apart is =
-    cells_apart key cells (subst IsRowSet (sym is) (row_set_filter (λ row. bytes_eq row.key key) rows apart))
-
-pub column_rows : (o : Option (Bor (List Cell))) (key : List ℕ) (rows : List Row)
-    → IfSome o (λ column. rows_of key column.now ≡ rows_with key rows) → IsNone o ↔ (rows_with key rows ≡ [])
-    → rows_of key (cells_in (option_copied o)) ≡ rows_with key rows
-column_rows None key rows some none = sym (none.0 refl)
-column_rows (Some column) key rows some none = some
+    cells_apart key cells (subst IsRowSet (sym is) (filter-IsRowSet (λ row. bytes_eq row.key key) rows apart))
 
 cell_from : (key : List ℕ) (cells : List Cell) (cell : Cell) → Contains (rows_of key cells) (row_of key cell)
     → Contains cells cell

@@ -1,22 +1,14 @@
 -- Rows that move from one place to another: one more row in each list, the first rows of longer lists, and the room of
 -- lists.
-use Rattle.std.proofs.Common.{◌≡◌, ◌<◌, ◌≤◌, ◌+◌, ℕ, zero, suc, List, [], ◌∷◌, ◌++◌, length, take, drop, slice_get}
-use Rattle.std.proofs.Common.{Bool, Option, Some, sym, ap, ap₂, ◌∙◌, refl, subst, arith, add-one, set}
-use Rattle.std.specs.Prelude.{min}
+use Rattle.std.proofs.Common.{◌≡◌, ◌<◌, ◌≤◌, ◌+◌, ℕ, zero, suc, List, [], ◌∷◌, ◌++◌, length, take, drop, slice_get, min}
+use Rattle.std.proofs.Common.{length-take-le, Bool, Option, Some, sym, ap, ap₂, ◌∙◌, refl, subst, arith, add-one, set}
 use Rattle.std.proofs.lemmas.Option.{none-some, same_Some}
-use Rattle.std.proofs.lemmas.List.{length-take-le, take_more_set}
+use Rattle.std.proofs.lemmas.List.{take_more_set}
 use Rattle.std.specs.List.{items_where_true}
 use Rattle.hlc_table_column.specs.Cells.{Cell, CellsWithRoom, cells_of, AreBeside}
 use Rattle.hlc_table_order.specs.Order.{IsIndex}
 use Rattle.hlc_table_column.proofs.Beside.{length_cells, cells_push, cell_there, cells_chosen, length_chosen_same}
 use Rattle.hlc_table_column.proofs.Chosen.{chosen_front}
-
--- what is at a position is the first of the rest
-pub rest_at : {X : Type 0} (xs : List X) (i : ℕ) (x : X) → slice_get xs i ≡ Some x
-    → drop i xs ≡ x ∷ drop (i + 1) xs
-rest_at [] i x e = absurd (none-some x e)
-rest_at (y ∷ ys) zero x e = ap (λ z. z ∷ ys) (same_Some y x e)
-rest_at (y ∷ ys) (suc i) x e = rw add-one (rw add-one at (rest_at ys i x e))
 
 -- what is at a position is at the same position where the rest is the same
 pub at_same : {X : Type 0} (xs ys : List X) (i : ℕ) (x : X) → drop i xs ≡ drop i ys → slice_get xs i ≡ Some x
@@ -136,8 +128,7 @@ pub front_chosen : (bs : List Bool) (len N k kn ks : ℕ) (ss ns ss_new ns_new :
     (vs vs_new : List (Option (List ℕ))) (now : List Cell) → len ≤ N → length ss ≡ N → length ns ≡ N → length vs ≡ N
     → length bs ≡ len → ks ≤ length ss_new → kn ≤ length ns_new → k ≤ length vs_new
     → take ks ss_new ≡ items_where_true bs ss → take kn ns_new ≡ items_where_true bs ns
-    → take k vs_new ≡ items_where_true bs vs
-    → cells_of (take len ss) (take len ns) (take len vs) ≡ now
+    → take k vs_new ≡ items_where_true bs vs → cells_of (take len ss) (take len ns) (take len vs) ≡ now
     → cells_of (take k ss_new) (take k ns_new) (take k vs_new) ≡ items_where_true bs now
 front_chosen bs len N k kn ks ss ns ss_new ns_new vs vs_new now le a b c flags fs fn fv es en ev is =
     let front_s = es ∙ chosen_front bs ss len (omega (arith, flags)) in

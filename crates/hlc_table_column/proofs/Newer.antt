@@ -1,9 +1,12 @@
 -- Cells in the order of their stamps and nodes: sorted, and the newest of those that are still to come.
-use Rattle.std.proofs.Common.{◌≡◌, ◌⊎◌, ◌<◌, ◌≤◌, ◌&&◌, ◌||◌, ◌∷◌, ◌∙◌, ℕ, zero, suc, List, [], Bool, true, false}
-use Rattle.std.proofs.Common.{cond, eqb, ltb, leb, length, get_or, refl, sym, ap, ap₂, subst, inl, inr, arith, Contains}
-use Rattle.std.proofs.Common.{filter, true≢false, Option, Some, None}
+use Rattle.std.proofs.Common.{◌≡◌, ◌⊎◌, ◌<◌, ◌≤◌, ◌&&◌, ◌∷◌, ◌∙◌, ℕ, zero, suc, List, [], Bool, true, false, ltb, leb}
+use Rattle.std.proofs.Common.{length, get_or, refl, sym, ap, ap₂, subst, inl, inr, arith, Contains, filter, Option}
+use Rattle.std.proofs.Common.{Some, None}
 use Rattle.std.specs.List.{AllPairs}
-use Rattle.std.proofs.lemmas.Bool.{cases_Bool, cases_lt, cases_order, and_parts}
+use Rattle.std.specs.List.Sorted.{IsPermutation}
+use Rattle.std.proofs.lemmas.List.Sorted.{IsPermutation-refl, IsPermutation-sym, IsPermutation-trans}
+use Rattle.std.proofs.lemmas.List.Sorted.{IsPermutation-cons, IsPermutation-middle, Contains-permutation}
+use Rattle.std.proofs.lemmas.Bool.{cond_both, cases_lt, and_parts}
 use Rattle.std.proofs.lemmas.Bool.Decides.{nat_tests}
 use Rattle.std.proofs.lemmas.List.{get_or_default}
 use Rattle.hlc_values.proofs.MemberLemmas.{Contains-none, Contains-first, Contains-rest, Contains-cons_cases}
@@ -11,52 +14,24 @@ use Rattle.hlc_values.proofs.MemberLemmas.{Contains-filter, Contains-from_filter
 use Rattle.hlc_values.proofs.SortedLemmas.{same_members}
 use Rattle.hlc_table_column.specs.Cells.{Cell}
 use Rattle.hlc_table_column.specs.Versions.{IsNewer, IsNoNewer, AreApart, is_before, is_after, is_left, placed}
-use Rattle.hlc_table_column.specs.Versions.{newest_first}
-use Rattle.hlc_table_column.specs.Versions.{versions_left}
+use Rattle.hlc_table_column.specs.Versions.{newest_first, versions_left}
 
 -- ---- the order of stamps and nodes
-not_before : (s n t m : ℕ) → t ≤ s → (t ≡ s → m ≤ n) → (ltb s t || (eqb s t && ltb n m)) ≡ false
-not_before s n t m le at =
-    elim (cases_lt t s) [
-      | inl l ↦ grind (arith, nat_tests)
-      | inr g ↦ let e : t ≡ s = omega (arith, le, g) in let h = at e in grind (arith, nat_tests)
-    ]
-
-surely_before : (s n t m : ℕ) → s ≤ t → (s ≡ t → n < m) → (ltb s t || (eqb s t && ltb n m)) ≡ true
-surely_before s n t m le at =
-    elim (cases_lt s t) [
-      | inl l ↦ grind (arith, nat_tests)
-      | inr g ↦ let e : s ≡ t = omega (arith, le, g) in let h = at e in grind (arith, nat_tests)
-    ]
-
 before_is : (s n t m : ℕ) → is_before s n t m ≡ true → (s < t) ⊎ ((s ≡ t) × (n < m))
-before_is s n t m h =
-    elim (cases_order s t) [
-      | inl e ↦ elim (cases_lt n m) [
-        | inl l ↦ inr (e, l)
-        | inr g ↦ absurd (true≢false (sym h ∙ not_before s n t m (omega (arith, e)) (λ same. g)))
-      ]
-      | inr (inl l) ↦ inl l
-      | inr (inr g) ↦ absurd (true≢false (sym h ∙ not_before s n t m (omega (arith, g))
-          (λ same. absurd (omega (arith, g, same)))))
-    ]
+before_is s n t m h = elim (cases_lt s t) [
+  | inl l ↦ inl l
+  | inr g ↦ inr (grind (arith, nat_tests), grind (arith, nat_tests))
+]
 
 not_before_is : (s n t m : ℕ) → is_before s n t m ≡ false → (t < s) ⊎ ((t ≡ s) × (m ≤ n))
-not_before_is s n t m h =
-    elim (cases_order s t) [
-      | inl e ↦ elim (cases_lt n m) [
-        | inl l ↦ absurd (true≢false (sym (surely_before s n t m (omega (arith, e)) (λ same. l)) ∙ h))
-        | inr g ↦ inr (sym e, g)
-      ]
-      | inr (inl l) ↦ absurd (true≢false (sym (surely_before s n t m (omega (arith, l))
-          (λ same. absurd (omega (arith, l, same)))) ∙ h))
-      | inr (inr g) ↦ inl g
-    ]
+not_before_is s n t m h = elim (cases_lt t s) [
+  | inl l ↦ inl l
+  | inr g ↦ inr (grind (arith, nat_tests), grind (arith, nat_tests))
+]
 
 is_newer : (a b : Cell) → IsNewer a b → is_before b.stamp b.node a.stamp a.node ≡ true
-is_newer a b (inl l) =
-    surely_before b.stamp b.node a.stamp a.node (omega (arith, l)) (λ same. absurd (omega (arith, l, same)))
-is_newer a b (inr (e, l)) = surely_before b.stamp b.node a.stamp a.node (omega (arith, e)) (λ same. l)
+is_newer a b (inl l) = grind (arith, nat_tests)
+is_newer a b (inr (e, l)) = grind (arith, nat_tests)
 
 newer_trans : (a b c : Cell) → IsNewer a b → IsNewer b c → IsNewer a c
 newer_trans a b c (inl p) (inl q) = inl (omega (arith, p, q))
@@ -100,56 +75,24 @@ falls_at (cell ∷ cells) falls zero (suc j) d lt l =
 falls_at (cell ∷ cells) falls (suc i) (suc j) d lt l =
     falls_at cells falls.1 i j d (omega (arith, lt)) (omega (arith, l))
 
-placed_from : (cell : Cell) (cells : List Cell) (x : Cell) → Contains (placed cell cells) x
-    → (cell ≡ x) ⊎ Contains cells x
-placed_from cell [] x m = Contains-cons_cases cell x [] m
-placed_from cell (other ∷ cells) x m =
-    let P : Bool → Type 0 = λ b. Contains (cond b (cell ∷ other ∷ cells) (other ∷ placed cell cells)) x in
-    elim (cases_Bool (is_before other.stamp other.node cell.stamp cell.node)) [
-      | inl t ↦ Contains-cons_cases cell x (other ∷ cells) (subst P t m)
-      | inr f ↦ elim (Contains-cons_cases other x (placed cell cells) (subst P f m)) [
-        | inl same ↦ inr (subst (Contains (other ∷ cells)) same (Contains-first other cells))
-        | inr there ↦ elim (placed_from cell cells x there) [
-          | inl is ↦ inl is
-          | inr rest ↦ inr (Contains-rest other x cells rest)
-        ]
-      ]
-    ]
+placed_moves : (cell : Cell) (cells : List Cell) → IsPermutation (placed cell cells) (cell ∷ cells)
+placed_moves cell [] = IsPermutation-refl (cell ∷ [])
+placed_moves cell (other ∷ cells) =
+    cond_both (is_before other.stamp other.node cell.stamp cell.node) (cell ∷ other ∷ cells)
+    (other ∷ placed cell cells) (λ l. IsPermutation l (cell ∷ other ∷ cells))
+    (λ t. IsPermutation-refl (cell ∷ other ∷ cells))
+    (λ f. IsPermutation-trans (other ∷ placed cell cells) (other ∷ cell ∷ cells) (cell ∷ other ∷ cells)
+    (IsPermutation-cons other (placed cell cells) (cell ∷ cells) (placed_moves cell cells))
+    (IsPermutation-middle (other ∷ []) cell cells))
 
-placed_first : (cell : Cell) (cells : List Cell) → Contains (placed cell cells) cell
-placed_first cell [] = Contains-first cell []
-placed_first cell (other ∷ cells) =
-    elim (is_before other.stamp other.node cell.stamp cell.node) as
-    (λ b. Contains (cond b (cell ∷ other ∷ cells) (other ∷ placed cell cells)) cell) [
-      | true ↦ Contains-first cell (other ∷ cells)
-      | false ↦ Contains-rest other cell (placed cell cells) (placed_first cell cells)
-    ]
+sorted_moves : (cells : List Cell) → IsPermutation (newest_first cells) cells
+sorted_moves [] = IsPermutation-refl []
+sorted_moves (cell ∷ cells) =
+    IsPermutation-trans (placed cell (newest_first cells)) (cell ∷ newest_first cells) (cell ∷ cells)
+    (placed_moves cell (newest_first cells)) (IsPermutation-cons cell (newest_first cells) cells (sorted_moves cells))
 
-placed_rest : (cell : Cell) (cells : List Cell) (x : Cell) → Contains cells x → Contains (placed cell cells) x
-placed_rest cell [] x m = absurd (Contains-none x m)
-placed_rest cell (other ∷ cells) x m =
-    elim (is_before other.stamp other.node cell.stamp cell.node) as
-    (λ b. Contains (cond b (cell ∷ other ∷ cells) (other ∷ placed cell cells)) x) [
-      | true ↦ Contains-rest cell x (other ∷ cells) m
-      | false ↦ elim (Contains-cons_cases other x cells m) [
-        | inl same ↦ subst (Contains (other ∷ placed cell cells)) same (Contains-first other (placed cell cells))
-        | inr there ↦ Contains-rest other x (placed cell cells) (placed_rest cell cells x there)
-      ]
-    ]
-
-pub sorted_from : (cells : List Cell) (x : Cell) → Contains (newest_first cells) x → Contains cells x
-sorted_from [] x m = absurd (Contains-none x m)
-sorted_from (cell ∷ cells) x m = elim (placed_from cell (newest_first cells) x m) [
-  | inl is ↦ subst (Contains (cell ∷ cells)) is (Contains-first cell cells)
-  | inr there ↦ Contains-rest cell x cells (sorted_from cells x there)
-]
-
-pub sorted_in : (cells : List Cell) (x : Cell) → Contains cells x → Contains (newest_first cells) x
-sorted_in [] x m = absurd (Contains-none x m)
-sorted_in (cell ∷ cells) x m = elim (Contains-cons_cases cell x cells m) [
-  | inl is ↦ subst (Contains (placed cell (newest_first cells))) is (placed_first cell (newest_first cells))
-  | inr there ↦ placed_rest cell (newest_first cells) x (sorted_in cells x there)
-]
+sorted_from : (cells : List Cell) (x : Cell) → Contains (newest_first cells) x → Contains cells x
+sorted_from cells x = Contains-permutation (newest_first cells) cells x (sorted_moves cells)
 
 abbrev IsApart : Cell → Cell → Type 0
 IsApart a b = a.stamp ≡ b.stamp → a.node ≡ b.node → ⊥
@@ -165,26 +108,24 @@ placed_falls : (cell : Cell) (cells : List Cell) → Falls cells → ((x : Cell)
     → Falls (placed cell cells)
 placed_falls cell [] falls apart = (λ x m. absurd (Contains-none x m), tt)
 placed_falls cell (other ∷ cells) falls apart =
-    elim (is_before other.stamp other.node cell.stamp cell.node) as
-    (λ b. is_before other.stamp other.node cell.stamp cell.node ≡ b
-    → Falls (cond b (cell ∷ other ∷ cells) (other ∷ placed cell cells))) [
-      | true ↦ λ is. (
-        λ x m. elim (Contains-cons_cases other x cells m) [
-          | inl same ↦ subst (IsNewer cell) same (before_is other.stamp other.node cell.stamp cell.node is)
-          | inr there ↦ newer_trans cell other x (before_is other.stamp other.node cell.stamp cell.node is)
-              (falls.0 x there)
-        ],
-        falls,
-      )
-      | false ↦ λ is. (
-        λ x m. elim (placed_from cell cells x m) [
-          | inl same ↦ subst (IsNewer other) same
-              (must_be_newer cell other (apart other (Contains-first other cells)) (other_no_newer other cell is))
-          | inr there ↦ falls.0 x there
-        ],
-        placed_falls cell cells falls.1 (λ x m. apart x (Contains-rest other x cells m)),
-      )
-    ] refl
+    cond_both (is_before other.stamp other.node cell.stamp cell.node) (cell ∷ other ∷ cells)
+    (other ∷ placed cell cells) Falls
+    (λ t. let first = before_is other.stamp other.node cell.stamp cell.node t in (
+      λ x m. elim (Contains-cons_cases other x cells m) [
+        | inl same ↦ subst (IsNewer cell) same first
+        | inr there ↦ newer_trans cell other x first (falls.0 x there)
+      ],
+      falls,
+    ))
+    (λ f. (
+      λ x m. elim (Contains-cons_cases cell x cells
+          (Contains-permutation (placed cell cells) (cell ∷ cells) x (placed_moves cell cells) m)) [
+            | inl same ↦ subst (IsNewer other) same
+                (must_be_newer cell other (apart other (Contains-first other cells)) (other_no_newer other cell f))
+            | inr there ↦ falls.0 x there
+          ],
+      placed_falls cell cells falls.1 (λ x m. apart x (Contains-rest other x cells m)),
+    ))
 
 sorted_falls : (cells : List Cell) → AreApart cells → Falls (newest_first cells)
 sorted_falls [] apart = tt
@@ -195,10 +136,9 @@ sorted_falls (cell ∷ cells) apart =
 filter_apart : (p : Cell → Bool) (cells : List Cell) → AreApart cells → AreApart (filter p cells)
 filter_apart p [] apart = tt
 filter_apart p (cell ∷ cells) apart =
-    elim (p cell) as (λ b. AreApart (cond b (cell ∷ filter p cells) (filter p cells))) [
-      | true ↦ (λ x m. apart.0 x (Contains-from_filter p cells x m).0, filter_apart p cells apart.1)
-      | false ↦ filter_apart p cells apart.1
-    ]
+    cond_both (p cell) (cell ∷ filter p cells) (filter p cells) AreApart
+    (λ t. (λ x m. apart.0 x (Contains-from_filter p cells x m).0, filter_apart p cells apart.1))
+    (λ f. filter_apart p cells apart.1)
 
 same_cell : (cells : List Cell) → AreApart cells → (a b : Cell) → Contains cells a → Contains cells b
     → a.stamp ≡ b.stamp → a.node ≡ b.node → a ≡ b
@@ -229,7 +169,10 @@ module _ (cells : List Cell) (from to : ℕ) where
 
   pub left_in : (last : Option (ℕ × ℕ)) (x : Cell) → Contains cells x → left last x ≡ true
       → Contains (versions_left cells from to last) x
-  left_in last x m wanted = sorted_in (filter (left last) cells) x (Contains-filter (left last) cells x m wanted)
+  left_in last x m wanted =
+      Contains-permutation (filter (left last) cells) (versions_left cells from to last) x
+      (IsPermutation-sym (versions_left cells from to last) (filter (left last) cells)
+      (sorted_moves (filter (left last) cells))) (Contains-filter (left last) cells x m wanted)
 
   left_falls : (last : Option (ℕ × ℕ)) → AreApart cells → Falls (versions_left cells from to last)
   left_falls last apart = sorted_falls (filter (left last) cells) (filter_apart (left last) cells apart)
@@ -263,8 +206,7 @@ module _ (cells : List Cell) (from to : ℕ) where
       let newer : (x : Cell) → Contains rest x → IsNewer newest x =
       λ x m. before_is x.stamp x.node newest.stamp newest.node
       (and_parts (ltb from x.stamp && leb x.stamp to) (is_after next x.stamp x.node) (left_from next x m).1).1 in
-      let into : (x : Cell) → Contains cells x → left last x ≡ true → IsNewer newest x
-      → Contains (newest ∷ rest) x =
+      let into : (x : Cell) → Contains cells x → left last x ≡ true → IsNewer newest x → Contains (newest ∷ rest) x =
       λ x m is less. Contains-rest newest x rest (left_in next x m (ap₂ (λ a b. a && b)
       (and_parts (ltb from x.stamp && leb x.stamp to) (is_after last x.stamp x.node) is).0 (is_newer newest x less))) in
       same_members IsNewer one_way (versions_left cells from to last) (newest ∷ rest) (left_pairs last apart)

@@ -1,7 +1,6 @@
 -- The newest of all positions is the newest row, since it is the first of those that come before no other.
-use Rattle.std.proofs.Common.{◌≡◌, ℕ, ◌<◌, ◌≤◌, List, Option, Some, None, length}
-use Rattle.std.proofs.Common.{get_or, refl, sym, subst, arith}
-use Rattle.std.specs.Prelude.{IfSome}
+use Rattle.std.proofs.Common.{◌≡◌, ℕ, ◌<◌, ◌≤◌, List, Option, Some, None, length, IfSome, get_or, refl, sym, subst}
+use Rattle.std.proofs.Common.{arith}
 use Rattle.std.proofs.lemmas.List.{get_or_default}
 use Rattle.hlc_rows.specs.Rows.{newest}
 use Rattle.hlc_table_order.specs.Newest.{IsNewestBelow}
@@ -11,8 +10,7 @@ use Rattle.hlc_table_column.proofs.Beside.{newest_found, newest_missing}
 
 -- the best of all rows is the newest
 pub best_is_newest : (ss ns : List ℕ) (vs : List (Option (List ℕ))) (bound : ℕ) (place : Option ℕ) → AreBeside ss ns vs
-    → IsNewestBelow ss ns bound (length ss) place
-    → IfSome place (λ i. i < length (cells_of ss ns vs)) × ((key : List ℕ)
+    → IsNewestBelow ss ns bound (length ss) place → IfSome place (λ i. i < length (cells_of ss ns vs)) × ((key : List ℕ)
     → at_place (rows_of key (cells_of ss ns vs)) place ≡ newest (rows_of key (cells_of ss ns vs)) key bound)
 best_is_newest ss ns vs bound None b above = (
   tt,

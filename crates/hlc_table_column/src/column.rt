@@ -1,6 +1,6 @@
 //! The rows of one key, the first four in place.
-ghost use Rattle.std.specs.Prelude.{◌≡◌, ◌<◌, ◌++◌, ◌∷◌, [], ℕ, List, length, option_copied, IsOk};
-ghost use Rattle.std.specs.Prelude.{OnOk, OnErr, IfErr, IfSome};
+ghost use Rattle.std.specs.Prelude.{◌≡◌, ◌<◌, ◌++◌, ◌∷◌, [], ℕ, List, length, option_copied, IsOk, OnOk, OnErr, IfErr};
+ghost use Rattle.std.specs.Prelude.{IfSome};
 ghost use Rattle.hlc_rows.specs.Rows.{newest, answer};
 ghost use Rattle.std.specs.List.{items_where_true};
 ghost use Rattle.hlc_table_column.specs.Rows.{rows_of, at_place};

@@ -1,6 +1,6 @@
 //! The rows of one key, lent.
-ghost use Rattle.std.specs.Prelude.{◌≡◌, ◌≤◌, ◌<◌, ℕ, List, length, option_copied, slice_get, Some, None};
-ghost use Rattle.std.specs.Prelude.{IfOk, IfSome, map, filter, nat_le, sum_by};
+ghost use Rattle.std.specs.Prelude.{◌≡◌, ◌≤◌, ◌<◌, ℕ, List, length, option_copied, slice_get, Some, None, IfOk, IfSome};
+ghost use Rattle.std.specs.Prelude.{map, filter, nat_le, sum_by};
 ghost use Rattle.hlc_rows.specs.Rows.{newest, answer};
 ghost use Rattle.hlc_table_column.specs.Cells.{Cell, value_bytes, cell_bytes, AreBeside, cells_of};
 ghost use Rattle.hlc_table_order.specs.Order.{IsIndex};

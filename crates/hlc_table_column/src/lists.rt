@@ -1,6 +1,6 @@
 //! The rows of one key in lists that grow.
-ghost use Rattle.std.specs.Prelude.{◌≡◌, ◌+◌, ◌/◌, ◌≤◌, ◌<◌, ◌⊎◌, ◌++◌, ◌∷◌, [], length, max, nat_lt};
-ghost use Rattle.std.specs.Prelude.{IsOk, IfOk, OnOk, OnErr};
+ghost use Rattle.std.specs.Prelude.{◌≡◌, ◌+◌, ◌/◌, ◌≤◌, ◌<◌, ◌⊎◌, ◌++◌, ◌∷◌, [], length, max, nat_lt, IsOk, IfOk, OnOk};
+ghost use Rattle.std.specs.Prelude.{OnErr};
 ghost use Rattle.std.specs.List.{items_where_true};
 ghost use Rattle.smallvec.specs.SmallVec.{HasRoomFor};
 

@@ -1,6 +1,6 @@
 //! The rows of one key in as little memory as they need.
-ghost use Rattle.std.specs.Prelude.{◌≡◌, ◌≤◌, ◌++◌, ◌∷◌, [], ℕ, List, length, true, IfOk, IfErr, OnOk, OnErr};
-ghost use Rattle.std.specs.Prelude.{nat_lt, option_copied};
+ghost use Rattle.std.specs.Prelude.{◌≡◌, ◌≤◌, ◌++◌, ◌∷◌, [], ℕ, List, length, true, IfOk, IfErr, OnOk, OnErr, nat_lt};
+ghost use Rattle.std.specs.Prelude.{option_copied};
 ghost use Rattle.std.specs.List.{items_where_true};
 ghost use Rattle.hlc_rows.specs.Rows.{answer};
 ghost use Rattle.hlc_table_column.specs.Forms.{cells_in_form, has_room};

@@ -2,8 +2,8 @@
 ghost use Rattle.std.specs.Prelude.{◌≡◌, ◌<◌, ◌+◌, Some, None, length, slice_get};
 ghost use Rattle.std.specs.Iterator.{YieldsFirstBy, item_count};
 ghost use Rattle.hlc_table_column.specs.Cells.{Cell, cells_in};
-ghost use Rattle.hlc_table_column.specs.Versions.{AreApart, IsNewestLeft, is_before, is_after, is_left};
-ghost use Rattle.hlc_table_column.specs.Versions.{version_read, versions_left};
+ghost use Rattle.hlc_table_column.specs.Versions.{AreApart, IsNewestLeft, is_before, is_after, is_left, version_read};
+ghost use Rattle.hlc_table_column.specs.Versions.{versions_left};
 
 use crate::lanes::Lanes;
 use hlc_clock::Stamp;

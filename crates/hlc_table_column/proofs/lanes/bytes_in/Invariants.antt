@@ -1,6 +1,5 @@
 -- The bytes of the first values, each of which has fewer than 2^64.
-use Rattle.std.proofs.Common.{◌≡◌, ◌≤◌, ◌*◌, ◌^◌, take}
-use Rattle.std.specs.Prelude.{sum_by}
+use Rattle.std.proofs.Common.{◌≡◌, ◌≤◌, ◌*◌, ◌^◌, take, sum_by}
 use Rattle.hlc_table_column.specs.Cells.{value_bytes}
 use Rattle.hlc_table_column.proofs.lanes.bytes_in.Given as goal
 

@@ -1,6 +1,5 @@
 -- The newest row that is left is the first, and the others are those before it.
-use Rattle.std.proofs.Common.{◌∷◌, ◌∙◌, Some, sym, ap, ap₂, ℕ}
-use Rattle.std.specs.Prelude.{option_copied}
+use Rattle.std.proofs.Common.{◌∷◌, ◌∙◌, Some, sym, ap, ap₂, ℕ, option_copied}
 use Rattle.std.proofs.lemmas.Option.{slice_get_within}
 use Rattle.hlc_table_column.specs.Versions.{versions_left}
 use Rattle.hlc_table_column.proofs.KeyLemmas.{next_is, none_is, read_is}
@@ -24,8 +23,7 @@ returns c =
     let version = c.version_at-stamp.ensures next.0 next.1 in
     let stamp = ap (λ (v : ℕ × ℕ). v.0) version in
     let node = ap (λ (v : ℕ × ℕ). v.1) version in
-    next.2
-    ∙ ap₂ (λ cell last. cell ∷ versions_left c.args.lanes.now c.args.from c.args.to last)
+    next.2 ∙ ap₂ (λ cell last. cell ∷ versions_left c.args.lanes.now c.args.from c.args.to last)
     (sym (read_is c.version_at-stamp.result.0 c.version_at-stamp.result.1 (option_copied c.value_at.result) next.0
     stamp node (c.value_at.ensures.value next.0 next.1)))
     (sym (ap₂ (λ s n. Some (s, n)) (c.bits.ensures.value ∙ stamp) node))

@@ -1,6 +1,5 @@
 -- The row at the position is the next to move; after the last one all have moved.
-use Rattle.std.proofs.Common.{◌++◌, ◌∷◌, [], List, ap, ◌∙◌, arith, length, length-append}
-use Rattle.std.proofs.lemmas.List.{length-take-le, take_all}
+use Rattle.std.proofs.Common.{◌++◌, ◌∷◌, [], List, ap, ◌∙◌, arith, length, length-append, length-take-le, take_all}
 use Rattle.hlc_table_column.specs.Cells.{Cell}
 use Rattle.hlc_table_column.proofs.Moved.{at_same, rest_same, moved_more}
 use Rattle.hlc_table_column.proofs.few.Few.pour.Goals as goal
@@ -31,6 +30,5 @@ pub returns-clause-rows : goal.returns-clause-rows
 returns-clause-rows g c =
     let after = c.loop-place-test.false in
     let count = c.len-place-end.ensures.count in
-    c.loop-place.invariant.moved
-    ∙ ap (λ (l : List Cell). c.args.to.now ++ l)
+    c.loop-place.invariant.moved ∙ ap (λ (l : List Cell). c.args.to.now ++ l)
     (take_all c.loop-place.place c.args.self (omega (arith, count, after)))

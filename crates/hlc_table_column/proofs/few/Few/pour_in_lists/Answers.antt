@@ -1,6 +1,5 @@
 -- The row at the position is the next to move; after the last one all have moved.
-use Rattle.std.proofs.Common.{◌++◌, ◌∷◌, [], List, ap, ◌∙◌, arith, length, length-append}
-use Rattle.std.proofs.lemmas.List.{length-take-le, take_all}
+use Rattle.std.proofs.Common.{◌++◌, ◌∷◌, [], List, ap, ◌∙◌, arith, length, length-append, length-take-le, take_all}
 use Rattle.hlc_table_column.specs.Cells.{Cell, CellsWithRoom}
 use Rattle.hlc_table_column.proofs.Moved.{at_same, rest_same, moved_more, with_room}
 use Rattle.hlc_table_column.proofs.few.Few.pour_in_lists.Goals as goal
@@ -34,6 +33,5 @@ pub returns-clause-rows : goal.returns-clause-rows
 returns-clause-rows g c =
     let after = c.loop-place-test.false in
     let count = c.len-place-end.ensures.count in
-    with_room _ _ _ _ (c.loop-place.invariant.moved
-    ∙ ap (λ (l : List Cell). c.args.to.now.cells ++ l)
+    with_room _ _ _ _ (c.loop-place.invariant.moved ∙ ap (λ (l : List Cell). c.args.to.now.cells ++ l)
     (take_all c.loop-place.place c.args.self (omega (arith, count, after)))) c.loop-place.invariant.room

@@ -1,6 +1,5 @@
 -- Each array has one more item after its first ones.
-use Rattle.std.proofs.Common.{◌∙◌, arith}
-use Rattle.std.proofs.lemmas.List.{length-set}
+use Rattle.std.proofs.Common.{◌∙◌, arith, length-set}
 use Rattle.hlc_table_column.proofs.Moved.{length_front, beside_front, pushed_cells, front_push}
 use Rattle.hlc_table_column.proofs.few.Few.push.Goals as goal
 

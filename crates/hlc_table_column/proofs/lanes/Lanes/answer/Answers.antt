@@ -1,6 +1,5 @@
 -- The answer is the value of the newest row.
-use Rattle.std.proofs.Common.{sym}
-use Rattle.std.specs.Prelude.{option_copied}
+use Rattle.std.proofs.Common.{sym, option_copied}
 use Rattle.hlc_table_column.specs.Rows.{rows_of}
 use Rattle.hlc_rows.proofs.NewestLemmas.{answer_none}
 use Rattle.hlc_table_column.proofs.Beside.{answer_there}

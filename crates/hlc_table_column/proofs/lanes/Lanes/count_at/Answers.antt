@@ -17,8 +17,7 @@ returns c = λ key.
     let rest : c.count_at.result ≡ count_by below (drop places stamps) = c.count_at.ensures
     ∙ ap (count_by below) (take_rest stamps places) in
     counted_all below stamps places c.count_indexed-first.result c.count_at.result
-    c.count_indexed-first.ensures.count rest
-    ∙ ap (count_by below) (stamps_of_cells _ _ _ c.self.invariant.0
+    c.count_indexed-first.ensures.count rest ∙ ap (count_by below) (stamps_of_cells _ _ _ c.self.invariant.0
     ∙ ap (map (λ (cell : Cell). cell.stamp)) c.self.view_is)
     ∙ ap (λ b. count_by (λ s. leb s b) (map (λ (cell : Cell). cell.stamp) c.args.self.now)) c.bits-bound.ensures.value
     ∙ sym (length-filter (λ s. leb s c.args.bound) (map (λ (cell : Cell). cell.stamp) c.args.self.now))

@@ -1,6 +1,5 @@
 -- The best of all rows is the newest row.
-use Rattle.std.proofs.Common.{◌≡◌, ◌<◌, ℕ, List, length}
-use Rattle.std.specs.Prelude.{IfSome}
+use Rattle.std.proofs.Common.{◌≡◌, ◌<◌, ℕ, List, length, IfSome}
 use Rattle.hlc_rows.specs.Rows.{newest}
 use Rattle.hlc_table_column.specs.Rows.{rows_of, at_place}
 use Rattle.hlc_table_column.proofs.NewestRow.{placed}

@@ -1,25 +1,24 @@
 -- The value of the row at a position is at that position of the values.
-use Rattle.std.proofs.Common.{◌≡◌, sym, ap, ◌∙◌, subst, Some, slice_get, true≢false, length, List, arith}
-use Rattle.std.proofs.lemmas.Bool.{lt-ltb}
-use borrow.Author.Tests.{ltb-true}
+use Rattle.std.proofs.Common.{◌≡◌, sym, ap, ◌∙◌, subst, Some, slice_get, true≢false, length, List, arith, lt-ltb}
+use Rattle.std.proofs.Common.{ltb-true}
 use Rattle.std.proofs.lemmas.Option.{slice_get_within, get_or_from_slice_get}
 use Rattle.hlc_table_column.specs.Cells.{Cell}
-use Rattle.hlc_table_column.proofs.Beside.{length_cells, value_there}
+use Rattle.hlc_table_column.proofs.Beside.{length_cells, each_there}
 use Rattle.hlc_table_column.proofs.lanes.Lanes.value_at.Goals as goal
 
 pub returns-in_default-clause-value : goal.returns-in_default-clause-value
 returns-in_default-clause-value c = λ cell e.
     let vs = c.self.inside.values.now in
-    let there = value_there c.self.inside.stamps.now c.self.inside.nodes.now vs c.args.place cell
-    (subst (λ (cs : List Cell). slice_get cs c.args.place ≡ Some cell) (sym c.self.view_is) e) in
+    let there = (each_there c.self.inside.stamps.now c.self.inside.nodes.now vs c.args.place cell
+    (subst (λ (cs : List Cell). slice_get cs c.args.place ≡ Some cell) (sym c.self.view_is) e)).2 in
     let within = slice_get_within vs c.args.place cell.value there in
     absurd (true≢false (sym (c.in_default.ensures.lookup.0 ∙ lt-ltb _ _ within)))
 
 pub returns-clause-value : goal.returns-clause-value
 returns-clause-value c = λ cell e.
     let vs = c.self.inside.values.now in
-    let there = value_there c.self.inside.stamps.now c.self.inside.nodes.now vs c.args.place cell
-    (subst (λ (cs : List Cell). slice_get cs c.args.place ≡ Some cell) (sym c.self.view_is) e) in
+    let there = (each_there c.self.inside.stamps.now c.self.inside.nodes.now vs c.args.place cell
+    (subst (λ (cs : List Cell). slice_get cs c.args.place ≡ Some cell) (sym c.self.view_is) e)).2 in
     c.as_slice.ensures ∙ c.in-Some.ensures.lookup.1
     ∙ get_or_from_slice_get vs c.args.place cell.value c.in-Some.value.now there
 

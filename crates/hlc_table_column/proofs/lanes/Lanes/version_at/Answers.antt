@@ -2,7 +2,7 @@
 use Rattle.std.proofs.Common.{◌≡◌, ◌<◌, ◌∙◌, ap, ap₂, subst, sym, length, List, slice_get, Some}
 use Rattle.std.proofs.lemmas.Option.{same_Some}
 use Rattle.hlc_table_column.specs.Cells.{Cell}
-use Rattle.hlc_table_column.proofs.Beside.{length_cells, stamp_there, node_there}
+use Rattle.hlc_table_column.proofs.Beside.{length_cells, each_there}
 use Rattle.hlc_table_column.proofs.lanes.Lanes.version_at.Goals as goal
 
 pub item_at-requires : goal.item_at-requires
@@ -19,6 +19,6 @@ returns c = λ cell at.
     let here = subst (λ (cs : List Cell). slice_get cs c.args.place ≡ Some cell) (sym c.self.view_is) at in
     ap₂ (λ s n. (s, n))
     (c.from_bits-stamp.ensures ∙ same_Some c.item_at.result cell.stamp (sym c.item_at.ensures
-    ∙ stamp_there i.stamps.now i.nodes.now i.values.now c.args.place cell here))
+    ∙ (each_there i.stamps.now i.nodes.now i.values.now c.args.place cell here).0))
     (same_Some c.item_at-2.result cell.node (sym c.item_at-2.ensures
-    ∙ node_there i.stamps.now i.nodes.now i.values.now c.args.place cell here))
+    ∙ (each_there i.stamps.now i.nodes.now i.values.now c.args.place cell here).1))

@@ -1,7 +1,6 @@
 -- The same rows are kept in each of the three lists, so they stay side by side. The index is rebuilt; if as many rows
 -- remain, none was dropped, and it is the old one.
-use Rattle.std.proofs.Common.{ap₂, sym, ap, ◌∙◌, length, arith, rules}
-use Rattle.std.specs.Prelude.{min}
+use Rattle.std.proofs.Common.{ap₂, sym, ap, ◌∙◌, length, arith, rules, min}
 use Rattle.std.specs.List.{items_where_true}
 use Rattle.hlc_table_column.specs.Cells.{CellsWithRoom}
 use Rattle.hlc_table_column.proofs.Beside.{length_cells, cells_chosen, length_chosen_same, beside_chosen}
@@ -13,8 +12,7 @@ use Rattle.hlc_table_column.proofs.lists.Lists.keep.Goals as goal
 pub keep_flagged-requires : goal.keep_flagged-requires
 keep_flagged-requires g c = (
   search rules,
-  c.requires ∙ ap (λ (l : CellsWithRoom). length l.cells) (sym c.self.view_is)
-      ∙ length_cells _ _ _ c.self.invariant.0,
+  c.requires ∙ ap (λ (l : CellsWithRoom). length l.cells) (sym c.self.view_is) ∙ length_cells _ _ _ c.self.invariant.0,
 )
 
 pub keep_flagged-requires-2 : goal.keep_flagged-requires-2

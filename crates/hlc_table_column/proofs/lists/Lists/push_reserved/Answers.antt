@@ -1,6 +1,5 @@
 -- Each list grows by one at its end. The index as it was is also an index of one more row, and so is the extended one.
-use Rattle.std.proofs.Common.{◌++◌, ◌∷◌, [], length, sym, ap, ap₂, ◌∙◌, arith}
-use Rattle.std.specs.Prelude.{min}
+use Rattle.std.proofs.Common.{◌++◌, ◌∷◌, [], length, sym, ap, ap₂, ◌∙◌, arith, min}
 use Rattle.std.proofs.lemmas.List.{length_push}
 use Rattle.hlc_table_order.proofs.PlaceLemmas.{index_as, index_of_more}
 use Rattle.hlc_table_column.specs.Cells.{CellsWithRoom}
