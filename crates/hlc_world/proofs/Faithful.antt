@@ -1,7 +1,7 @@
 -- What is promised about a whole schedule follows where the world represents it: the core represents the store's
 -- history, which is legal, so the core is faithful to it; each moment of the schedule is one of that history; and each
 -- moment of a legal schedule is legal, so what can be read there is closed.
-use Rattle.std.proofs.Common.{ℕ, List, [], ◌∷◌, ◌++◌, Some, None, Option, refl, ap, sym, subst}
+use Rattle.std.proofs.Common.{ℕ, List, [], ◌∷◌, ◌++◌, Some, None, Option, refl, ap, sym, subst, ◌≡◌, length, arith}
 use Rattle.hlc_events.specs.declared.event.CoreEvent.{CoreEvent}
 use Rattle.hlc_core.specs.declared.reply.CoreReply.{CoreReply}
 use Rattle.hlc_core.specs.History.{RepresentsHistory}
@@ -14,7 +14,8 @@ use Rattle.hlc_world.specs.Expected.{IsLegal}
 use Rattle.hlc_world.specs.WorldView.{WorldView, Represents}
 use Rattle.hlc_world.specs.Headline.{MomentsAreReported, ReadsAreClosed, IsFaithful}
 use Rattle.hlc_world.proofs.Histories.{history-legal, left-by-none}
-use Rattle.hlc_world.proofs.Closure.{closed}
+use Rattle.hlc_world.proofs.Times.{closed}
+use Rattle.hlc_world.specs.Schedule.{after}
 
 moment-stays : (o : Option (CoreEvent × CoreReply)) (h before : List (CoreEvent × CoreReply)) → IsStoreMoment h before
     → IsStoreMoment (with_entry o h) before
@@ -63,3 +64,12 @@ faithful nodes state s h = record {
   moments = moments-returned s;
   closed = reads-closed nodes s h.legal;
 }
+
+-- one more event of a run comes after all earlier ones
+pub after-push : (events : List Event) (replies : List Reply) (s : List (Event × Reply)) (event : Event) (reply : Reply)
+    → length events ≡ length replies
+    → after (events ++ event ∷ []) (replies ++ reply ∷ []) s ≡ (event, reply) ∷ after events replies s
+after-push [] [] s event reply h = refl
+after-push [] (r ∷ replies) s event reply h = absurd (omega arith)
+after-push (e ∷ events) [] s event reply h = absurd (omega arith)
+after-push (e ∷ events) (r ∷ replies) s event reply h = after-push events replies ((e, r) ∷ s) event reply (omega arith)

@@ -1,7 +1,7 @@
 -- The store's history of a legal schedule is legal, since the expected reply to an event that asks something of the
 -- store is what the store is expected to return; and what took place in a legal history is a legal past.
-use Rattle.std.proofs.Common.{◌≡◌, ℕ, ◌≤◌, List, [], ◌∷◌, Some, None, Option, refl, ◌∙◌, sym, subst, inl, inr, arith}
-use Rattle.std.proofs.lemmas.Bool.{cond-true, cond-false, lt-leb, le-leb, lt-ltb, cases_lt}
+use Rattle.std.proofs.Common.{◌≡◌, ℕ, ◌≤◌, List, [], ◌∷◌, Some, None, Option, refl, ◌∙◌, sym, subst, arith}
+use Rattle.std.proofs.lemmas.Bool.{cond-false, ltb-false}
 use Rattle.hlc_node.specs.declared.item.Item.{Item}
 use Rattle.hlc_rows.specs.declared.row.Row.{Row}
 use Rattle.hlc_events.specs.declared.event.CoreEvent.{CoreEvent}
@@ -17,8 +17,7 @@ use Rattle.hlc_core.proofs.PastLemmas.{open-room, vacuum-none, horizon-low}
 use Rattle.hlc_core.specs.Calls.{list_refusal}
 use Rattle.hlc_core.specs.History.{step_of, with_step, past_of, IsExpected, IsLegalHistory, IsLeft}
 use Rattle.hlc_world_event.specs.declared.event.Event.TheVariants.{Deliver, OpenAt, OpenFloor, Read, List as ListAll}
-use Rattle.hlc_world_event.specs.declared.event.Event.TheVariants.{Close}
-use Rattle.hlc_world_event.specs.declared.event.Event.TheVariants.{Join, Vacuum}
+use Rattle.hlc_world_event.specs.declared.event.Event.TheVariants.{Close, Join, Vacuum}
 use Rattle.hlc_world.specs.declared.reply.Reply.{Reply}
 use Rattle.hlc_world.specs.declared.reply.Reply.TheVariants.{Accepted, Joined, Snapshot, Answer, Listing, Closed}
 use Rattle.hlc_world.specs.declared.reply.Reply.TheVariants.{Vacuumed}
@@ -26,7 +25,8 @@ use Rattle.hlc_world.specs.Schedule.{item_at}
 use Rattle.hlc_world_event.specs.Events.{Event}
 use Rattle.hlc_world.specs.Store.{accepting, accepted, paired, with_entry, store_history, core_past}
 use Rattle.hlc_world.specs.Expected.{deliver_refusal, IsExpectedOfStore, MayReply, IsLegal}
-use Rattle.hlc_world.proofs.Orderly.{no-core, on_link-none}
+use Rattle.hlc_world.proofs.Orderly.{no-core, on_link-none, unless}
+use Rattle.std.specs.Prelude.{nat_le, nat_lt}
 
 -- the store's part of a delivery is an expected reply
 history-taken : (nodes : ℕ) (h : List (CoreEvent × CoreReply)) (p st : ℕ) (o : Option Item)
@@ -86,19 +86,9 @@ no-list (Some stamp) h e = absurd (cc)
 starts : (past : List Step) (start : ℕ) → join_at_refusal past start ≡ None
     → (join_refusal past ≡ None) × (floor past ≤ start)
 starts past start none =
-    elim (cases_lt (numbered past) MAX_NODES) [
-      | inl few ↦
-          let f = lt-leb MAX_NODES (numbered past) few in (
-            cond-false _ _ _ f,
-            elim (cases_lt start (floor past)) [
-              | inl below ↦ absurd (let e : Some (joining (BelowFloor (floor past))) ≡ None =
-                  sym (cond-true _ _ _ (lt-ltb start (floor past) below)) ∙ sym (cond-false _ _ _ f) ∙ none in cc)
-              | inr up ↦ up
-            ],
-          )
-      | inr full ↦ absurd (let e : Some (joining TooManyNodes) ≡ None =
-          sym (cond-true _ _ _ (le-leb MAX_NODES (numbered past) full)) ∙ none in cc)
-    ]
+    let few = unless (nat_le MAX_NODES (numbered past)) (joining TooManyNodes) _ none in
+    let up = unless (nat_lt start (floor past)) (joining (BelowFloor (floor past))) None few.1 in
+    (cond-false _ _ _ few.0, ltb-false start (floor past) up.0)
 
 past-step : (past : List Step) (event : CoreEvent) (reply : CoreReply) → IsExpected past event reply
     → IsLegalPast past → IsLegalPast (with_step (step_of event reply) past)

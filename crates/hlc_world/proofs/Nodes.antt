@@ -1,9 +1,10 @@
 -- The world goes on representing its schedule: new nodes, the events of nodes, and events that change nothing.
-use Rattle.std.proofs.Common.{◌≡◌, ℕ, zero, suc, ◌+◌, ◌<◌, Bool, true, false, List, [], ◌∷◌, ◌++◌, length, Some, None}
-use Rattle.std.proofs.Common.{Ok, Err, Option, Result, refl, ap, sym, ◌∙◌, subst, inl, inr, arith, length-set}
+use Rattle.std.proofs.lemmas.Option.{same_Some, slice_get-map}
+use Rattle.std.proofs.Common.{◌≡◌, ℕ, zero, suc, ◌<◌, Bool, true, false, List, [], ◌∷◌, ◌++◌, length, Some, None, Ok}
+use Rattle.std.proofs.Common.{Err, Option, Result, refl, ap, sym, ◌∙◌, subst, inl, inr, arith, length-set}
 use Rattle.std.proofs.Common.{length-append, option_map}
 use Rattle.std.specs.Prelude.{slice_get, slice_set, if◌then◌else◌}
-use Rattle.std.proofs.lemmas.Bool.{cond-true, cond-false, eq-eqb, ne_eqb, lt-leb, cases_eq}
+use Rattle.std.proofs.lemmas.Bool.{cond-false, eq-eqb, ne_eqb, lt-leb, cases_eq}
 use Rattle.hlc_clock.specs.NextStamp.{expected_stamp}
 use Rattle.hlc_clock.specs.declared.clock.ClockFault.{ClockFault}
 use Rattle.hlc_node.specs.declared.item.Item.{Item}
@@ -11,8 +12,7 @@ use Rattle.hlc_node.specs.declared.item.Message.{Message}
 use Rattle.hlc_node.specs.declared.item.Body.{Body}
 use Rattle.hlc_node.specs.declared.node.NodeFault.{NodeFault}
 use Rattle.hlc_node.specs.Items.{an_item, retires}
-use Rattle.hlc_node.specs.Node.{NodeView, clocked, unless_retired, expected_event, expected_issue, next_item, stamped}
-use Rattle.hlc_node.specs.Node.{after_issue}
+use Rattle.hlc_node.specs.Node.{NodeView, clocked, unless_retired, expected_event, expected_issue, stamped}
 use Rattle.hlc_core.specs.declared.reply.CoreReply.{CoreReply}
 use Rattle.hlc_core.specs.Past.{Step, Started, numbered, stamp_of}
 use Rattle.hlc_core.specs.History.{past_of}
@@ -24,45 +24,21 @@ use Rattle.hlc_world.specs.declared.reply.Reply.{Reply}
 use Rattle.hlc_world.specs.declared.reply.Reply.TheVariants.{Stamped, Sent, Received, Observed, Refused}
 use Rattle.hlc_world.specs.declared.refusal.Refusal.{Refusal}
 use Rattle.hlc_node.specs.declared.node.NodeFault.TheVariants.{Retired}
-use Rattle.hlc_world.specs.declared.refusal.Refusal.TheVariants.{Node as at_node, NoMemory}
-use Rattle.hlc_world.specs.Schedule.{item_made, message_made, mark_of, with_item, ends, stamp_or, with_message}
-use Rattle.hlc_world.specs.Schedule.{body_of, issuing, issued, has_retired, last_stamp, sent, message_at}
+use Rattle.hlc_world.specs.declared.refusal.Refusal.TheVariants.{Node as at_node}
+use Rattle.hlc_world.specs.Schedule.{item_made, message_made, mark_of, with_item, ends, stamp_or, with_message, body_of}
+use Rattle.hlc_world.specs.Schedule.{issuing, issued, has_retired, last_stamp, sent, message_at, node_of}
 use Rattle.hlc_world_event.specs.Events.{Event}
-use Rattle.hlc_world.specs.Schedule.{node_of}
 use Rattle.hlc_world.specs.Store.{asked, returned, paired, with_entry, store_history, core_past}
-use Rattle.hlc_world.specs.Expected.{issue_refusal, stamp_refusal, receive_refusal, observe_refusal, on_link}
-use Rattle.hlc_world.specs.Expected.{on_node, expected_refusal, IsReceived, IsObserved, MayRunOutOfMemory, MayReply}
-use Rattle.hlc_world.specs.WorldView.{IssuerView, WorldView, Represents, fresh_issuers, stamps_of, Issues}
-use Rattle.hlc_world.specs.WorldView.{Sees}
+use Rattle.hlc_world.specs.Expected.{issue_refusal, stamp_refusal, receive_refusal, observe_refusal, on_link, on_node}
+use Rattle.hlc_world.specs.Expected.{expected_refusal, IsReceived, IsObserved, MayRunOutOfMemory, MayReply}
+use Rattle.hlc_world.specs.WorldView.{IssuerView, WorldView, Represents, fresh_issuers, stamps_of, Issues, Sees}
 use Rattle.std.proofs.lemmas.List.{map-append, length-map}
-use Rattle.std.proofs.lemmas.Option.{slice_get-map}
-use Rattle.hlc_world.proofs.Lists.{some-injective, get-set_at, get-set_other, set-same, get-append_left, get-push}
+use Rattle.hlc_world.proofs.Lists.{get-set_at, get-set_other, set-same, get-append_left, get-push}
 
 -- what is stored for a node
 abbrev pub a_node : ℕ → ℕ → List Item → Bool → IssuerView
 a_node n last items was_last =
     record { node = record { id = n; last = last; next = length items; retired = was_last }; issued = items }
-
-pub stamp_or-same : (p st last : ℕ) → stamp_or p (Some (p, st)) last ≡ st
-stamp_or-same p st last = cond-true _ _ _ (eq-eqb p p refl)
-
-pub stamp_or-other : (n p st last : ℕ) → (p ≡ n → ⊥) → stamp_or n (Some (p, st)) last ≡ last
-stamp_or-other n p st last other = cond-false _ _ _ (ne_eqb p n other)
-
-pub with_item-same : (p : ℕ) (item : Item) (items : List Item) → item.node ≡ p
-    → with_item p (Some item) items ≡ items ++ item ∷ []
-with_item-same p item items e = cond-true _ _ _ (eq-eqb _ _ e)
-
-pub with_item-other : (n : ℕ) (item : Item) (items : List Item) → (item.node ≡ n → ⊥)
-    → with_item n (Some item) items ≡ items
-with_item-other n item items e = cond-false _ _ _ (ne_eqb _ _ e)
-
-pub ends-same : (p : ℕ) (item : Item) (was_last : Bool) → item.node ≡ p → ends p (Some item) was_last
-    ≡ retires item.body
-ends-same p item was_last e = cond-true _ _ _ (eq-eqb _ _ e)
-
-pub ends-other : (n : ℕ) (item : Item) (was_last : Bool) → (item.node ≡ n → ⊥) → ends n (Some item) was_last ≡ was_last
-ends-other n item was_last e = cond-false _ _ _ (ne_eqb _ _ e)
 
 pub on_link-inside : (nodes : ℕ) (s : List (Event × Reply)) (p : ℕ) (rest : Option Refusal)
     → p < numbered (core_past nodes s) → on_link nodes s p rest ≡ rest
@@ -99,57 +75,6 @@ event-ok true r st h = absurd (cc)
 event-ok false (Ok x) st h = ap Ok (cc)
 event-ok false (Err fault) st h = absurd (cc)
 
--- one node issued an item, and the others are unchanged
-nodes-issued : (nodes : List IssuerView) (lasts : ℕ → ℕ) (items : ℕ → List Item) (overs : ℕ → Bool) (p st : ℕ)
-    (item : Item) → item.node ≡ p → p < length nodes
-    → ((n : ℕ) → n < length nodes → slice_get nodes n ≡ Some (a_node n (lasts n) (items n) (overs n)))
-    → (n : ℕ) → n < length nodes
-    → slice_get (slice_set nodes p (a_node p st (items p ++ item ∷ []) (retires item.body))) n
-    ≡ Some (a_node n (stamp_or n (Some (p, st)) (lasts n)) (with_item n (Some item) (items n))
-    (ends n (Some item) (overs n)))
-nodes-issued nodes lasts items overs p st item own inside h n lt =
-    let new : IssuerView = a_node p st (items p ++ item ∷ []) (retires item.body) in
-    let every : ℕ → IssuerView =
-    λ k. a_node k (stamp_or k (Some (p, st)) (lasts k)) (with_item k (Some item) (items k))
-    (ends k (Some item) (overs k)) in
-    elim (cases_eq p n) [
-      | inl same ↦
-          subst (λ k. slice_get (slice_set nodes p new) k ≡ Some (every k)) same
-          (get-set_at nodes p new inside
-          ∙ sym (ap (λ a. Some (a_node p a (with_item p (Some item) (items p)) (ends p (Some item) (overs p))))
-          (stamp_or-same p st (lasts p))
-          ∙ ap (λ xs. Some (a_node p st xs (ends p (Some item) (overs p)))) (with_item-same p item (items p) own)
-          ∙ ap (λ g. Some (a_node p st (items p ++ item ∷ []) g)) (ends-same p item (overs p) own)))
-      | inr other ↦
-          let far : item.node ≡ n → ⊥ = λ e. other (sym own ∙ e) in
-          get-set_other nodes p n new (λ e. other (sym e))
-          ∙ h n lt
-          ∙ sym (ap (λ a. Some (a_node n a (with_item n (Some item) (items n)) (ends n (Some item) (overs n))))
-          (stamp_or-other n p st (lasts n) other)
-          ∙ ap (λ xs. Some (a_node n (lasts n) xs (ends n (Some item) (overs n))))
-          (with_item-other n item (items n) far)
-          ∙ ap (λ g. Some (a_node n (lasts n) (items n) g)) (ends-other n item (overs n) far))
-    ]
-
--- one node was stamped without an item, and the others are unchanged
-nodes-stamped : (nodes : List IssuerView) (lasts : ℕ → ℕ) (items : ℕ → List Item) (overs : ℕ → Bool) (p st : ℕ)
-    → p < length nodes
-    → ((n : ℕ) → n < length nodes → slice_get nodes n ≡ Some (a_node n (lasts n) (items n) (overs n)))
-    → (n : ℕ) → n < length nodes → slice_get (slice_set nodes p (a_node p st (items p) (overs p))) n
-    ≡ Some (a_node n (stamp_or n (Some (p, st)) (lasts n)) (items n) (overs n))
-nodes-stamped nodes lasts items overs p st inside h n lt =
-    elim (cases_eq p n) [
-      | inl same ↦
-          subst (λ k. slice_get (slice_set nodes p (a_node p st (items p) (overs p))) k
-          ≡ Some (a_node k (stamp_or k (Some (p, st)) (lasts k)) (items k) (overs k))) same
-          (get-set_at nodes p (a_node p st (items p) (overs p)) inside
-          ∙ sym (ap (λ a. Some (a_node p a (items p) (overs p))) (stamp_or-same p st (lasts p))))
-      | inr other ↦
-          get-set_other nodes p n (a_node p st (items p) (overs p)) (λ e. other (sym e))
-          ∙ h n lt
-          ∙ sym (ap (λ a. Some (a_node n a (items n) (overs n))) (stamp_or-other n p st (lasts n) other))
-    ]
-
 -- the core's past after an event to which the store returned this
 abbrev past_reported : ℕ → List (Event × Reply) → Event → Option CoreReply → List Step
 past_reported nodes s e reply = past_of nodes (with_entry (paired reply (asked s e)) (store_history s))
@@ -158,18 +83,6 @@ past_reported nodes s e reply = past_of nodes (with_entry (paired reply (asked s
 abbrev node_by : ℕ → Option (ℕ × ℕ) → Option Item → List (Event × Reply) → IssuerView
 node_by n mark item s =
     a_node n (stamp_or n mark (last_stamp n s)) (with_item n item (issued n s)) (ends n item (has_retired n s))
-
--- a stored node has an assigned number
-there : (nodes : ℕ) (state : WorldView) (s : List (Event × Reply)) (p : ℕ) → Represents nodes state s
-    → p < length state.nodes → p < numbered (core_past nodes s)
-there nodes state s p h inside = (let m = h.many in omega (arith, m))
-
--- and it is as the schedule says
-was : (nodes : ℕ) (state : WorldView) (s : List (Event × Reply)) (p : ℕ) (before : IssuerView)
-    → Represents nodes state s
-    → p < length state.nodes → slice_get state.nodes p ≡ Some before
-    → before ≡ a_node p (last_stamp p s) (issued p s) (has_retired p s)
-was nodes state s p before h inside at = some-injective _ _ (sym at ∙ h.each p inside)
 
 -- what an event did by this reply: the item that it issued, its mark, the message that it sent, and what the store
 -- returned
@@ -236,137 +149,6 @@ issuing-is nodes s p reading contents.Report =
 issuing-is nodes s p reading contents.Retire =
     record { expected = refl; done = λ st num. refl; left = λ f. refl; allowed = λ st num a b c. (a, (b, c)); may = tt }
 
--- an item that a node issued
-pub issues : (nodes : ℕ) (state : WorldView) (s : List (Event × Reply)) (p reading : ℕ) (content : Content)
-    (before after : IssuerView) (made : ℕ × ℕ) → Represents nodes state s → p < length state.nodes
-    → slice_get state.nodes p ≡ Some before
-    → Issues before after (body_of content) reading (Ok made)
-    → Represents nodes (with_node state p after) ((issuing p reading content, Stamped made.0 made.1) ∷ s)
-issues nodes state s p reading content before after made h inside at taken =
-    let e : Event = issuing p reading content in
-    let body : Body = body_of content in
-    let is = issuing-is nodes s p reading content in
-    let st : ℕ = made.0 in
-    let number : ℕ = length (issued p s) in
-    let so : before ≡ a_node p (last_stamp p s) (issued p s) (has_retired p s) =
-    was nodes state s p before h inside at in
-    let expected : expected_issue (node_of p s) body reading ≡ Ok st =
-    ap (λ issuer. expected_issue issuer.node body reading) (sym so) ∙ taken.0 in
-    let next : made.1 ≡ number = taken.1 ∙ ap (λ issuer. issuer.node.next) so in
-    let longer : length (issued p s ++ an_item p number st body ∷ []) ≡ number + 1 =
-    length-append (issued p s) (an_item p number st body ∷ []) in
-    let came : after ≡ a_node p st (issued p s ++ an_item p number st body ∷ []) (retires body) =
-    taken.2
-    ∙ ap (λ issuer. record {
-      node = after_issue issuer.node body st;
-      issued = issuer.issued ++ next_item issuer.node body st ∷ [];
-    }) so
-    ∙ ap (λ k. record {
-      node = record { id = p; last = st; next = k; retired = retires body };
-      issued = issued p s ++ an_item p number st body ∷ [];
-    }) (sym longer) in
-    let none : expected_refusal nodes s e ≡ None =
-    is.expected ∙ issue-expected nodes s p _ (there nodes state s p h inside) ∙ ap issue_refusal expected in
-    let same : length (slice_set state.nodes p after) ≡ length state.nodes = length-set state.nodes p after in
-    subst (λ k. Represents nodes (with_node state p after) ((e, Stamped st k) ∷ s)) (sym next)
-    (goes-on nodes state s e (Stamped st number) (Some (an_item p number st body)) (Some (p, st))
-    (slice_set state.nodes p after) (is.done st number) (is.allowed st number none expected refl) h same
-    (λ n lt. subst (λ x. slice_get (slice_set state.nodes p x) n
-    ≡ Some (node_by n (Some (p, st)) (Some (an_item p number st body)) s)) (sym came)
-    (nodes-issued state.nodes (λ k. last_stamp k s) (λ k. issued k s) (λ k. has_retired k s) p st
-    (an_item p number st body) refl inside h.each n (rw same at lt))))
-
--- an item that it did not issue
-pub issues_not : (nodes : ℕ) (state : WorldView) (s : List (Event × Reply)) (p reading : ℕ) (content : Content)
-    (before after : IssuerView)
-    (refusal : Refusal) → Represents nodes state s → p < length state.nodes → slice_get state.nodes p ≡ Some before
-    → Issues before after (body_of content) reading (Err refusal)
-    → Represents nodes (with_node state p after) ((issuing p reading content, Refused refusal) ∷ s)
-issues_not nodes state s p reading content before after refusal h inside at left =
-    let e : Event = issuing p reading content in
-    let body : Body = body_of content in
-    let is = issuing-is nodes s p reading content in
-    let first : expected_refusal nodes s e ≡ issue_refusal (expected_issue before.node body reading) =
-    is.expected ∙ issue-expected nodes s p _ (there nodes state s p h inside)
-    ∙ ap (λ issuer. issue_refusal (expected_issue issuer.node body reading))
-    (sym (was nodes state s p before h inside at)) in
-    let allowed : MayReply nodes s e (Refused refusal) =
-    elim left.0 [ inl expected ↦ inl (first ∙ expected) | inr lost ↦ inr (first ∙ lost.0, lost.1, is.may) ] in
-    subst (λ x. Represents nodes (with_node state p x) ((e, Refused refusal) ∷ s)) (sym left.1)
-    (put-back nodes state _ p before at (stays nodes state s e refusal (is.left refusal) allowed h))
-
--- a message that a node sent
-pub sends : (nodes : ℕ) (state : WorldView) (s : List (Event
-    × Reply)) (p reading : ℕ) (before : IssuerView) (node : NodeView)
-    (st : ℕ) (stamps : List ℕ) → Represents nodes state s → p < length state.nodes
-    → slice_get state.nodes p ≡ Some before
-    → expected_event before.node (before.node.last ∷ []) reading ≡ Ok st
-    → node ≡ stamped before.node st
-    → stamps ≡ state.sent_stamps ++ st ∷ [] → Represents nodes (record {
-      core = state.core;
-      nodes = slice_set state.nodes p (record { node = node; issued = before.issued });
-      sent_stamps = stamps;
-    }) ((Send p reading, Sent st (length state.sent_stamps)) ∷ s)
-sends nodes state s p reading before node st stamps h inside at expected node-is posted =
-    let after : IssuerView = record { node = node; issued = before.issued } in
-    let so : before ≡ a_node p (last_stamp p s) (issued p s) (has_retired p s) =
-    was nodes state s p before h inside at in
-    let by : expected_event (node_of p s) (last_stamp p s ∷ []) reading ≡ Ok st =
-    ap (λ issuer. expected_event issuer.node (issuer.node.last ∷ []) reading) (sym so) ∙ expected in
-    let expected' : expected_stamp (last_stamp p s ∷ []) reading ≡ Ok st = event-ok (has_retired p s) _ st by in
-    let came : after ≡ a_node p st (issued p s) (has_retired p s) =
-    ap (λ c. record { node = c; issued = before.issued }) node-is
-    ∙ ap (λ issuer. record { node = stamped issuer.node st; issued = issuer.issued }) so in
-    let last : Message = record { from = p; stamp = st } in
-    let same : length (slice_set state.nodes p after) ≡ length state.nodes = length-set state.nodes p after in
-    record {
-      legal = (
-        (
-          sight-expected nodes s p _ (there nodes state s p h inside) ∙ ap issue_refusal by,
-          (expected', ap length h.sent_stamps ∙ length-map (sent s) (λ (message : Message). message.stamp)),
-        ),
-        h.legal,
-      );
-      core = h.core;
-      many = same ∙ h.many;
-      each = λ n lt.
-          subst (λ x. slice_get (slice_set state.nodes p x) n ≡ Some (node_by n (Some (p, st)) None s)) (sym came)
-          (nodes-stamped state.nodes (λ k. last_stamp k s) (λ k. issued k s) (λ k. has_retired k s) p st inside
-          h.each n (rw same at lt));
-      sent_stamps = posted ∙ ap (λ xs. xs ++ st ∷ []) h.sent_stamps
-          ∙ sym (map-append (λ (message : Message). message.stamp) (sent s) (last ∷ []));
-    }
-
--- the world refuses a message for the same reason as the node
-sends-expected : (nodes : ℕ) (state : WorldView) (s : List (Event × Reply)) (p reading : ℕ) (before : IssuerView)
-    → Represents nodes state s
-    → p < length state.nodes → slice_get state.nodes p ≡ Some before
-    → expected_refusal nodes s (Send p reading)
-    ≡ issue_refusal (expected_event before.node (before.node.last ∷ []) reading)
-sends-expected nodes state s p reading before h inside at =
-    sight-expected nodes s p _ (there nodes state s p h inside)
-    ∙ ap (λ issuer. issue_refusal (expected_event issuer.node (issuer.node.last ∷ []) reading))
-    (sym (was nodes state s p before h inside at))
-
--- a message that was not sent: the node refuses, or it is out of memory
-pub sends_not : (nodes : ℕ) (state : WorldView) (s : List (Event
-    × Reply)) (p reading : ℕ) (before : IssuerView) (fault : NodeFault)
-    → Represents nodes state s → p < length state.nodes → slice_get state.nodes p ≡ Some before
-    → expected_event before.node (before.node.last ∷ []) reading ≡ Err fault
-    → Represents nodes state ((Send p reading, Refused (at_node fault)) ∷ s)
-sends_not nodes state s p reading before fault h inside at expected =
-    stays nodes state s (Send p reading) (at_node fault) refl
-    (inl (sends-expected nodes state s p reading before h inside at ∙ ap issue_refusal expected)) h
-
-pub sends_lost : (nodes : ℕ) (state : WorldView) (s : List (Event × Reply)) (p reading st : ℕ) (before : IssuerView)
-    → Represents nodes state s
-    → p < length state.nodes → slice_get state.nodes p ≡ Some before
-    → expected_event before.node (before.node.last ∷ []) reading ≡ Ok st
-    → Represents nodes state ((Send p reading, Refused NoMemory) ∷ s)
-sends_lost nodes state s p reading st before h inside at expected =
-    stays nodes state s (Send p reading) NoMemory refl
-    (inr (sends-expected nodes state s p reading before h inside at ∙ ap issue_refusal expected, refl, tt)) h
-
 -- an event by which a node sees a stamp
 pub record IsSight (nodes : ℕ) (s : List (Event × Reply)) (e : Event) (reply : ℕ → Reply)
     (p seen reading : ℕ) : Type 0 where
@@ -382,7 +164,7 @@ pub record IsSight (nodes : ℕ) (s : List (Event × Reply)) (e : Event) (reply 
 was-sent : (o : Option Message) (seen : ℕ) → option_map (λ (message : Message). message.stamp) o ≡ Some seen
     → (message : Message) × (o ≡ Some message) × (message.stamp ≡ seen)
 was-sent None seen h = absurd (cc)
-was-sent (Some message) seen h = (message, refl, some-injective _ _ h)
+was-sent (Some message) seen h = (message, refl, same_Some _ _ h)
 
 pub message-there : (nodes : ℕ) (state : WorldView) (s : List (Event × Reply)) (number seen : ℕ)
     → Represents nodes state s
@@ -421,42 +203,147 @@ observe-is nodes s p reading id seen found =
       allowed = λ st none expected. (none, subst (λ o. IsObserved o (last_stamp p s) reading st) (sym found) expected);
     }
 
--- a node that saw a stamp
-pub sees : (nodes : ℕ) (state : WorldView) (s : List (Event × Reply)) (e : Event) (reply : ℕ
-    → Reply) (p seen reading st : ℕ)
-    (before after : IssuerView) → IsSight nodes s e reply p seen reading
-    → Represents nodes state s → p < length state.nodes → slice_get state.nodes p ≡ Some before
-    → Sees before after seen reading (Ok st) → Represents nodes (with_node state p after) ((e, reply st) ∷ s)
-sees nodes state s e reply p seen reading st before after is h inside at saw =
-    let so : before ≡ a_node p (last_stamp p s) (issued p s) (has_retired p s) =
-    was nodes state s p before h inside at in
-    let by : expected_event (node_of p s) (last_stamp p s ∷ seen ∷ []) reading ≡ Ok st =
-    ap (λ issuer. expected_event issuer.node (issuer.node.last ∷ seen ∷ []) reading) (sym so) ∙ saw.0 in
-    let came : after ≡ a_node p st (issued p s) (has_retired p s) =
-    saw.1 ∙ ap (λ issuer. record { node = stamped issuer.node st; issued = issuer.issued }) so in
-    let none : expected_refusal nodes s e ≡ None =
-    is.expected ∙ sight-expected nodes s p _ (there nodes state s p h inside) ∙ ap issue_refusal by in
-    let same : length (slice_set state.nodes p after) ≡ length state.nodes = length-set state.nodes p after in
-    goes-on nodes state s e (reply st) None (Some (p, st)) (slice_set state.nodes p after) (is.done st)
-    (is.allowed st none (event-ok (has_retired p s) _ st by)) h same
-    (λ n lt. subst (λ x. slice_get (slice_set state.nodes p x) n ≡ Some (node_by n (Some (p, st)) None s)) (sym came)
-    (nodes-stamped state.nodes (λ k. last_stamp k s) (λ k. issued k s) (λ k. has_retired k s) p st inside
-    h.each n (rw same at lt)))
+module _ (nodes : ℕ) (state : WorldView) (s : List (Event × Reply)) (p : ℕ) (before : IssuerView)
+    (h : Represents nodes state s) (inside : p < length state.nodes) (at : slice_get state.nodes p ≡ Some before) where
+  -- a stored node has an assigned number
+  there : p < numbered (core_past nodes s)
+  there = (let m = h.many in omega (arith, m))
 
--- one that did not see it
-pub sees_not : (nodes : ℕ) (state : WorldView) (s : List (Event × Reply)) (e : Event) (reply : ℕ
-    → Reply) (p seen reading : ℕ)
-    (before after : IssuerView) (refusal : Refusal) → IsSight nodes s e reply p seen reading
-    → Represents nodes state s → p < length state.nodes → slice_get state.nodes p ≡ Some before
-    → Sees before after seen reading (Err refusal)
-    → Represents nodes (with_node state p after) ((e, Refused refusal) ∷ s)
-sees_not nodes state s e reply p seen reading before after refusal is h inside at left =
-    let expected : issue_refusal (expected_event (node_of p s) (last_stamp p s ∷ seen ∷ []) reading) ≡ Some refusal =
-    ap (λ issuer. issue_refusal (expected_event issuer.node (issuer.node.last ∷ seen ∷ []) reading))
-    (sym (was nodes state s p before h inside at)) ∙ left.0 in
-    subst (λ x. Represents nodes (with_node state p x) ((e, Refused refusal) ∷ s)) (sym left.1)
-    (put-back nodes state _ p before at (stays nodes state s e refusal (is.left refusal)
-    (inl (is.expected ∙ sight-expected nodes s p _ (there nodes state s p h inside) ∙ expected)) h))
+  -- and it is as the schedule says
+  was : before ≡ a_node p (last_stamp p s) (issued p s) (has_retired p s)
+  was = same_Some _ _ (sym at ∙ h.each p inside)
+
+  -- it issued an item, and the others are unchanged
+  nodes-issued : (st : ℕ) (item : Item) → item.node ≡ p → (n : ℕ) → n < length state.nodes
+      → slice_get (slice_set state.nodes p (a_node p st (issued p s ++ item ∷ []) (retires item.body))) n
+      ≡ Some (node_by n (Some (p, st)) (Some item) s)
+  nodes-issued st item own n lt =
+      let new : IssuerView = a_node p st (issued p s ++ item ∷ []) (retires item.body) in
+      elim (cases_eq p n) [
+        | inl same ↦
+            rw (← same, eq-eqb p p refl, eq-eqb item.node p own) (get-set_at state.nodes p new inside)
+        | inr other ↦ rw (ne_eqb p n other, ne_eqb item.node n (λ e. other (sym own ∙ e)))
+            (get-set_other state.nodes p n new (λ e. other (sym e)) ∙ h.each n lt)
+      ]
+
+  -- it was stamped without an item, and the others are unchanged
+  nodes-stamped : (st n : ℕ) → n < length state.nodes
+      → slice_get (slice_set state.nodes p (a_node p st (issued p s) (has_retired p s))) n
+      ≡ Some (node_by n (Some (p, st)) None s)
+  nodes-stamped st n lt =
+      let new : IssuerView = a_node p st (issued p s) (has_retired p s) in
+      elim (cases_eq p n) [
+        | inl same ↦ rw (← same, eq-eqb p p refl) (get-set_at state.nodes p new inside)
+        | inr other ↦ rw (ne_eqb p n other) (get-set_other state.nodes p n new (λ e. other (sym e)) ∙ h.each n lt)
+      ]
+
+  -- an item that the node issued
+  pub issues : (reading : ℕ) (content : Content) (after : IssuerView) (made : ℕ × ℕ)
+      → Issues before after (body_of content) reading (Ok made)
+      → Represents nodes (with_node state p after) ((issuing p reading content, Stamped made.0 made.1) ∷ s)
+  issues reading content after made taken =
+      let e : Event = issuing p reading content in
+      let body : Body = body_of content in
+      let is = issuing-is nodes s p reading content in
+      let st : ℕ = made.0 in
+      let number : ℕ = length (issued p s) in
+      let item : Item = an_item p number st body in
+      let expected : expected_issue (node_of p s) body reading ≡ Ok st = rw was at taken.0 in
+      let next : made.1 ≡ number = rw was at taken.1 in
+      let came : after ≡ a_node p st (issued p s ++ item ∷ []) (retires body) =
+      rw was at taken.2
+      ∙ ap (λ k. record {
+        node = record { id = p; last = st; next = k; retired = retires body };
+        issued = issued p s ++ item ∷ [];
+      }) (sym (length-append (issued p s) (item ∷ []))) in
+      let none : expected_refusal nodes s e ≡ None =
+      is.expected ∙ issue-expected nodes s p _ there ∙ ap issue_refusal expected in
+      let same : length (slice_set state.nodes p after) ≡ length state.nodes = length-set state.nodes p after in
+      subst (λ k. Represents nodes (with_node state p after) ((e, Stamped st k) ∷ s)) (sym next)
+      (goes-on nodes state s e (Stamped st number) (Some item) (Some (p, st)) (slice_set state.nodes p after)
+      (is.done st number) (is.allowed st number none expected refl) h same
+      (λ n lt. rw came (nodes-issued st item refl n (rw same at lt))))
+
+  -- an item that it did not issue
+  pub issues_not : (reading : ℕ) (content : Content) (after : IssuerView) (refusal : Refusal)
+      → Issues before after (body_of content) reading (Err refusal)
+      → Represents nodes (with_node state p after) ((issuing p reading content, Refused refusal) ∷ s)
+  issues_not reading content after refusal left =
+      let e : Event = issuing p reading content in
+      let body : Body = body_of content in
+      let is = issuing-is nodes s p reading content in
+      let first : expected_refusal nodes s e ≡ issue_refusal (expected_issue before.node body reading) =
+      rw was (is.expected ∙ issue-expected nodes s p _ there) in
+      let allowed : MayReply nodes s e (Refused refusal) =
+      elim left.0 [ inl expected ↦ inl (first ∙ expected) | inr lost ↦ inr (first ∙ lost.0, lost.1, is.may) ] in
+      subst (λ x. Represents nodes (with_node state p x) ((e, Refused refusal) ∷ s)) (sym left.1)
+      (put-back nodes state _ p before at (stays nodes state s e refusal (is.left refusal) allowed h))
+
+  -- a message that the node sent
+  pub sends : (reading : ℕ) (node : NodeView) (st : ℕ) (stamps : List ℕ)
+      → expected_event before.node (before.node.last ∷ []) reading ≡ Ok st → node ≡ stamped before.node st
+      → stamps ≡ state.sent_stamps ++ st ∷ [] → Represents nodes (record {
+        core = state.core;
+        nodes = slice_set state.nodes p (record { node = node; issued = before.issued });
+        sent_stamps = stamps;
+      }) ((Send p reading, Sent st (length state.sent_stamps)) ∷ s)
+  sends reading node st stamps expected node-is posted =
+      let after : IssuerView = record { node = node; issued = before.issued } in
+      let by : expected_event (node_of p s) (last_stamp p s ∷ []) reading ≡ Ok st = rw was at expected in
+      let expected' : expected_stamp (last_stamp p s ∷ []) reading ≡ Ok st = event-ok (has_retired p s) _ st by in
+      let came : after ≡ a_node p st (issued p s) (has_retired p s) = rw (node-is, was) refl in
+      let last : Message = record { from = p; stamp = st } in
+      let same : length (slice_set state.nodes p after) ≡ length state.nodes = length-set state.nodes p after in
+      record {
+        legal = (
+          (
+            sight-expected nodes s p _ there ∙ ap issue_refusal by,
+            (expected', ap length h.sent_stamps ∙ length-map (sent s) (λ (message : Message). message.stamp)),
+          ),
+          h.legal,
+        );
+        core = h.core;
+        many = same ∙ h.many;
+        each = λ n lt.
+            subst (λ x. slice_get (slice_set state.nodes p x) n ≡ Some (node_by n (Some (p, st)) None s)) (sym came)
+            (nodes-stamped st n (rw same at lt));
+        sent_stamps = posted ∙ ap (λ xs. xs ++ st ∷ []) h.sent_stamps
+            ∙ sym (map-append (λ (message : Message). message.stamp) (sent s) (last ∷ []));
+      }
+
+  -- a message that was not sent, since the node refuses
+  pub sends_not : (reading : ℕ) (fault : NodeFault)
+      → expected_event before.node (before.node.last ∷ []) reading ≡ Err fault
+      → Represents nodes state ((Send p reading, Refused (at_node fault)) ∷ s)
+  sends_not reading fault expected =
+      let by : expected_event (node_of p s) (last_stamp p s ∷ []) reading ≡ Err fault = rw was at expected in
+      stays nodes state s (Send p reading) (at_node fault) refl
+      (inl (sight-expected nodes s p _ there ∙ ap issue_refusal by)) h
+
+  -- the node saw a stamp
+  pub sees : (e : Event) (reply : ℕ → Reply) (seen reading st : ℕ) (after : IssuerView)
+      → IsSight nodes s e reply p seen reading → Sees before after seen reading (Ok st)
+      → Represents nodes (with_node state p after) ((e, reply st) ∷ s)
+  sees e reply seen reading st after is saw =
+      let by : expected_event (node_of p s) (last_stamp p s ∷ seen ∷ []) reading ≡ Ok st = rw was at saw.0 in
+      let came : after ≡ a_node p st (issued p s) (has_retired p s) = rw was at saw.1 in
+      let none : expected_refusal nodes s e ≡ None =
+      is.expected ∙ sight-expected nodes s p _ there ∙ ap issue_refusal by in
+      let same : length (slice_set state.nodes p after) ≡ length state.nodes = length-set state.nodes p after in
+      goes-on nodes state s e (reply st) None (Some (p, st)) (slice_set state.nodes p after) (is.done st)
+      (is.allowed st none (event-ok (has_retired p s) _ st by)) h same
+      (λ n lt. rw came (nodes-stamped st n (rw same at lt)))
+
+  -- it did not see it
+  pub sees_not : (e : Event) (reply : ℕ → Reply) (seen reading : ℕ) (after : IssuerView) (refusal : Refusal)
+      → IsSight nodes s e reply p seen reading → Sees before after seen reading (Err refusal)
+      → Represents nodes (with_node state p after) ((e, Refused refusal) ∷ s)
+  sees_not e reply seen reading after refusal is left =
+      let expected : issue_refusal (expected_event (node_of p s) (last_stamp p s ∷ seen ∷ []) reading) ≡ Some refusal =
+      rw was at left.0 in
+      subst (λ x. Represents nodes (with_node state p x) ((e, Refused refusal) ∷ s)) (sym left.1)
+      (put-back nodes state _ p before at (stays nodes state s e refusal (is.left refusal)
+      (inl (is.expected ∙ sight-expected nodes s p _ there ∙ expected)) h))
 
 pub fresh-length : (n : ℕ) → length (fresh_issuers n) ≡ n
 fresh-length zero = refl

@@ -1,13 +1,13 @@
 -- What is true of the items of every legal schedule: they have their numbers, their stamps rise, none is above its
 -- node's clock, and those that were not yet accepted lie above the node's head. So the store refuses an issued item
--- only because of its number. A node that has not joined yet has no stamp.
-use Rattle.std.proofs.Common.{◌≡◌, ℕ, Bool, true, false, ◌+◌, ◌*◌, ◌<◌, ◌≤◌, ◌⊎◌, List, [], ◌∷◌, ◌++◌, length, max}
-use Rattle.std.proofs.Common.{Some, None, Ok, Err, Option, Result, refl, ap, sym, ◌∙◌, subst, inl, inr, arith}
-use Rattle.std.proofs.Common.{length-append}
-use Rattle.std.specs.Prelude.{◌==◌, nat_le, slice_get, if◌then◌else◌}
-use Rattle.std.proofs.lemmas.Option.{slice_get_within}
-use Rattle.std.proofs.lemmas.Bool.{cond-true, cond-false, le-leb, lt-leb, eq-eqb, ne_eqb, cases_lt, cases_eq}
-use Rattle.std.proofs.lemmas.Bool.{cases_Bool}
+-- only because of its number. A node's Retire is its last item, and where it was accepted, all of them were. So the
+-- floor is complete: an item at or below it is not above its node's head; and no head is above its node's clock. A node
+-- that has not joined yet has no stamp.
+use Rattle.std.proofs.Common.{◌≡◌, ℕ, Bool, true, false, ◌+◌, ◌*◌, ◌<◌, ◌≤◌, List, [], ◌∷◌, ◌++◌, length, max, Some}
+use Rattle.std.proofs.Common.{None, Ok, Err, Option, Result, refl, ap, sym, ◌∙◌, subst, inl, inr, arith, length-append}
+use Rattle.std.specs.Prelude.{◌==◌, nat_le, slice_get, if◌then◌else◌, Contains}
+use Rattle.std.proofs.lemmas.Option.{slice_get_within, slice_get-get_or, same_Some}
+use Rattle.std.proofs.lemmas.Bool.{cond-true, cond-false, eq-eqb, ne_eqb, cases_lt, cases_eq, cases_Bool, leb-false}
 use Rattle.hlc_clock.specs.NextStamp.{expected_stamp, next_stamp, greatest, is_carried}
 use Rattle.hlc_clock.specs.declared.clock.ClockFault.{ClockFault}
 use Rattle.hlc_clock.specs.declared.clock.ClockFault.TheVariants as clock_fault
@@ -17,277 +17,224 @@ use Rattle.hlc_node.specs.declared.item.Body.TheVariants.{Write as a_write, Repo
 use Rattle.hlc_rows.specs.declared.limits.BodyFault.{BodyFault}
 use Rattle.hlc_node.specs.declared.item.Message.{Message}
 use Rattle.hlc_node.specs.declared.node.NodeFault.{NodeFault}
-use Rattle.hlc_node.specs.declared.node.NodeFault.TheVariants.{NumbersSpent}
-use Rattle.hlc_node.specs.Items.{an_item, body_refusal}
+use Rattle.hlc_node.specs.declared.node.NodeFault.TheVariants.{NumbersSpent, Retired as retired_node}
+use Rattle.hlc_node.specs.Items.{an_item, body_refusal, retires}
 use Rattle.hlc_node.specs.Node.{NodeView, clocked, unless_retired, unless_bad, expected_issue}
 use Rattle.hlc_events.specs.declared.fault.CoreFault.{CoreFault}
 use Rattle.hlc_events.specs.declared.event.CoreEvent.{CoreEvent}
 use Rattle.hlc_core.specs.declared.reply.CoreReply.{CoreReply}
-use Rattle.hlc_core.specs.Past.{Step, Took, Joined as JoinedOf, numbered, retired, count, head, item_refusal}
-use Rattle.hlc_core.proofs.PastLemmas.{inside, on_link as on_its_link, admissible, count-other, head-same, head-other}
+use Rattle.hlc_core.specs.Past.{Step, Took, Joined as JoinedOf, numbered, retired, count, head, item_refusal, Opened}
+use Rattle.hlc_core.specs.Past.{Closed as ClosedOf, Vacuumed as VacuumedOf, floor}
+use Rattle.hlc_core.proofs.PastLemmas.{inside, on_link as on_its_link, admissible, floor-le}
 use Rattle.hlc_core.specs.History.{past_of}
 use Rattle.hlc_world_event.specs.declared.event.Event.TheVariants.{Write, Delete, Report, Retire, Join, Send, Receive}
 use Rattle.hlc_world_event.specs.declared.event.Event.TheVariants.{Observe, Deliver, OpenAt, OpenFloor, Read}
-use Rattle.hlc_world_event.specs.declared.event.Event.TheVariants.{List as ListAll}
-use Rattle.hlc_world_event.specs.declared.event.Event.TheVariants.{Close, Vacuum}
+use Rattle.hlc_world_event.specs.declared.event.Event.TheVariants.{List as ListAll, Close, Vacuum}
 use Rattle.hlc_world.specs.declared.reply.Reply.{Reply}
 use Rattle.hlc_world.specs.declared.reply.Reply.TheVariants.{Stamped, Joined, Sent, Received, Observed, Accepted}
 use Rattle.hlc_world.specs.declared.reply.Reply.TheVariants.{Snapshot, Answer, Listing, Closed, Vacuumed}
 use Rattle.hlc_values.specs.declared.bounds.TheConstants.{NUMBER_BOUND}
 use Rattle.hlc_world.specs.declared.refusal.Refusal.{Refusal}
-use Rattle.hlc_node.specs.declared.node.NodeFault.TheVariants.{Retired as retired_node}
 use Rattle.hlc_world.specs.declared.refusal.Refusal.TheVariants.{NoNode, Node as at_node}
-use Rattle.hlc_world.specs.Schedule.{with_item, stamp_or, issued, has_retired, last_stamp, node_of}
+use Rattle.hlc_world.specs.Schedule.{with_item, stamp_or, issued, has_retired, last_stamp, node_of, ends}
 use Rattle.hlc_world_event.specs.Events.{Event}
 use Rattle.hlc_world.specs.Store.{accepting, accepted, paired, with_entry, store_history, core_past}
 use Rattle.hlc_world.specs.Expected.{core_refusal, on_link, on_node, deliver_refusal, IsReceived, IsObserved, MayReply}
 use Rattle.hlc_world.specs.Expected.{IsLegal}
-use Rattle.hlc_world.proofs.Lists.{some-injective, get-append_left, get-push}
-use Rattle.hlc_world.proofs.Nodes.{with_item-same, with_item-other, stamp_or-other}
+use Rattle.hlc_world.proofs.Lists.{push-cases}
+use Rattle.hlc_world.specs.Floor.{IsComplete, IsBelowClocks}
+use Rattle.hlc_values.proofs.MemberLemmas.{Contains-first, Contains-rest}
 
--- an item of a node fits the node's last stamp, its count and its head
-pub record FitsItsNode (nodes last next top n k : ℕ) (item : Item) : Type 0 where
-  pub inside : n < nodes
+-- an item of a node fits the node's last stamp, its count and its head; it was accepted if its number is below that
+-- count, and is the last one if it retires the node
+pub record FitsItsNode (many last count top n k long : ℕ) (over : Bool) (past : List Step) (item : Item) : Type 0 where
+  pub inside : n < many
   pub node : item.node ≡ n
   pub number : item.number ≡ k
   pub left : k ≡ NUMBER_BOUND → ⊥
   pub body : body_refusal item.body ≡ None
   pub low : item.stamp ≤ last
-  pub ahead : next ≤ k → top < item.stamp
+  pub ahead : count ≤ k → top < item.stamp
+  pub taken : k < count → Contains past (Took item)
+  pub ending : retires item.body ≡ true → (k + 1 ≡ long) × (over ≡ true)
 
 -- and it still fits where these conditions are still true
-refit : {nodes last next top nodes' last' next' top' n k : ℕ} {item : Item}
-    → FitsItsNode nodes last next top n k item → n < nodes' → item.stamp ≤ last' → (next' ≤ k → top' < item.stamp)
-    → FitsItsNode nodes' last' next' top' n k item
-refit i inside low ahead =
-    record { inside = inside; node = i.node; number = i.number; left = i.left; body = i.body; low = low; ahead = ahead }
+refit : {many last count top n k long many' last' count' top' long' : ℕ} {over over' : Bool} {past past' : List Step}
+    {item : Item} → FitsItsNode many last count top n k long over past item → n < many' → item.stamp ≤ last'
+    → (count' ≤ k → top' < item.stamp) → (k < count' → Contains past' (Took item))
+    → (retires item.body ≡ true → (k + 1 ≡ long') × (over' ≡ true))
+    → FitsItsNode many' last' count' top' n k long' over' past' item
+refit i inside low ahead taken ending = record {
+  inside = inside;
+  node = i.node;
+  number = i.number;
+  left = i.left;
+  body = i.body;
+  low = low;
+  ahead = ahead;
+  taken = taken;
+  ending = ending;
+}
 
--- the issued items and what was accepted fit together
-pub record Orderly (many : ℕ) (items : ℕ → List Item) (lasts counts heads : ℕ → ℕ) : Type 0 where
-  pub each : (n k : ℕ) (item : Item) → slice_get (items n) k ≡ Some item
-      → FitsItsNode many (lasts n) (counts n) (heads n) n k item
-  pub rising : (n j k : ℕ) (a b : Item) → j < k → slice_get (items n) j ≡ Some a → slice_get (items n) k ≡ Some b
+-- the items that a node issued fit together, and fit what was accepted of them
+pub record Fits (many last count top n : ℕ) (over out : Bool) (items : List Item) (past : List Step) : Type 0 where
+  pub each : (k : ℕ) (item : Item) → slice_get items k ≡ Some item
+      → FitsItsNode many last count top n k (length items) over past item
+  pub rising : (j k : ℕ) (a b : Item) → j < k → slice_get items j ≡ Some a → slice_get items k ≡ Some b
       → a.stamp < b.stamp
-  pub head_low : (n : ℕ) → heads n ≤ lasts n
-  pub fresh : (n : ℕ) → many ≤ n → lasts n ≡ 0
+  pub head_low : top ≤ last
+  pub fresh : many ≤ n → last ≡ 0
+  pub few : count ≤ length items
+  pub all_taken : out ≡ true → (count ≡ length items) × (over ≡ true)
 
--- an item after one more was issued is an old one or that one
-pub get-with_item : (n k : ℕ) (item x : Item) (xs : List Item) → slice_get (with_item n (Some item) xs) k ≡ Some x
-    → (slice_get xs k ≡ Some x) ⊎ ((item.node ≡ n) × (k ≡ length xs) × (item ≡ x))
-get-with_item n k item x xs h =
-    elim (cases_eq item.node n) [
-      | inr other ↦ inl (ap (λ ys. slice_get ys k) (sym (with_item-other n item xs other)) ∙ h)
-      | inl same ↦
-          let h' : slice_get (xs ++ item ∷ []) k ≡ Some x =
-          ap (λ ys. slice_get ys k) (sym (with_item-same n item xs same)) ∙ h in
-          let lt : k < length (xs ++ item ∷ []) = slice_get_within (xs ++ item ∷ []) k x h' in
-          let l : length (xs ++ item ∷ []) ≡ length xs + 1 = length-append xs (item ∷ []) in
-          elim (cases_lt k (length xs)) [
-            | inl old ↦ inl (sym (get-append_left xs (item ∷ []) k old) ∙ h')
-            | inr fresh ↦
-                let e : k ≡ length xs = omega arith in
-                inr (
-                  same,
-                  e,
-                  some-injective item x (sym (get-push xs item) ∙ ap (λ j. slice_get (xs ++ item ∷ []) j) (sym e) ∙ h'),
-                )
-          ]
-    ]
+module _ {many last count top n : ℕ} {over out : Bool} {items : List Item} {past : List Step}
+    (h : Fits many last count top n over out items past) where
+  -- they still do after an event of another node, or with a higher stamp
+  goes-on : {many' last' : ℕ} {past' : List Step} → many ≤ many' → last ≤ last' → (many' ≤ n → last' ≡ 0)
+      → ((item : Item) → Contains past (Took item) → Contains past' (Took item))
+      → Fits many' last' count top n over out items past'
+  goes-on more up fresh keeps =
+      let low : top ≤ last = h.head_low in
+      record {
+        each = λ k item at.
+            let i = h.each k item at in
+            let inside : n < many = i.inside in
+            let below : item.stamp ≤ last = i.low in
+            refit i (omega arith) (omega arith) i.ahead (λ old. keeps item (i.taken old)) i.ending;
+        rising = h.rising;
+        head_low = omega arith;
+        fresh = fresh;
+        few = h.few;
+        all_taken = h.all_taken;
+      }
 
-pub stamp_or-grows : (n p st last : ℕ) → (p ≡ n → last < st) → last ≤ stamp_or n (Some (p, st)) last
-stamp_or-grows n p st last up =
-    elim (cases_eq p n) [
-      | inl same ↦ (let e : stamp_or n (Some (p, st)) last ≡ st = cond-true _ _ _ (eq-eqb p n same) in
-          let u : last < st = up same in omega arith)
-      | inr other ↦ (let e : stamp_or n (Some (p, st)) last ≡ last = stamp_or-other n p st last other in omega arith)
-    ]
+  -- so do they after a step of the store that is not of this node
+  kept : (step : Step) → Fits many last count top n over out items (step ∷ past)
+  kept step = goes-on (omega arith) (omega arith) h.fresh (λ item m. Contains-rest step (Took item) past m)
 
--- an event with a higher stamp keeps the order
-orderly-mark : (many : ℕ) (items : ℕ → List Item) (lasts counts heads : ℕ → ℕ) (p st : ℕ)
-    → Orderly many items lasts counts heads → p < many → lasts p < st
-    → Orderly many items (λ n. stamp_or n (Some (p, st)) (lasts n)) counts heads
-orderly-mark many items lasts counts heads p st h inside up =
-    let grows : (n : ℕ) → lasts n ≤ stamp_or n (Some (p, st)) (lasts n) =
-    λ n. stamp_or-grows n p st (lasts n) (λ e. subst (λ j. lasts j < st) e up) in
-    record {
-      each = λ n k item m.
-          (let i = h.each n k item m in
-          let g = grows n in let l : item.stamp ≤ lasts n = i.low in
-          refit i i.inside (omega (arith, g)) i.ahead);
-      rising = h.rising;
-      head_low = λ n. (let g = grows n in let l : heads n ≤ lasts n = h.head_low n in omega (arith, g));
-      fresh = λ n out. stamp_or-other n p st (lasts n) (λ e. omega (arith, out, e)) ∙ h.fresh n out;
-    }
+  -- after the node issued one more item
+  issues : (item : Item) → n < many → over ≡ false → item.node ≡ n → item.number ≡ length items
+      → (length items ≡ NUMBER_BOUND → ⊥) → body_refusal item.body ≡ None → last < item.stamp
+      → Fits many item.stamp count top n (retires item.body) out (items ++ item ∷ []) past
+  issues item within active own number left ok up =
+      let few : count ≤ length items = h.few in
+      let low : top ≤ last = h.head_low in
+      let longer : length (items ++ item ∷ []) ≡ length items + 1 = length-append items (item ∷ []) in
+      let not_over : over ≡ true → ⊥ = λ e. (let f : true ≡ false = sym e ∙ active in cc) in
+      record {
+        each = λ k x at.
+            elim (push-cases items item x k at) [
+              | inl old ↦
+                  let i = h.each k x old in
+                  let below : x.stamp ≤ last = i.low in
+                  refit i within (omega arith) i.ahead i.taken (λ ends'. absurd (not_over (i.ending ends').1))
+              | inr new ↦
+                  let e : k ≡ length items = new.0 in
+                  subst (λ y. FitsItsNode many item.stamp count top n k (length (items ++ item ∷ []))
+                  (retires item.body) past y) new.1
+                  (record {
+                    inside = within;
+                    node = own;
+                    number = number ∙ sym e;
+                    left = λ q. left (sym e ∙ q);
+                    body = ok;
+                    low = omega arith;
+                    ahead = λ c. omega arith;
+                    taken = λ old. absurd (omega (arith, old));
+                    ending = λ ends'. (omega arith, ends');
+                  })
+            ];
+        rising = λ j k a b lt at_a at_b.
+            elim (push-cases items item a j at_a) [
+              | inl old ↦
+                  elim (push-cases items item b k at_b) [
+                    | inl old_b ↦ h.rising j k a b lt old old_b
+                    | inr new ↦ (let below : a.stamp ≤ last = (h.each j a old).low in
+                        let e : item.stamp ≡ b.stamp = ap (λ x. x.stamp) new.1 in omega arith)
+                  ]
+              | inr new ↦
+                  absurd (let inside : k < length (items ++ item ∷ []) =
+                  slice_get_within (items ++ item ∷ []) k b at_b in let e : j ≡ length items = new.0 in omega arith)
+            ];
+        head_low = omega arith;
+        fresh = λ far. absurd (omega (arith, far));
+        few = omega arith;
+        all_taken = λ all'. absurd (not_over (h.all_taken all').1);
+      }
 
--- so does an item that a node issues
-orderly-issue : (nodes : ℕ) (items : ℕ → List Item) (lasts counts heads : ℕ → ℕ) (p st num : ℕ) (body : Body)
-    → Orderly nodes items lasts counts heads → p < nodes → num ≡ length (items p)
-    → (length (items p) ≡ NUMBER_BOUND → ⊥) → body_refusal body ≡ None → lasts p < st → Orderly nodes
-    (λ n. with_item n (Some (an_item p num st body)) (items n)) (λ n. stamp_or n (Some (p, st)) (lasts n)) counts heads
-orderly-issue nodes items lasts counts heads p st num body h inside is left ok up =
-    let item = an_item p num st body in
-    let m = orderly-mark nodes items lasts counts heads p st h inside up in
-    record {
-      each = λ n k x at.
-          elim (get-with_item n k item x (items n) at) [
-            | inl old ↦ m.each n k x old
-            | inr fresh ↦
-                subst (λ y. FitsItsNode nodes (stamp_or n (Some (p, st)) (lasts n)) (counts n) (heads n) n k y) fresh.2
-                (let same : p ≡ n = fresh.0 in
-                let e : k ≡ length (items n) = fresh.1 in
-                let f : length (items p) ≡ length (items n) = ap (λ j. length (items j)) same in
-                record {
-                  inside = subst (λ j. j < nodes) same inside;
-                  node = same;
-                  number = is ∙ f ∙ sym e;
-                  left = λ q. left (f ∙ sym e ∙ q);
-                  body = ok;
-                  low =
-                      (let g : stamp_or n (Some (p, st)) (lasts n) ≡ st = cond-true _ _ _ (eq-eqb p n same) in
-                      omega arith);
-                  ahead = λ c. (let a : heads n ≤ lasts n = h.head_low n in
-                      let b : lasts n < st = subst (λ j. lasts j < st) same up in omega arith);
-                })
-          ];
-      rising = λ n j k a b lt at_a at_b.
-          elim (get-with_item n j item a (items n) at_a) [
-            | inl old_a ↦
-                elim (get-with_item n k item b (items n) at_b) [
-                  | inl old_b ↦ h.rising n j k a b lt old_a old_b
-                  | inr new_b ↦
-                      (let l : a.stamp ≤ lasts n = (h.each n j a old_a).low in
-                      let u : lasts n < st = subst (λ i. lasts i < st) new_b.0 up in
-                      let e : st ≡ b.stamp = ap (λ x. x.stamp) new_b.2 in omega arith)
-                ]
-            | inr new_a ↦
-                absurd
-                (elim (get-with_item n k item b (items n) at_b) [
-                  | inl old_b ↦ (let w : k < length (items n) = slice_get_within (items n) k b old_b in
-                      let e : j ≡ length (items n) = new_a.1 in omega arith)
-                  | inr new_b ↦
-                      (let e : j ≡ length (items n) = new_a.1 in let f : k ≡ length (items n) = new_b.1 in omega arith)
-                ])
-          ];
-      head_low = m.head_low;
-      fresh = m.fresh;
-    }
+  -- after the store accepted the node's next item
+  takes : (k : ℕ) (item : Item) → slice_get items k ≡ Some item → k ≡ count
+      → Fits many last (count + 1) item.stamp n over (retires item.body) items (Took item ∷ past)
+  takes k item at next =
+      let own = h.each k item at in
+      let within : k < length items = slice_get_within items k item at in
+      record {
+        each = λ j x there.
+            let i = h.each j x there in
+            refit i i.inside i.low
+            (λ behind. (let b : count + 1 ≤ j = behind in h.rising k j item x (omega arith) at there))
+            (λ before. let b : j < count + 1 = before in
+            elim (cases_lt j count) [
+              | inl old ↦ Contains-rest (Took item) (Took x) past (i.taken old)
+              | inr new ↦
+                  let e : k ≡ j = omega arith in
+                  let is : item ≡ x = same_Some item x (sym at ∙ ap (λ q. slice_get items q) e ∙ there) in
+                  subst (λ y. Contains (Took item ∷ past) (Took y)) is (Contains-first (Took item) past)
+            ])
+            i.ending;
+        rising = h.rising;
+        head_low = own.low;
+        fresh = h.fresh;
+        few = omega arith;
+        all_taken = λ ends'. (let e = own.ending ends' in (omega (arith, e.0, next), e.1));
+      }
 
-pub count-same : (n : ℕ) (item : Item) (past : List Step) → item.node ≡ n
-    → count n (Took item ∷ past) ≡ count n past + 1
-count-same n item past e = cond-true _ _ _ (eq-eqb _ _ e)
+  -- after the node joined
+  joins : (start : ℕ) (step : Step) → n ≡ many → Fits (many + 1) start count start n over out items (step ∷ past)
+  joins start step is = record {
+    each = λ k item at. absurd (let inside : n < many = (h.each k item at).inside in omega arith);
+    rising = h.rising;
+    head_low = omega arith;
+    fresh = λ far. absurd (omega (arith, far));
+    few = h.few;
+    all_taken = h.all_taken;
+  }
 
--- and so does the next item when it is accepted
-orderly-took : (nodes : ℕ) (items : ℕ → List Item) (lasts : ℕ → ℕ) (past : List Step) (p k : ℕ) (item : Item)
-    → Orderly nodes items lasts (λ n. count n past) (λ n. head n past) → slice_get (items p) k ≡ Some item
-    → k ≡ count p past → Orderly nodes items lasts (λ n. count n (Took item ∷ past)) (λ n. head n (Took item ∷ past))
-orderly-took nodes items lasts past p k item h at next =
-    let own : item.node ≡ p = (h.each p k item at).node in
-    record {
-      each = λ n j x m.
-          (let i = h.each n j x m in
-          refit i i.inside i.low
-          (λ c.
-          elim (cases_eq item.node n) [
-            | inl same ↦
-                (let c' : count n (Took item ∷ past) ≤ j = c in
-                let a : count n (Took item ∷ past) ≡ count n past + 1 = count-same n item past same in
-                let b : head n (Took item ∷ past) ≡ item.stamp = head-same n item past same in
-                let pn : p ≡ n = sym own ∙ same in
-                let d : count p past ≡ count n past = ap (λ q. count q past) pn in
-                let r : item.stamp < x.stamp = h.rising n k j item x (omega arith)
-                (subst (λ q. slice_get (items q) k ≡ Some item) pn at) m in omega arith)
-            | inr other ↦
-                (let c' : count n (Took item ∷ past) ≤ j = c in
-                let a : count n (Took item ∷ past) ≡ count n past = count-other n item past other in
-                let b : head n (Took item ∷ past) ≡ head n past = head-other n item past other in
-                let r : head n past < x.stamp = i.ahead (omega arith) in omega arith)
-          ]));
-      rising = h.rising;
-      head_low = λ n.
-          elim (cases_eq item.node n) [
-            | inl same ↦
-                (let b : head n (Took item ∷ past) ≡ item.stamp = head-same n item past same in
-                let l : item.stamp ≤ lasts p = (h.each p k item at).low in
-                let e : lasts p ≡ lasts n = ap lasts (sym own ∙ same) in omega arith)
-            | inr other ↦ (let b : head n (Took item ∷ past) ≡ head n past = head-other n item past other in
-                let l : head n past ≤ lasts n = h.head_low n in omega arith)
-          ];
-      fresh = h.fresh;
-    }
-
--- and so does a node that joins
-orderly-join : (many : ℕ) (items : ℕ → List Item) (lasts counts : ℕ → ℕ) (past : List Step) (node start : ℕ)
-    → Orderly many items lasts counts (λ n. head n past) → node ≡ many
-    → Orderly (many + 1) items (λ n. stamp_or n (Some (node, start)) (lasts n)) counts
-    (λ n. head n (JoinedOf node start ∷ past))
-orderly-join many items lasts counts past node start h is =
-    let before : (n : ℕ) → (node ≡ n → ⊥)
-    → (stamp_or n (Some (node, start)) (lasts n) ≡ lasts n) × (head n (JoinedOf node start ∷ past) ≡ head n past) =
-    λ n other. (stamp_or-other n node start (lasts n) other, cond-false _ _ _ (ne_eqb node n other)) in
-    record {
-      each = λ n k item m.
-          (let i = h.each n k item m in
-          let within : n < many = i.inside in
-          let b = before n (λ e. omega (arith, e, is)) in
-          let l : item.stamp ≤ lasts n = i.low in
-          refit i (omega arith) (omega (arith, b.0))
-          (λ c. (let a : head n past < item.stamp = i.ahead c in omega (arith, b.1))));
-      rising = h.rising;
-      head_low = λ n.
-          elim (cases_eq node n) [
-            | inl same ↦
-                (let a : stamp_or n (Some (node, start)) (lasts n) ≡ start = cond-true _ _ _ (eq-eqb node n same) in
-                let b : head n (JoinedOf node start ∷ past) ≡ start = cond-true _ _ _ (eq-eqb node n same) in
-                omega arith)
-            | inr other ↦
-                (let b = before n other in let l : head n past ≤ lasts n = h.head_low n in omega (arith, b.0, b.1))
-          ];
-      fresh = λ n out. (before n (λ e. omega (arith, e, is, out))).0 ∙ h.fresh n (omega (arith, out));
-    }
+pub unless : {X : Type 0} (b : Bool) (x : X) (rest : Option X) → (if b then Some x else rest) ≡ None
+    → (b ≡ false) × (rest ≡ None)
+unless true x rest h = absurd (cc)
+unless false x rest h = (refl, h)
 
 -- a node whose link is not refused exists
 pub on_link-none : (nodes : ℕ) (s : List (Event × Reply)) (p : ℕ) (rest : Option Refusal)
     → on_link nodes s p rest ≡ None → (p < numbered (core_past nodes s)) × (rest ≡ None)
 on_link-none nodes s p rest h =
-    elim (cases_lt p (numbered (core_past nodes s))) [
-      | inl inside ↦ (inside, sym (cond-false _ _ _ (lt-leb (numbered (core_past nodes s)) p inside)) ∙ h)
-      | inr outside ↦ absurd
-          (let e : Some NoNode ≡ None =
-          sym (cond-true _ _ _ (le-leb (numbered (core_past nodes s)) p outside)) ∙ h in cc)
-    ]
+    let u = unless (nat_le (numbered (core_past nodes s)) p) NoNode rest h in
+    (leb-false (numbered (core_past nodes s)) p u.0, u.1)
 
 -- a node at which nothing is refused exists and has not retired
 pub on_node-none : (nodes : ℕ) (s : List (Event × Reply)) (p : ℕ) (rest : Option Refusal)
     → on_node nodes s p rest ≡ None → (p < numbered (core_past nodes s)) × (has_retired p s ≡ false) × (rest ≡ None)
 on_node-none nodes s p rest h =
     let there = on_link-none nodes s p _ h in
-    elim (cases_Bool (has_retired p s)) [
-      | inl was_last ↦ absurd
-          (let e : Some (at_node retired_node) ≡ None = sym (cond-true _ _ _ was_last) ∙ there.1 in cc)
-      | inr here ↦ (there.0, here, sym (cond-false _ _ _ here) ∙ there.1)
-    ]
+    let u = unless (has_retired p s) (at_node retired_node) rest there.1 in (there.0, u.0, u.1)
 
 clocked-ok : (r : Result ℕ ClockFault) (st : ℕ) → clocked r ≡ Ok st → r ≡ Ok st
 clocked-ok (Ok x) st h = ap Ok (cc)
 clocked-ok (Err fault) st h = absurd (cc)
 
+unrefused : (b c : Bool) (f g : ClockFault) (x st : ℕ)
+    → (if b then Err f else if c then Err g else Ok x) ≡ Ok st → x ≡ st
+unrefused true c f g x st h = absurd (cc)
+unrefused false true f g x st h = absurd (cc)
+unrefused false false f g x st h = cc
+
 -- an expected stamp is the next stamp
 expected-next : (earlier : List ℕ) (reading st : ℕ) → expected_stamp earlier reading ≡ Ok st
     → next_stamp earlier reading ≡ st
 expected-next earlier reading st h =
-    elim (cases_Bool (nat_le 281474976710656 reading)) [
-      | inl large ↦ absurd (let e : ◌≡◌ {A = Result ℕ ClockFault} (Err clock_fault.ReadingTooLarge) (Ok st) =
-          sym (cond-true _ _ _ large) ∙ h in cc)
-      | inr small ↦
-          let h1 = sym (cond-false _ _ _ small) ∙ h in
-          elim (cases_Bool (is_carried earlier reading)) [
-            | inl carried ↦ absurd
-                (let e : ◌≡◌ {A = Result ℕ ClockFault} (Err (clock_fault.CounterFull (greatest earlier))) (Ok st) =
-                sym (cond-true _ _ _ carried) ∙ h1 in cc)
-            | inr not_carried ↦ (let e : ◌≡◌ {A = Result ℕ ClockFault} (Ok (next_stamp earlier reading)) (Ok st) =
-                sym (cond-false _ _ _ not_carried) ∙ h1 in cc)
-          ]
-    ]
+    unrefused (nat_le 281474976710656 reading) (is_carried earlier reading) clock_fault.ReadingTooLarge
+    (clock_fault.CounterFull (greatest earlier)) (next_stamp earlier reading) st h
 
 -- it lies above the last one
 pub stamp-rises : (last reading st : ℕ) → expected_stamp (last ∷ []) reading ≡ Ok st → last < st
@@ -348,45 +295,72 @@ delivered past p k item own number none =
 abbrev pub past_taken : ℕ → ℕ → ℕ → Option Item → List (CoreEvent × CoreReply) → List Step
 past_taken nodes p st o history = past_of nodes (with_entry (paired (accepted p st o) (accepting o)) history)
 
--- the items of a schedule fit together, where the core's past after it is this one
-abbrev IsOrderlyAt : List (Event × Reply) → List Step → Type 0
-IsOrderlyAt s past =
-    Orderly (numbered past) (λ n. issued n s) (λ n. last_stamp n s) (λ n. count n past) (λ n. head n past)
+-- what a node issued fits together, where the core's past after the schedule is this one
+abbrev FitsAt : ℕ → List (Event × Reply) → List Step → Type 0
+FitsAt n s past =
+    Fits (numbered past) (last_stamp n s) (count n past) (head n past) n (has_retired n s) (retired n past) (issued n s)
+    past
 
--- and where it is the core's past of this schedule
+-- what each node issued fits together
 abbrev pub IsOrderly : ℕ → List (Event × Reply) → Type 0
-IsOrderly nodes s = IsOrderlyAt s (core_past nodes s)
+IsOrderly nodes s = (n : ℕ) → FitsAt n s (core_past nodes s)
 
 orderly-issued : (nodes : ℕ) (s : List (Event × Reply)) (p reading st num : ℕ) (body : Body) (rest : Option Refusal)
     → on_node nodes s p rest ≡ None → expected_issue (node_of p s) body reading ≡ Ok st → num ≡ length (issued p s)
-    → IsOrderly nodes s → Orderly (numbered (core_past nodes s))
-    (λ n. with_item n (Some (an_item p num st body)) (issued n s)) (λ n. stamp_or n (Some (p, st)) (last_stamp n s))
-    (λ n. count n (core_past nodes s)) (λ n. head n (core_past nodes s))
-orderly-issued nodes s p reading st num body rest none expected is h =
+    → IsOrderly nodes s → (n : ℕ) → Fits (numbered (core_past nodes s)) (stamp_or n (Some (p, st)) (last_stamp n s))
+    (count n (core_past nodes s)) (head n (core_past nodes s)) n
+    (ends n (Some (an_item p num st body)) (has_retired n s)) (retired n (core_past nodes s))
+    (with_item n (Some (an_item p num st body)) (issued n s)) (core_past nodes s)
+orderly-issued nodes s p reading st num body rest none expected is h n =
+    let free = on_node-none nodes s p rest none in
     let f = issue-ok (node_of p s) body reading st expected in
-    orderly-issue (numbered (core_past nodes s)) (λ n. issued n s) (λ n. last_stamp n s)
-    (λ n. count n (core_past nodes s))
-    (λ n. head n (core_past nodes s)) p st num body h (on_node-none nodes s p rest none).0 is f.1 f.0 f.2
+    elim (cases_eq p n) [
+      | inl same ↦
+          rw (← same, eq-eqb p p refl) (issues (h p) (an_item p num st body) free.0 free.1 refl is f.1 f.0 f.2)
+      | inr other ↦ rw (ne_eqb p n other) (h n)
+    ]
 
 orderly-stamped : (nodes : ℕ) (s : List (Event × Reply)) (p st : ℕ) (rest : Option Refusal)
-    → on_node nodes s p rest ≡ None → last_stamp p s < st
-    → IsOrderly nodes s → Orderly (numbered (core_past nodes s)) (λ n. issued n s)
-    (λ n. stamp_or n (Some (p, st)) (last_stamp n s)) (λ n. count n (core_past nodes s))
-    (λ n. head n (core_past nodes s))
-orderly-stamped nodes s p st rest none up h =
-    orderly-mark (numbered (core_past nodes s)) (λ n. issued n s) (λ n. last_stamp n s)
-    (λ n. count n (core_past nodes s))
-    (λ n. head n (core_past nodes s)) p st h (on_node-none nodes s p rest none).0 up
+    → on_node nodes s p rest ≡ None → last_stamp p s < st → IsOrderly nodes s → (n : ℕ)
+    → Fits (numbered (core_past nodes s)) (stamp_or n (Some (p, st)) (last_stamp n s)) (count n (core_past nodes s))
+    (head n (core_past nodes s)) n (has_retired n s) (retired n (core_past nodes s)) (issued n s) (core_past nodes s)
+orderly-stamped nodes s p st rest none up h n =
+    let inside = (on_node-none nodes s p rest none).0 in
+    elim (cases_eq p n) [
+      | inl same ↦
+          rw (← same, eq-eqb p p refl)
+          (goes-on (h p) (omega arith) (omega arith) (λ far. absurd (omega (arith, inside, far))) (λ item m. m))
+      | inr other ↦ rw (ne_eqb p n other) (h n)
+    ]
 
 orderly-taken : (nodes : ℕ) (s : List (Event × Reply)) (p k st : ℕ) (o : Option Item)
     → slice_get (issued p s) k ≡ o → deliver_refusal (core_past nodes s) o ≡ None → IsOrderly nodes s
-    → IsOrderlyAt s (past_taken nodes p st o (store_history s))
-orderly-taken nodes s p k st None at none h = h
-orderly-taken nodes s p k st (Some item) at none h =
-    let is = h.each p k item at in
-    orderly-took (numbered (core_past nodes s)) (λ n. issued n s) (λ n. last_stamp n s) (core_past nodes s) p k item h
-    at
-    (delivered (core_past nodes s) p k item is.node is.number none)
+    → (n : ℕ) → FitsAt n s (past_taken nodes p st o (store_history s))
+orderly-taken nodes s p k st None at none h n = h n
+orderly-taken nodes s p k st (Some item) at none h n =
+    let is = (h p).each k item at in
+    let next = delivered (core_past nodes s) p k item is.node is.number none in
+    elim (cases_eq item.node n) [
+      | inl same ↦
+          subst (λ j. FitsAt j s (Took item ∷ core_past nodes s)) (sym is.node ∙ same)
+          (rw (eq-eqb item.node p is.node) (takes (h p) k item at next))
+      | inr other ↦ rw (ne_eqb item.node n other) (kept (h n) (Took item))
+    ]
+
+orderly-joined : (nodes : ℕ) (s : List (Event × Reply)) (node start : ℕ) → node ≡ numbered (core_past nodes s)
+    → IsOrderly nodes s → (n : ℕ)
+    → Fits (numbered (core_past nodes s) + 1) (stamp_or n (Some (node, start)) (last_stamp n s))
+    (count n (core_past nodes s)) (head n (JoinedOf node start ∷ core_past nodes s)) n (has_retired n s)
+    (retired n (core_past nodes s)) (issued n s) (JoinedOf node start ∷ core_past nodes s)
+orderly-joined nodes s node start is h n =
+    let step : Step = JoinedOf node start in
+    elim (cases_eq node n) [
+      | inl same ↦ rw (← same, eq-eqb node node refl) (joins (h node) start step is)
+      | inr other ↦
+          rw (ne_eqb node n other)
+          (goes-on (h n) (omega arith) (omega arith) (λ far. (h n).fresh (omega (arith, far)))
+          (λ item m. Contains-rest step (Took item) (core_past nodes s) m))
+    ]
 
 orderly-entry : (nodes : ℕ) (s : List (Event × Reply)) (event : Event) (reply : Reply) → MayReply nodes s event reply
     → IsOrderly nodes s → IsOrderly nodes ((event, reply) ∷ s)
@@ -399,9 +373,7 @@ orderly-entry nodes s (Report p reading) (Stamped st num) allowed h =
 orderly-entry nodes s (Retire p reading) (Stamped st num) allowed h =
     orderly-issued nodes s p reading st num a_retire _ allowed.0 allowed.1.0 allowed.1.1 h
 orderly-entry nodes s Join (Joined node start) allowed h =
-    orderly-join (numbered (core_past nodes s)) (λ n. issued n s) (λ n. last_stamp n s)
-    (λ n. count n (core_past nodes s))
-    (core_past nodes s) node start h allowed.1.0
+    orderly-joined nodes s node start allowed.1.0 h
 orderly-entry nodes s (Send p reading) (Sent st num) allowed h =
     orderly-stamped nodes s p st _ allowed.0 (stamp-rises _ reading st allowed.1.0) h
 orderly-entry nodes s (Receive p reading number) (Received st) allowed h =
@@ -410,21 +382,51 @@ orderly-entry nodes s (Observe p reading id) (Observed st) allowed h =
     orderly-stamped nodes s p st _ allowed.0 (observed-rises _ _ reading st allowed.1) h
 orderly-entry nodes s (Deliver p k) (Accepted st) allowed h =
     orderly-taken nodes s p k st (slice_get (issued p s) k) refl (on_link-none nodes s p _ allowed.0).1 h
-orderly-entry nodes s (OpenAt at) (Snapshot id st) allowed h = h
-orderly-entry nodes s OpenFloor (Snapshot id st) allowed h = h
+orderly-entry nodes s (OpenAt at) (Snapshot id st) allowed h = λ n. kept (h n) (Opened st)
+orderly-entry nodes s OpenFloor (Snapshot id st) allowed h = λ n. kept (h n) (Opened st)
 orderly-entry nodes s (Read id key) (Answer value) allowed h = h
 orderly-entry nodes s (ListAll id) (Listing pairs) allowed h = h
-orderly-entry nodes s (Close id) (Closed st) allowed h = h
-orderly-entry nodes s Vacuum (Vacuumed report) allowed h = h
+orderly-entry nodes s (Close id) (Closed st) allowed h = λ n. kept (h n) (ClosedOf id)
+orderly-entry nodes s Vacuum (Vacuumed report) allowed h = λ n. kept (h n) (VacuumedOf report.floor)
 orderly-entry nodes s _ _ allowed h = h
 
 -- every legal schedule is orderly
 pub orderly : (nodes : ℕ) (s : List (Event × Reply)) → IsLegal nodes s → IsOrderly nodes s
-orderly nodes [] legal =
-    record {
-      each = λ n k item m. absurd (let w : k < 0 = slice_get_within [] k item m in omega arith);
-      rising = λ n j k a b lt m. absurd (let w : j < 0 = slice_get_within [] j a m in omega arith);
-      head_low = λ n. omega arith;
-      fresh = λ n out. refl;
-    }
+orderly nodes [] legal = λ n. record {
+  each = λ k item at. absurd (cc);
+  rising = λ j k a b lt at. absurd (cc);
+  head_low = omega arith;
+  fresh = λ far. refl;
+  few = omega arith;
+  all_taken = λ out. absurd (cc);
+}
 orderly nodes (entry ∷ s) legal = orderly-entry nodes s entry.0 entry.1 legal.0 (orderly nodes s legal.1)
+
+-- every issued item at or below the floor was accepted
+pub complete : (nodes : ℕ) (s : List (Event × Reply)) → IsLegal nodes s → IsComplete nodes s
+complete nodes s legal = λ item from low.
+    let n : ℕ = from.0 in
+    let k : ℕ = from.1.0 in
+    let within : k < length (issued n s) = from.1.1 in
+    let at : slice_get (issued n s) k ≡ Some item = slice_get-get_or (issued n s) k item within ∙ ap Some from.1.2 in
+    let all' = orderly nodes s legal n in
+    let is = all'.each k item at in
+    is.taken
+    (elim (cases_lt k (count n (core_past nodes s))) [
+      | inl before ↦ before
+      | inr later ↦
+          elim (cases_Bool (retired n (core_past nodes s))) [
+            | inl out ↦ (let each = (all'.all_taken out).0 in omega (arith, within, each))
+            | inr here ↦ absurd
+                (let least : floor (core_past nodes s) ≤ head n (core_past nodes s) =
+                floor-le (core_past nodes s) n is.inside here in
+                let up : head n (core_past nodes s) < item.stamp = is.ahead later in
+                let low' : item.stamp ≤ floor (core_past nodes s) = low in omega arith)
+          ]
+    ])
+
+-- no clock of a node whose last item was not accepted is below the floor
+pub below_clocks : (nodes : ℕ) (s : List (Event × Reply)) → IsLegal nodes s → IsBelowClocks nodes s
+below_clocks nodes s legal = λ n inside here.
+    let least : floor (core_past nodes s) ≤ head n (core_past nodes s) = floor-le (core_past nodes s) n inside here in
+    let low = (orderly nodes s legal n).head_low in omega (arith, low)

@@ -1,32 +1,30 @@
 -- No world replies that a stamp does not rise: no expected refusal says it, since a delivery passes an issued item,
 -- which is refused only because of its number, or because its node's last item was accepted.
-use Rattle.std.proofs.Common.{◌≡◌, ℕ, Bool, true, false, List, [], ◌∷◌, length, Some, None, Option, Ok, Err, Result, ap}
-use Rattle.std.proofs.Common.{sym, ◌∙◌, subst, inl, inr}
-use Rattle.std.specs.Prelude.{nat_le, nat_lt, if◌then◌else◌}
-use Rattle.std.proofs.lemmas.Bool.{cond-true, cond-false, eq-eqb, ne_eqb, cases_eq, cases_Bool}
+use Rattle.std.proofs.Common.{◌≡◌, ℕ, Bool, true, false, List, [], ◌∷◌, length, Some, None, Option, Ok, Err, Result}
+use Rattle.std.proofs.Common.{subst, inl, inr}
+use Rattle.std.specs.Prelude.{nat_le, nat_lt, if◌then◌else◌, ⊤, ◌==◌}
 use Rattle.hlc_clock.specs.NextStamp.{expected_stamp}
 use Rattle.hlc_clock.specs.declared.clock.ClockFault.{ClockFault}
 use Rattle.hlc_node.specs.declared.item.Item.{Item}
 use Rattle.hlc_node.specs.declared.item.Body.TheVariants.{Write as a_write, Report as a_report, Retire as a_retire}
 use Rattle.hlc_node.specs.declared.item.Message.{Message}
 use Rattle.hlc_node.specs.declared.node.NodeFault.{NodeFault}
-use Rattle.hlc_node.specs.declared.node.NodeFault.TheVariants as node_fault
+use Rattle.hlc_node.specs.declared.node.NodeFault.TheVariants.{Retired}
 use Rattle.hlc_node.specs.Node.{expected_issue}
 use Rattle.hlc_heads.specs.declared.heads.TheConstants.{MAX_NODES}
 use Rattle.hlc_core.specs.Calls.{list_refusal}
 use Rattle.hlc_core.specs.Past.{Step, numbered, retired, count, floor, horizon, last_id, stamp_of, open_snapshots}
-use Rattle.hlc_core.specs.Past.{join_refusal, of_room, open_refusal}
+use Rattle.hlc_core.specs.Past.{of_room, open_refusal}
 use Rattle.hlc_snapshot.specs.declared.fault.SnapshotFault.{SnapshotFault}
 use Rattle.hlc_snapshot.specs.declared.fault.SnapshotFault.TheVariants as snapshot_fault
 use Rattle.hlc_snapshot.specs.RegistryView.{room_refusal as room_in}
 use Rattle.hlc_world_event.specs.declared.event.Event.TheVariants.{Write, Delete, Report, Retire, Join, Send, Receive}
 use Rattle.hlc_world_event.specs.declared.event.Event.TheVariants.{Observe, Deliver, OpenAt, OpenFloor, Read}
-use Rattle.hlc_world_event.specs.declared.event.Event.TheVariants.{List as ListAll}
-use Rattle.hlc_world_event.specs.declared.event.Event.TheVariants.{Close, Floor, Vacuum, Rows}
+use Rattle.hlc_world_event.specs.declared.event.Event.TheVariants.{List as ListAll, Close, Floor, Vacuum, Rows}
 use Rattle.hlc_world.specs.declared.reply.Reply.{Reply}
 use Rattle.hlc_world.specs.declared.reply.Reply.TheVariants.{Refused}
 use Rattle.hlc_world.specs.declared.refusal.Refusal.{Refusal}
-use Rattle.hlc_intake.specs.declared.intake.LinkFault.TheVariants as link_fault
+use Rattle.hlc_intake.specs.declared.intake.LinkFault.TheVariants.{StampNotRising, NotNext}
 use Rattle.hlc_heads.specs.declared.heads.JoinFault.TheVariants.{TooManyNodes}
 use Rattle.hlc_events.specs.declared.fault.CoreFault.TheVariants.{Link, Join as joining, AboveFloor, BelowHorizon}
 use Rattle.hlc_world.specs.declared.refusal.Refusal.TheVariants.{NoNode, Node as at_node, Store, NoMemory}
@@ -34,140 +32,110 @@ use Rattle.hlc_world.specs.Schedule.{has_retired, item_at, last_stamp, message_a
 use Rattle.hlc_world_event.specs.Events.{Event}
 use Rattle.hlc_world.specs.Store.{core_past}
 use Rattle.hlc_world.specs.Expected.{issue_refusal, stamp_refusal, receive_refusal, observe_refusal, core_refusal}
-use Rattle.hlc_world.specs.Expected.{on_link}
-use Rattle.hlc_world.specs.Expected.{on_node, expected_refusal, number_refusal, GoesByNumber, MayReply, IsLegal}
-use Rattle.hlc_world.proofs.Delivery.{goes-by-number}
-
--- the refusal that a stamp does not rise
-abbrev StampNotRising : ℕ → Refusal
-StampNotRising head = Store (Link (link_fault.StampNotRising head))
-
--- the refusal that a node retired
-abbrev IsRetired : Refusal
-IsRetired = at_node node_fault.Retired
+use Rattle.hlc_world.specs.Expected.{on_link, on_node, expected_refusal, number_refusal, GoesByNumber, MayReply}
+use Rattle.hlc_world.specs.Expected.{IsLegal}
+use Rattle.hlc_world.proofs.StoreEvents.{goes-by-number}
+use Rattle.hlc_events.specs.declared.fault.CoreFault.{CoreFault}
 
 -- the refusal is not that a stamp does not rise
-abbrev IsRise : Option Refusal → Type 0
-IsRise refusal = (head : ℕ) → refusal ≡ Some (StampNotRising head) → ⊥
+abbrev IsOther : Option Refusal → Type 0
+IsOther (Some (Store (Link (StampNotRising head)))) = ⊥
+IsOther _ = ⊤
 
-stamp-rise : (r : Result ℕ ClockFault) → IsRise (stamp_refusal r)
-stamp-rise (Ok st) head e = absurd (cc)
-stamp-rise (Err fault) head e = absurd (cc)
+either : (b : Bool) (x y : Option Refusal) → IsOther x → IsOther y → IsOther (if b then x else y)
+either true x y first second = first
+either false x y first second = second
 
-issue-rise : (r : Result ℕ NodeFault) → IsRise (issue_refusal r)
-issue-rise (Ok st) head e = absurd (cc)
-issue-rise (Err fault) head e = absurd (cc)
+either_fault : (b : Bool) (x y : Option CoreFault) → IsOther (core_refusal x) → IsOther (core_refusal y)
+    → IsOther (core_refusal (if b then x else y))
+either_fault true x y first second = first
+either_fault false x y first second = second
 
-receive-rise : (o : Option Message) (last reading : ℕ) → IsRise (receive_refusal o last reading)
-receive-rise None last reading head e = absurd (cc)
-receive-rise (Some message) last reading head e = stamp-rise (expected_stamp (last ∷ message.stamp ∷ []) reading) head e
+stamp-other : (r : Result ℕ ClockFault) → IsOther (stamp_refusal r)
+stamp-other (Ok st) = tt
+stamp-other (Err fault) = tt
 
-observe-rise : (o : Option ℕ) (last reading : ℕ) → IsRise (observe_refusal o last reading)
-observe-rise None last reading head e = absurd (cc)
-observe-rise (Some seen) last reading head e = stamp-rise (expected_stamp (last ∷ seen ∷ []) reading) head e
+issue-other : (r : Result ℕ NodeFault) → IsOther (issue_refusal r)
+issue-other (Ok st) = tt
+issue-other (Err fault) = tt
 
-number-rise : (o : Option Item) (was_last : Bool) (number next : ℕ) → IsRise (number_refusal o was_last number next)
-number-rise None was_last number next head e = absurd (cc)
-number-rise (Some item) true number next head e = absurd (cc)
-number-rise (Some item) false number next head e =
-    elim (cases_eq number next) [
-      | inl same ↦
-          absurd (let g : None ≡ Some (StampNotRising head) = sym (cond-true _ _ _ (eq-eqb _ _ same)) ∙ e in cc)
-      | inr other ↦ absurd (let g : Some (Store (Link (link_fault.NotNext next))) ≡ Some (StampNotRising head) =
-          sym (cond-false _ _ _ (ne_eqb _ _ other)) ∙ e in cc)
-    ]
+receive-other : (o : Option Message) (last reading : ℕ) → IsOther (receive_refusal o last reading)
+receive-other None last reading = tt
+receive-other (Some message) last reading = stamp-other (expected_stamp (last ∷ message.stamp ∷ []) reading)
 
-room-rise : (o : Option SnapshotFault) → IsRise (core_refusal (of_room o))
-room-rise None head e = absurd (cc)
-room-rise (Some snapshot_fault.TooManySnapshots) head e = absurd (cc)
-room-rise (Some snapshot_fault.NumbersSpent) head e = absurd (cc)
-room-rise (Some snapshot_fault.NoMemory) head e = absurd (cc)
+observe-other : (o : Option ℕ) (last reading : ℕ) → IsOther (observe_refusal o last reading)
+observe-other None last reading = tt
+observe-other (Some seen) last reading = stamp-other (expected_stamp (last ∷ seen ∷ []) reading)
 
-open-rise : (past : List Step) (stamp : ℕ) → IsRise (core_refusal (open_refusal past stamp))
-open-rise past stamp head e =
-    elim (cases_Bool (nat_lt (floor past) stamp)) [
-      | inl above ↦ absurd (let g : Some (Store (AboveFloor (floor past))) ≡ Some (StampNotRising head) =
-          ap core_refusal (sym (cond-true _ _ _ above)) ∙ e in cc)
-      | inr low ↦
-          let e1 = ap core_refusal (sym (cond-false _ _ _ low)) ∙ e in
-          elim (cases_Bool (nat_lt stamp (horizon past))) [
-            | inl below ↦ absurd (let g : Some (Store (BelowHorizon (horizon past))) ≡ Some (StampNotRising head) =
-                ap core_refusal (sym (cond-true _ _ _ below)) ∙ e1 in cc)
-            | inr high ↦ room-rise (room_in (length (open_snapshots past)) (last_id past)) head
-                (ap core_refusal (sym (cond-false _ _ _ high)) ∙ e1)
-          ]
-    ]
+number-other : (o : Option Item) (was_last : Bool) (number next : ℕ) → IsOther (number_refusal o was_last number next)
+number-other None was_last number next = tt
+number-other (Some item) true number next = tt
+number-other (Some item) false number next =
+    either (number == next) None (Some (Store (Link (NotNext next)))) tt tt
 
-snapshot-rise : (o : Option ℕ) → IsRise (core_refusal (list_refusal o))
-snapshot-rise None head e = absurd (cc)
-snapshot-rise (Some stamp) head e = absurd (cc)
+room-other : (o : Option SnapshotFault) → IsOther (core_refusal (of_room o))
+room-other None = tt
+room-other (Some snapshot_fault.TooManySnapshots) = tt
+room-other (Some snapshot_fault.NumbersSpent) = tt
+room-other (Some snapshot_fault.NoMemory) = tt
 
-join-rise : (past : List Step) → IsRise (core_refusal (join_refusal past))
-join-rise past head e =
-    elim (cases_Bool (nat_le MAX_NODES (numbered past))) [
-      | inl full ↦ absurd (let g : Some (Store (joining TooManyNodes)) ≡ Some (StampNotRising head) =
-          ap core_refusal (sym (cond-true _ _ _ full)) ∙ e in cc)
-      | inr room ↦ absurd
-          (let g : None ≡ Some (StampNotRising head) = ap core_refusal (sym (cond-false _ _ _ room)) ∙ e in cc)
-    ]
+open-other : (past : List Step) (stamp : ℕ) → IsOther (core_refusal (open_refusal past stamp))
+open-other past stamp =
+    either_fault (nat_lt (floor past) stamp) (Some (AboveFloor (floor past))) _ tt
+    (either_fault (nat_lt stamp (horizon past)) (Some (BelowHorizon (horizon past))) _ tt
+    (room-other (room_in (length (open_snapshots past)) (last_id past))))
 
-link-rise : (nodes : ℕ) (s : List (Event × Reply)) (p : ℕ) (rest : Option Refusal) → IsRise rest
-    → IsRise (on_link nodes s p rest)
-link-rise nodes s p rest h head e =
-    elim (cases_Bool (nat_le (numbered (core_past nodes s)) p)) [
-      | inl outside ↦
-          absurd (let g : Some NoNode ≡ Some (StampNotRising head) = sym (cond-true _ _ _ outside) ∙ e in cc)
-      | inr inside ↦ h head (sym (cond-false _ _ _ inside) ∙ e)
-    ]
+snapshot-other : (o : Option ℕ) → IsOther (core_refusal (list_refusal o))
+snapshot-other None = tt
+snapshot-other (Some stamp) = tt
 
-retired-rise : (was_last : Bool) (rest : Option Refusal) → IsRise rest
-    → IsRise (if was_last then Some IsRetired else rest)
-retired-rise true rest h head e = absurd (cc)
-retired-rise false rest h head e = h head e
+link-other : (nodes : ℕ) (s : List (Event × Reply)) (p : ℕ) (rest : Option Refusal) → IsOther rest
+    → IsOther (on_link nodes s p rest)
+link-other nodes s p rest h = either (nat_le (numbered (core_past nodes s)) p) (Some NoNode) rest tt h
 
-inside-rise : (nodes : ℕ) (s : List (Event × Reply)) (p : ℕ) (rest : Option Refusal) → IsRise rest
-    → IsRise (on_node nodes s p rest)
-inside-rise nodes s p rest h =
-    link-rise nodes s p (if has_retired p s then Some IsRetired else rest) (retired-rise (has_retired p s) rest h)
+node-other : (nodes : ℕ) (s : List (Event × Reply)) (p : ℕ) (rest : Option Refusal) → IsOther rest
+    → IsOther (on_node nodes s p rest)
+node-other nodes s p rest h =
+    link-other nodes s p _ (either (has_retired p s) (Some (at_node Retired)) rest tt h)
 
-expected-rise : (nodes : ℕ) (s : List (Event × Reply)) (event : Event) → GoesByNumber nodes s
-    → IsRise (expected_refusal nodes s event)
-expected-rise nodes s (Write p reading key value) numbers =
-    inside-rise nodes s p _ (issue-rise (expected_issue (node_of p s) (a_write key (Some value)) reading))
-expected-rise nodes s (Delete p reading key) numbers =
-    inside-rise nodes s p _ (issue-rise (expected_issue (node_of p s) (a_write key None) reading))
-expected-rise nodes s (Report p reading) numbers =
-    inside-rise nodes s p _ (issue-rise (expected_issue (node_of p s) a_report reading))
-expected-rise nodes s (Retire p reading) numbers =
-    inside-rise nodes s p _ (issue-rise (expected_issue (node_of p s) a_retire reading))
-expected-rise nodes s Join numbers = join-rise (core_past nodes s)
-expected-rise nodes s (Send p reading) numbers =
-    inside-rise nodes s p _ (stamp-rise (expected_stamp (last_stamp p s ∷ []) reading))
-expected-rise nodes s (Receive p reading k) numbers =
-    inside-rise nodes s p _ (receive-rise (message_at k s) (last_stamp p s) reading)
-expected-rise nodes s (Deliver p k) numbers =
-    subst IsRise (sym (numbers p k))
-    (link-rise nodes s p _
-    (number-rise (item_at p k s) (retired p (core_past nodes s)) k (count p (core_past nodes s))))
-expected-rise nodes s (Observe p reading id) numbers =
-    inside-rise nodes s p _ (observe-rise (stamp_of id (core_past nodes s)) (last_stamp p s) reading)
-expected-rise nodes s (OpenAt stamp) numbers = open-rise (core_past nodes s) stamp
-expected-rise nodes s OpenFloor numbers = room-rise
-    (room_in (length (open_snapshots (core_past nodes s))) (last_id (core_past nodes s)))
-expected-rise nodes s (Read id key) numbers = snapshot-rise (stamp_of id (core_past nodes s))
-expected-rise nodes s (ListAll id) numbers = snapshot-rise (stamp_of id (core_past nodes s))
-expected-rise nodes s (Close id) numbers = snapshot-rise (stamp_of id (core_past nodes s))
-expected-rise nodes s Floor numbers = λ head e. absurd (cc)
-expected-rise nodes s Vacuum numbers = λ head e. absurd (cc)
-expected-rise nodes s Rows numbers = λ head e. absurd (cc)
+expected-other : (nodes : ℕ) (s : List (Event × Reply)) (event : Event) → GoesByNumber nodes s
+    → IsOther (expected_refusal nodes s event)
+expected-other nodes s (Write p reading key value) numbers =
+    node-other nodes s p _ (issue-other (expected_issue (node_of p s) (a_write key (Some value)) reading))
+expected-other nodes s (Delete p reading key) numbers =
+    node-other nodes s p _ (issue-other (expected_issue (node_of p s) (a_write key None) reading))
+expected-other nodes s (Report p reading) numbers =
+    node-other nodes s p _ (issue-other (expected_issue (node_of p s) a_report reading))
+expected-other nodes s (Retire p reading) numbers =
+    node-other nodes s p _ (issue-other (expected_issue (node_of p s) a_retire reading))
+expected-other nodes s Join numbers =
+    either_fault (nat_le MAX_NODES (numbered (core_past nodes s))) (Some (joining TooManyNodes)) None tt tt
+expected-other nodes s (Send p reading) numbers =
+    node-other nodes s p _ (stamp-other (expected_stamp (last_stamp p s ∷ []) reading))
+expected-other nodes s (Receive p reading k) numbers =
+    node-other nodes s p _ (receive-other (message_at k s) (last_stamp p s) reading)
+expected-other nodes s (Deliver p k) numbers =
+    rw (numbers p k) (link-other nodes s p _
+    (number-other (item_at p k s) (retired p (core_past nodes s)) k (count p (core_past nodes s))))
+expected-other nodes s (Observe p reading id) numbers =
+    node-other nodes s p _ (observe-other (stamp_of id (core_past nodes s)) (last_stamp p s) reading)
+expected-other nodes s (OpenAt stamp) numbers = open-other (core_past nodes s) stamp
+expected-other nodes s OpenFloor numbers =
+    room-other (room_in (length (open_snapshots (core_past nodes s))) (last_id (core_past nodes s)))
+expected-other nodes s (Read id key) numbers = snapshot-other (stamp_of id (core_past nodes s))
+expected-other nodes s (ListAll id) numbers = snapshot-other (stamp_of id (core_past nodes s))
+expected-other nodes s (Close id) numbers = snapshot-other (stamp_of id (core_past nodes s))
+expected-other nodes s Floor numbers = tt
+expected-other nodes s Vacuum numbers = tt
+expected-other nodes s Rows numbers = tt
 
 -- so no world replies that a stamp does not rise
 pub rising : (nodes : ℕ) (s : List (Event × Reply)) (event : Event) (head : ℕ) (reply : Reply)
-    → IsLegal nodes ((event, reply) ∷ s) → reply ≡ Refused (StampNotRising head) → ⊥
+    → IsLegal nodes ((event, reply) ∷ s) → reply ≡ Refused (Store (Link (StampNotRising head))) → ⊥
 rising nodes s event head reply legal is =
-    let may' : MayReply nodes s event (Refused (StampNotRising head)) =
+    let may' : MayReply nodes s event (Refused (Store (Link (StampNotRising head)))) =
     subst (λ r. MayReply nodes s event r) is legal.0 in
     elim may' [
-      | inl expected ↦ expected-rise nodes s event (goes-by-number nodes s legal.1) head expected
-      | inr lost ↦ (let g : StampNotRising head ≡ NoMemory = lost.1 in absurd (cc))
+      | inl expected ↦ subst IsOther expected (expected-other nodes s event (goes-by-number nodes s legal.1))
+      | inr lost ↦ (let g : Store (Link (StampNotRising head)) ≡ NoMemory = lost.1 in absurd (cc))
     ]

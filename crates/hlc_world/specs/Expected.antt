@@ -20,8 +20,7 @@ use Rattle.hlc_core.specs.Stored.{IsStoredCount}
 use Rattle.hlc_core.specs.History.{expected_refusal as expected_of_store, IsExpectedReply as IsExpectedStoreReply}
 use Rattle.hlc_core.specs.History.{MayRunOutOfMemory as CoreMayRunOut}
 use Rattle.hlc_world_event.specs.declared.event.Event.TheVariants.{Write, Delete, Report, Retire, Send, Receive}
-use Rattle.hlc_world_event.specs.declared.event.Event.TheVariants.{Observe}
-use Rattle.hlc_world_event.specs.declared.event.Event.TheVariants.{Deliver, Read, List as ListAll, Floor, Rows}
+use Rattle.hlc_world_event.specs.declared.event.Event.TheVariants.{Observe, Deliver, Read, List as ListAll, Floor, Rows}
 use Rattle.hlc_world.specs.declared.reply.Reply.{Reply}
 use Rattle.hlc_world.specs.declared.reply.Reply.TheVariants.{Stamped, Sent, Received, Observed, Floor as FloorIs}
 use Rattle.hlc_world.specs.declared.reply.Reply.TheVariants.{Rows as RowsAre, Refused}

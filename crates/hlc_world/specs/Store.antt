@@ -9,8 +9,7 @@ use Rattle.hlc_core.specs.declared.reply.CoreReply.TheVariants as core_reply
 use Rattle.hlc_core.specs.Past.{Step}
 use Rattle.hlc_core.specs.History.{past_of}
 use Rattle.hlc_world_event.specs.declared.event.Event.TheVariants.{Deliver, OpenAt, OpenFloor, Read, List as ListAll}
-use Rattle.hlc_world_event.specs.declared.event.Event.TheVariants.{Close}
-use Rattle.hlc_world_event.specs.declared.event.Event.TheVariants.{Join, Vacuum}
+use Rattle.hlc_world_event.specs.declared.event.Event.TheVariants.{Close, Join, Vacuum}
 use Rattle.hlc_world.specs.declared.reply.Reply.{Reply}
 use Rattle.hlc_world.specs.declared.reply.Reply.TheVariants.{Accepted, Joined, Snapshot, Answer, Listing, Closed}
 use Rattle.hlc_world.specs.declared.reply.Reply.TheVariants.{Vacuumed}

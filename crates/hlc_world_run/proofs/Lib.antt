@@ -1,5 +1,2 @@
 mod Mirrors
-mod Places
-mod Openings
 mod Orders
-mod Events

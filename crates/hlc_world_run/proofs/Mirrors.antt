@@ -1,11 +1,11 @@
 -- The run says of the store, of the links and of the clocks what the schedule says, and so it is legal: an item has the
 -- next number of its link and a stamp above its node's clock, a received message was sent, and a snapshot is not above
 -- the floor.
-use Rattle.std.proofs.Common.{◌≡◌, ℕ, zero, suc, Bool, false, ◌+◌, ◌<◌, ◌≤◌, List, [], ◌∷◌, ◌++◌, length, max, Some}
-use Rattle.std.proofs.Common.{None, Option, refl, ap, sym, ◌∙◌, subst, inl, inr, arith, length-append, Ok}
+use Rattle.std.proofs.Common.{◌≡◌, ℕ, zero, suc, Bool, false, ◌+◌, ◌<◌, ◌≤◌, List, [], ◌∷◌, ◌++◌, length, Some, None}
+use Rattle.std.proofs.Common.{Option, refl, ap, sym, ◌∙◌, subst, inl, inr, arith, length-append, Ok}
 use Rattle.std.specs.Prelude.{Contains, slice_get, reverse}
-use Rattle.std.proofs.lemmas.Option.{slice_get_within}
-use Rattle.std.proofs.lemmas.Bool.{cond-true, cond-false, eq-eqb, ne_eqb, cases_lt, cases_eq}
+use Rattle.std.proofs.lemmas.Option.{slice_get_within, same_Some}
+use Rattle.std.proofs.lemmas.Bool.{eq-eqb, ne_eqb, cases_eq}
 use Rattle.std.proofs.lemmas.List.{length-reverse, reverse-append}
 use Rattle.std.proofs.lemmas.List.Elements.{Contains-append_left, Contains-push}
 use Rattle.hlc_node.specs.declared.item.Item.{Item}
@@ -21,27 +21,22 @@ use Rattle.hlc_core.proofs.PastLemmas.{open-low}
 use Rattle.hlc_core.specs.History.{past_of as past_by}
 use Rattle.hlc_world_event.specs.declared.event.Event.TheVariants.{Write, Delete, Report, Retire, Join, Send, Receive}
 use Rattle.hlc_world_event.specs.declared.event.Event.TheVariants.{Observe, Deliver, OpenAt, OpenFloor, Read}
-use Rattle.hlc_world_event.specs.declared.event.Event.TheVariants.{List as ListAll}
-use Rattle.hlc_world_event.specs.declared.event.Event.TheVariants.{Close, Vacuum}
+use Rattle.hlc_world_event.specs.declared.event.Event.TheVariants.{List as ListAll, Close, Vacuum}
 use Rattle.hlc_world.specs.declared.reply.Reply.{Reply}
 use Rattle.hlc_world.specs.declared.reply.Reply.TheVariants.{Stamped, Joined, Sent, Received, Observed, Accepted}
 use Rattle.hlc_world.specs.declared.reply.Reply.TheVariants.{Snapshot, Answer, Listing, Closed, Vacuumed}
 use Rattle.hlc_world.specs.declared.refusal.Refusal.{Refusal}
 use Rattle.hlc_world.specs.Schedule.{with_item, ends, stamp_or, has_retired, node_of, sent, message_at}
-use Rattle.hlc_world_event.specs.Events.{Event}
 use Rattle.hlc_world.specs.Schedule.{issued as issued_by, last_stamp as clock_of}
+use Rattle.hlc_world_event.specs.Events.{Event}
 use Rattle.hlc_world.specs.Store.{accepting, accepted, paired, with_entry, store_history, core_past}
 use Rattle.hlc_world.specs.Expected.{on_node, deliver_refusal, IsReceived, IsObserved, MayReply, IsLegal}
-use Rattle.hlc_world.proofs.ScheduleLemmas.{some-injective, get-append_left, get-push}
-use Rattle.hlc_world.proofs.ScheduleLemmas.{stamp_or-other, with_item-same, with_item-other, ends-same, ends-other}
-use Rattle.hlc_world.proofs.ScheduleLemmas.{orderly, on_link-none, on_node-none, issue-ok, no-core, stamp-rises}
-use Rattle.hlc_world.proofs.ScheduleLemmas.{sight-rises}
-use Rattle.hlc_world.proofs.ScheduleLemmas.{legal-past}
+use Rattle.hlc_world.proofs.ScheduleLemmas.{push-cases, orderly, on_link-none, on_node-none, issue-ok, no-core}
+use Rattle.hlc_world.proofs.ScheduleLemmas.{stamp-rises, sight-rises, legal-past}
 use Rattle.hlc_ranges.specs.Run.{Turn, Issued, Sent as Sends, Received as Receives, Observed as Observes, Stepped}
 use Rattle.hlc_ranges.specs.Run.{past_of, issued, ends_with, start_of, raised_by, last_stamp, turn_at, IsRouted}
 use Rattle.hlc_ranges.specs.Run.{next_number, IsIssuedStep, IsLegal as IsLegalRun}
-use Rattle.hlc_ranges.proofs.TurnLemmas.{turn-keeps, raised-same, raised-other, past-same, issued-same}
-use Rattle.hlc_ranges.proofs.TurnLemmas.{issued-other_node, new-begin}
+use Rattle.hlc_ranges.proofs.TurnLemmas.{turn-keeps, past-same, new-begin}
 use Rattle.hlc_world_run.specs.RunOf.{layout_of, messages, sent_at, observing, step_by, stepping, with_turn, run_of}
 
 -- the run is legal, and has this past, these items of each link, these clocks, and these messages
@@ -64,10 +59,8 @@ clock-marked : (n a last : ℕ) (mark : ℕ × ℕ) → a ≡ last → (mark.0 �
     → raised_by n (Some mark) a ≡ stamp_or n (Some mark) last
 clock-marked n a last mark is up =
     elim (cases_eq mark.0 n) [
-      | inl same ↦ (let e : raised_by n (Some mark) a ≡ max a mark.1 = raised-same n mark a same in
-          let f : stamp_or n (Some mark) last ≡ mark.1 = cond-true _ _ _ (eq-eqb mark.0 n same) in
-          let u : last ≤ mark.1 = up same in omega arith)
-      | inr other ↦ raised-other n mark a other ∙ is ∙ sym (stamp_or-other n mark.0 mark.1 last other)
+      | inl same ↦ let u : last ≤ mark.1 = up same in rw (eq-eqb mark.0 n same) (omega arith)
+      | inr other ↦ rw (ne_eqb mark.0 n other) is
     ]
 
 clock-by : (n a last : ℕ) (mark : Option (ℕ × ℕ)) → a ≡ last
@@ -75,166 +68,139 @@ clock-by : (n a last : ℕ) (mark : Option (ℕ × ℕ)) → a ≡ last
 clock-by n a last None is up = is
 clock-by n a last (Some mark) is up = clock-marked n a last mark is (up mark refl)
 
-clock-stamped : (lasts : ℕ → ℕ) (p st n a : ℕ) → a ≡ lasts n → lasts p < st
-    → raised_by n (Some (p, st)) a ≡ stamp_or n (Some (p, st)) (lasts n)
-clock-stamped lasts p st n a is up =
-    clock-marked n a (lasts n) (p, st) is
-    (λ same. (let u : lasts n < st = subst (λ k. lasts k < st) same up in omega arith))
-
 -- an item is the last one of its link
 link-item : (n : ℕ) (item : Item) (run : List Turn) (items : List Item) → issued 0 n run ≡ reverse items
     → issued 0 n (Issued 0 item ∷ run) ≡ reverse (with_item n (Some item) items)
 link-item n item run items is =
     elim (cases_eq item.node n) [
-      | inl same ↦ issued-same 0 0 n item run refl same ∙ ap (λ xs. item ∷ xs) is
-          ∙ sym (ap reverse (with_item-same n item items same) ∙ reverse-append items (item ∷ []))
-      | inr other ↦ issued-other_node 0 0 n item run refl other ∙ is
-          ∙ sym (ap reverse (with_item-other n item items other))
+      | inl same ↦
+          rw (eq-eqb item.node n same) (ap (λ xs. item ∷ xs) is ∙ sym (reverse-append items (item ∷ [])))
+      | inr other ↦ rw (ne_eqb item.node n other) is
     ]
 
 over-item : (n : ℕ) (item : Item) (run : List Turn) (before : Bool) → ends_with false (issued 0 n run) ≡ before
     → ends_with false (issued 0 n (Issued 0 item ∷ run)) ≡ ends n (Some item) before
 over-item n item run before is =
     elim (cases_eq item.node n) [
-      | inl same ↦ ap (ends_with false) (issued-same 0 0 n item run refl same) ∙ sym (ends-same n item before same)
-      | inr other ↦ ap (ends_with false) (issued-other_node 0 0 n item run refl other) ∙ is
-          ∙ sym (ends-other n item before other)
+      | inl same ↦ rw (eq-eqb item.node n same) refl
+      | inr other ↦ rw (ne_eqb item.node n other) is
     ]
 
--- an item that a node issues
-issues : (nodes : ℕ) (items : ℕ → List Item) (overs : ℕ → Bool) (lasts : ℕ → ℕ) (letters : List Message)
-    (past : List Step) (run : List Turn) (p st num : ℕ) (body : Body)
-    → Mirrors nodes items overs lasts letters past run → p < numbered past → overs p ≡ false
-    → num ≡ length (items p) → lasts p < st → IsRouted (layout_of nodes) 0 body
-    → Mirrors nodes (λ n. with_item n (Some (an_item p num st body)) (items n))
-    (λ n. ends n (Some (an_item p num st body)) (overs n)) (λ n. stamp_or n (Some (p, st)) (lasts n)) letters past
-    (Issued 0 (an_item p num st body) ∷ run)
-issues nodes items overs lasts letters past run p st num body h inside active is up routed =
-    let item = an_item p num st body in
-    let clock : last_stamp (layout_of nodes) p run < st =
-    (let e : last_stamp (layout_of nodes) p run ≡ lasts p = h.clock p in omega (arith, e, up)) in
-    let number : num ≡ next_number (layout_of nodes) 0 p run =
-    (let long : length (issued 0 p run) ≡ length (items p) = ap length (h.link p) ∙ length-reverse (items p) in
-    let goal : num ≡ 0 + length (issued 0 p run) = omega arith in goal) in
-    record {
-      legal = (
-        (
-          one,
-          subst (λ x. p < numbered x) (sym h.past_is) inside,
-          h.over p ∙ active,
-          number,
-          clock,
-          routed,
-        ),
-        h.legal,
-      );
-      past_is = h.past_is;
-      link = λ n. link-item n item run (items n) (h.link n);
-      over = λ n. over-item n item run (overs n) (h.over n);
-      clock = λ n. clock-stamped lasts p st n (last_stamp (layout_of nodes) n run) (h.clock n) up;
-      many = h.many;
-      each = λ k letter at. turn-keeps (Issued 0 item) run (sent_at k run) _ (h.each k letter at);
-    }
+module _ {nodes : ℕ} {items : ℕ → List Item} {overs : ℕ → Bool} {lasts : ℕ → ℕ} {letters : List Message}
+    {past : List Step} {run : List Turn} (h : Mirrors nodes items overs lasts letters past run) where
+  -- a stamp above the last one of a node is above its clock, and becomes it
+  above : (p st : ℕ) → lasts p < st → last_stamp (layout_of nodes) p run < st
+  above p st up = (let e : last_stamp (layout_of nodes) p run ≡ lasts p = h.clock p in omega (arith, e, up))
 
--- a message that a node sends
-sends : (nodes : ℕ) (items : ℕ → List Item) (overs : ℕ → Bool) (lasts : ℕ → ℕ) (letters : List Message)
-    (past : List Step) (run : List Turn) (p st : ℕ) → Mirrors nodes items overs lasts letters past run → lasts p < st
-    → Mirrors nodes items overs (λ n. stamp_or n (Some (p, st)) (lasts n))
-    (letters ++ record { from = p; stamp = st } ∷ []) past (Sends p st ∷ run)
-sends nodes items overs lasts letters past run p st h up =
-    let mine : Message = record { from = p; stamp = st } in
-    let clock : last_stamp (layout_of nodes) p run < st =
-    (let e : last_stamp (layout_of nodes) p run ≡ lasts p = h.clock p in omega (arith, e, up)) in
-    let l : length (letters ++ mine ∷ []) ≡ length letters + 1 = length-append letters (mine ∷ []) in
-    let m : messages run ≡ length letters = h.many in
-    record {
-      legal = (clock, h.legal);
-      past_is = h.past_is;
-      link = h.link;
-      over = h.over;
-      clock = λ n. clock-stamped lasts p st n (last_stamp (layout_of nodes) n run) (h.clock n) up;
-      many = omega (arith, l, m);
-      each = λ k letter at.
-          elim (cases_lt k (length letters)) [
-            | inl old ↦
-                ap (λ i. turn_at (Sends p st ∷ run) i)
-                (cond-false _ _ _ (ne_eqb (messages run) k (λ e. omega (arith, e, old, m))))
-                ∙ turn-keeps (Sends p st) run (sent_at k run) _
-                (h.each k letter (sym (get-append_left letters (mine ∷ []) k old) ∙ at))
-            | inr late ↦
-                let within : k < length (letters ++ mine ∷ []) = slice_get_within (letters ++ mine ∷ []) k letter at in
-                let last : k ≡ length letters = omega (arith, within, l, late) in
-                let is : mine ≡ letter =
-                some-injective mine letter (sym (get-push letters mine)
-                ∙ ap (λ j. slice_get (letters ++ mine ∷ []) j) (sym last) ∙ at) in
-                ap (λ i. turn_at (Sends p st ∷ run) i) (cond-true _ _ _ (eq-eqb (messages run) k (m ∙ sym last)))
-                ∙ cond-true _ _ _ (eq-eqb (length run) (length run) refl)
-                ∙ ap (λ (x : Message). Some (Sends x.from x.stamp)) is
-          ];
-    }
+  clock-stamped : (p st n : ℕ) → lasts p < st
+      → raised_by n (Some (p, st)) (last_stamp (layout_of nodes) n run) ≡ stamp_or n (Some (p, st)) (lasts n)
+  clock-stamped p st n up = clock-marked n _ (lasts n) (p, st) (h.clock n)
+      (λ same. (let u : lasts n < st = subst (λ k. lasts k < st) same up in omega arith))
 
--- a message that a node receives
-receives : (nodes : ℕ) (items : ℕ → List Item) (overs : ℕ → Bool) (lasts : ℕ → ℕ) (letters : List Message)
-    (past : List Step) (run : List Turn) (p st k : ℕ) (letter : Message)
-    → Mirrors nodes items overs lasts letters past run → slice_get letters k ≡ Some letter → lasts p < st
-    → letter.stamp < st
-    → Mirrors nodes items overs (λ n. stamp_or n (Some (p, st)) (lasts n)) letters past
-    (Receives p (sent_at k run) st ∷ run)
-receives nodes items overs lasts letters past run p st k letter h at up above =
-    let clock : last_stamp (layout_of nodes) p run < st =
-    (let e : last_stamp (layout_of nodes) p run ≡ lasts p = h.clock p in omega (arith, e, up)) in
-    record {
-      legal = ((clock, (letter.from, letter.stamp, h.each k letter at, above)), h.legal);
-      past_is = h.past_is;
-      link = h.link;
-      over = h.over;
-      clock = λ n. clock-stamped lasts p st n (last_stamp (layout_of nodes) n run) (h.clock n) up;
-      many = h.many;
-      each = λ j x m. turn-keeps (Receives p (sent_at k run) st) run (sent_at j run) _ (h.each j x m);
-    }
+  stays : (turn : Turn) (k : ℕ) (letter : Message) → slice_get letters k ≡ Some letter
+      → turn_at (turn ∷ run) (sent_at k run) ≡ Some (Sends letter.from letter.stamp)
+  stays turn k letter at = turn-keeps turn run (sent_at k run) _ (h.each k letter at)
 
--- the store that a node observes
-observes : (nodes : ℕ) (items : ℕ → List Item) (overs : ℕ → Bool) (lasts : ℕ → ℕ) (letters : List Message)
-    (past : List Step) (run : List Turn) (p st at : ℕ) → Mirrors nodes items overs lasts letters past run
-    → at ≤ floor past → lasts p < st → at < st
-    → Mirrors nodes items overs (λ n. stamp_or n (Some (p, st)) (lasts n)) letters past (Observes p 0 at st ∷ run)
-observes nodes items overs lasts letters past run p st at h low up above =
-    let clock : last_stamp (layout_of nodes) p run < st =
-    (let e : last_stamp (layout_of nodes) p run ≡ lasts p = h.clock p in omega (arith, e, up)) in
-    record {
-      legal = (
-        (clock, one, subst (λ x. at ≤ floor x) (sym h.past_is) low, above),
-        h.legal,
-      );
-      past_is = h.past_is;
-      link = h.link;
-      over = h.over;
-      clock = λ n. clock-stamped lasts p st n (last_stamp (layout_of nodes) n run) (h.clock n) up;
-      many = h.many;
-      each = λ k x m. turn-keeps (Observes p 0 at st) run (sent_at k run) _ (h.each k x m);
-    }
+  -- an item that a node issues
+  issues : (p st num : ℕ) (body : Body) → p < numbered past → overs p ≡ false → num ≡ length (items p)
+      → lasts p < st → IsRouted (layout_of nodes) 0 body
+      → Mirrors nodes (λ n. with_item n (Some (an_item p num st body)) (items n))
+      (λ n. ends n (Some (an_item p num st body)) (overs n)) (λ n. stamp_or n (Some (p, st)) (lasts n)) letters past
+      (Issued 0 (an_item p num st body) ∷ run)
+  issues p st num body inside active is up routed =
+      let item = an_item p num st body in
+      let number : num ≡ next_number (layout_of nodes) 0 p run =
+      (let long : length (issued 0 p run) ≡ length (items p) = ap length (h.link p) ∙ length-reverse (items p) in
+      let goal : num ≡ 0 + length (issued 0 p run) = omega arith in goal) in
+      record {
+        legal = (
+          (
+            one,
+            subst (λ x. p < numbered x) (sym h.past_is) inside,
+            h.over p ∙ active,
+            number,
+            above p st up,
+            routed,
+          ),
+          h.legal,
+        );
+        past_is = h.past_is;
+        link = λ n. link-item n item run (items n) (h.link n);
+        over = λ n. over-item n item run (overs n) (h.over n);
+        clock = λ n. clock-stamped p st n up;
+        many = h.many;
+        each = stays (Issued 0 item);
+      }
 
--- a step of the store
-steps : (nodes : ℕ) (items : ℕ → List Item) (overs : ℕ → Bool) (lasts : ℕ → ℕ) (letters : List Message)
-    (past : List Step) (run : List Turn) (step : Step) → Mirrors nodes items overs lasts letters past run
-    → IsLegalPast (step ∷ past) → IsIssuedStep 0 step run
-    → ((p : ℕ × ℕ) → start_of (layout_of nodes) 0 step ≡ Some p → lasts p.0 ≤ p.1)
-    → Mirrors nodes items overs (λ n. stamp_or n (start_of (layout_of nodes) 0 step) (lasts n)) letters (step ∷ past)
-    (Stepped 0 step ∷ run)
-steps nodes items overs lasts letters past run step h legal is_issued starts =
-    record {
-      legal = (
-        (one, subst (λ x. IsLegalPast (step ∷ x)) (sym h.past_is) legal, is_issued),
-        h.legal,
-      );
-      past_is = past-same (layout_of nodes) 0 0 step run refl ∙ ap (λ x. step ∷ x) h.past_is;
-      link = h.link;
-      over = h.over;
-      clock = λ n. clock-by n (last_stamp (layout_of nodes) n run) (lasts n) (start_of (layout_of nodes) 0 step)
-          (h.clock n) (λ p e same. subst (λ k. lasts k ≤ p.1) same (starts p e));
-      many = h.many;
-      each = λ k x m. turn-keeps (Stepped 0 step) run (sent_at k run) _ (h.each k x m);
-    }
+  -- a message that a node sends
+  sends : (p st : ℕ) → lasts p < st
+      → Mirrors nodes items overs (λ n. stamp_or n (Some (p, st)) (lasts n))
+      (letters ++ record { from = p; stamp = st } ∷ []) past (Sends p st ∷ run)
+  sends p st up =
+      let mine : Message = record { from = p; stamp = st } in
+      let l : length (letters ++ mine ∷ []) ≡ length letters + 1 = length-append letters (mine ∷ []) in
+      let m : messages run ≡ length letters = h.many in
+      record {
+        legal = (above p st up, h.legal);
+        past_is = h.past_is;
+        link = h.link;
+        over = h.over;
+        clock = λ n. clock-stamped p st n up;
+        many = omega (arith, l, m);
+        each = λ k letter at.
+            elim (push-cases letters mine letter k at) [
+              | inl old ↦
+                  let within : k < length letters = slice_get_within letters k letter old in
+                  rw (ne_eqb (messages run) k (λ e. omega (arith, e, within, m)))
+                  (stays (Sends p st) k letter old)
+              | inr new ↦
+                  rw (eq-eqb (messages run) k (m ∙ sym new.0), eq-eqb (length run) (length run) refl)
+                  (ap (λ (x : Message). Some (Sends x.from x.stamp)) new.1)
+            ];
+      }
+
+  -- a message that a node receives
+  receives : (p st k : ℕ) (letter : Message) → slice_get letters k ≡ Some letter → lasts p < st → letter.stamp < st
+      → Mirrors nodes items overs (λ n. stamp_or n (Some (p, st)) (lasts n)) letters past
+      (Receives p (sent_at k run) st ∷ run)
+  receives p st k letter at up above_it = record {
+    legal = ((above p st up, (letter.from, letter.stamp, h.each k letter at, above_it)), h.legal);
+    past_is = h.past_is;
+    link = h.link;
+    over = h.over;
+    clock = λ n. clock-stamped p st n up;
+    many = h.many;
+    each = stays (Receives p (sent_at k run) st);
+  }
+
+  -- the store that a node observes
+  observes : (p st at : ℕ) → at ≤ floor past → lasts p < st → at < st
+      → Mirrors nodes items overs (λ n. stamp_or n (Some (p, st)) (lasts n)) letters past (Observes p 0 at st ∷ run)
+  observes p st at low up above_it = record {
+    legal = ((above p st up, one, subst (λ x. at ≤ floor x) (sym h.past_is) low, above_it), h.legal);
+    past_is = h.past_is;
+    link = h.link;
+    over = h.over;
+    clock = λ n. clock-stamped p st n up;
+    many = h.many;
+    each = stays (Observes p 0 at st);
+  }
+
+  -- a step of the store
+  steps : (step : Step) → IsLegalPast (step ∷ past) → IsIssuedStep 0 step run
+      → ((p : ℕ × ℕ) → start_of (layout_of nodes) 0 step ≡ Some p → lasts p.0 ≤ p.1)
+      → Mirrors nodes items overs (λ n. stamp_or n (start_of (layout_of nodes) 0 step) (lasts n)) letters
+      (step ∷ past) (Stepped 0 step ∷ run)
+  steps step legal is_issued starts = record {
+    legal = ((one, subst (λ x. IsLegalPast (step ∷ x)) (sym h.past_is) legal, is_issued), h.legal);
+    past_is = past-same (layout_of nodes) 0 0 step run refl ∙ ap (λ x. step ∷ x) h.past_is;
+    link = h.link;
+    over = h.over;
+    clock = λ n. clock-by n (last_stamp (layout_of nodes) n run) (lasts n) (start_of (layout_of nodes) 0 step)
+        (h.clock n) (λ p e same. subst (λ k. lasts k ≤ p.1) same (starts p e));
+    many = h.many;
+    each = stays (Stepped 0 step);
+  }
 
 -- what is said of this schedule, where the core's past after it is this one, and its run is this one
 abbrev MirrorsAt : ℕ → List (Event × Reply) → (ℕ → ℕ) → List Step → List Turn → Type 0
@@ -253,9 +219,7 @@ issued-mirrors : (nodes : ℕ) (s : List (Event × Reply)) (p reading st num : �
     (sent s) (core_past nodes s) (Issued 0 (an_item p num st body) ∷ run_of nodes s)
 issued-mirrors nodes s p reading st num body rest none expected is routed h =
     let free = on_node-none nodes s p rest none in
-    issues nodes (λ n. issued_by n s) (λ n. has_retired n s) (λ n. clock_of n s) (sent s) (core_past nodes s)
-    (run_of nodes s) p st
-    num body h free.0 free.1 is (issue-ok (node_of p s) body reading st expected).2 routed
+    issues h p st num body free.0 free.1 is (issue-ok (node_of p s) body reading st expected).2 routed
 
 received-mirrors : (nodes : ℕ) (s : List (Event × Reply)) (p reading st k : ℕ) (o : Option Message)
     → message_at k s ≡ o → IsReceived o (clock_of p s) reading st → IsMirrored nodes s
@@ -264,9 +228,7 @@ received-mirrors : (nodes : ℕ) (s : List (Event × Reply)) (p reading st k : �
 received-mirrors nodes s p reading st k None at is h = absurd is
 received-mirrors nodes s p reading st k (Some letter) at is h =
     let up = sight-rises (clock_of p s) letter.stamp reading st is in
-    receives nodes (λ n. issued_by n s) (λ n. has_retired n s) (λ n. clock_of n s) (sent s) (core_past nodes s)
-    (run_of nodes s) p
-    st k letter h at up.0 up.1
+    receives h p st k letter at up.0 up.1
 
 observed-mirrors : (nodes : ℕ) (s : List (Event × Reply)) (p reading st id : ℕ) (o : Option ℕ) → IsLegal nodes s
     → stamp_of id (core_past nodes s) ≡ o → IsObserved o (clock_of p s) reading st → IsMirrored nodes s
@@ -277,24 +239,13 @@ observed-mirrors nodes s p reading st id (Some seen) legal at is h =
     let up = sight-rises (clock_of p s) seen reading st is in
     let low : seen ≤ floor (core_past nodes s) = stamp_in-all (λ x. x ≤ floor (core_past nodes s)) id seen
     (open_snapshots (core_past nodes s)) (open-low (core_past nodes s) (legal-past nodes s legal)) at in
-    observes nodes (λ n. issued_by n s) (λ n. has_retired n s) (λ n. clock_of n s) (sent s) (core_past nodes s)
-    (run_of nodes s) p
-    st seen h low up.0 up.1
-
-stepped-mirrors : (nodes : ℕ) (s : List (Event × Reply)) (step : Step) → IsMirrored nodes s
-    → IsLegalPast (step ∷ core_past nodes s) → IsIssuedStep 0 step (run_of nodes s)
-    → ((p : ℕ × ℕ) → start_of (layout_of nodes) 0 step ≡ Some p → clock_of p.0 s ≤ p.1)
-    → MirrorsAt nodes s (λ n. stamp_or n (start_of (layout_of nodes) 0 step) (clock_of n s)) (step ∷ core_past nodes s)
-    (Stepped 0 step ∷ run_of nodes s)
-stepped-mirrors nodes s step h =
-    steps nodes (λ n. issued_by n s) (λ n. has_retired n s) (λ n. clock_of n s) (sent s) (core_past nodes s)
-    (run_of nodes s) step h
+    observes h p st seen low up.0 up.1
 
 reversed : (items : List Item) (k : ℕ) (item : Item) → slice_get items k ≡ Some item → Contains (reverse items) item
 reversed [] k item at = absurd (let w : k < 0 = slice_get_within [] k item at in omega arith)
 reversed (x ∷ items) zero item at =
     subst (λ xs. Contains xs item) (sym (reverse-append (x ∷ []) items))
-    (subst (λ y. Contains (reverse items ++ y ∷ []) item) (sym (some-injective x item at))
+    (subst (λ y. Contains (reverse items ++ y ∷ []) item) (sym (same_Some x item at))
     (Contains-push (reverse items) item))
 reversed (x ∷ items) (suc k) item at =
     subst (λ xs. Contains xs item) (sym (reverse-append (x ∷ []) items))
@@ -307,10 +258,10 @@ taken-mirrors : (nodes : ℕ) (s : List (Event × Reply)) (p k st : ℕ) (o : Op
     (with_turn (stepping (step_by (paired (accepted p st o) (accepting o)))) (run_of nodes s))
 taken-mirrors nodes s p k st None legal at none h = h
 taken-mirrors nodes s p k st (Some item) legal at none h =
-    let own : item.node ≡ p = ((orderly nodes s legal).each p k item at).node in
+    let own : item.node ≡ p = ((orderly nodes s legal p).each k item at).node in
     let there : Contains (issued 0 p (run_of nodes s)) item =
     subst (λ xs. Contains xs item) (sym (h.link p)) (reversed (issued_by p s) k item at) in
-    stepped-mirrors nodes s (Took item) h (no-core _ none, legal-past nodes s legal)
+    steps h (Took item) (no-core _ none, legal-past nodes s legal)
     (subst (λ n. Contains (issued 0 n (run_of nodes s)) item) (sym own) there) (λ q e. absurd (cc))
 
 mirrored-entry : (nodes : ℕ) (s : List (Event × Reply)) (event : Event) (reply : Reply) → MayReply nodes s event reply
@@ -324,35 +275,33 @@ mirrored-entry nodes s (Report p reading) (Stamped st num) allowed legal h =
 mirrored-entry nodes s (Retire p reading) (Stamped st num) allowed legal h =
     issued-mirrors nodes s p reading st num a_retire _ allowed.0 allowed.1.0 allowed.1.1 tt h
 mirrored-entry nodes s (Send p reading) (Sent st num) allowed legal h =
-    sends nodes (λ n. issued_by n s) (λ n. has_retired n s) (λ n. clock_of n s) (sent s) (core_past nodes s)
-    (run_of nodes s) p st h
-    (stamp-rises (clock_of p s) reading st allowed.1.0)
+    sends h p st (stamp-rises (clock_of p s) reading st allowed.1.0)
 mirrored-entry nodes s (Receive p reading k) (Received st) allowed legal h =
     received-mirrors nodes s p reading st k (message_at k s) refl allowed.1 h
 mirrored-entry nodes s (Observe p reading id) (Observed st) allowed legal h =
     observed-mirrors nodes s p reading st id (stamp_of id (core_past nodes s)) legal refl allowed.1 h
 mirrored-entry nodes s Join (Joined node start) allowed legal h =
     let fresh : clock_of node s ≡ 0 =
-    (orderly nodes s legal).fresh node (let next = allowed.1.0 in omega (arith, next)) in
+    (orderly nodes s legal node).fresh (let next = allowed.1.0 in omega (arith, next)) in
     let low : clock_of node s ≤ start = omega arith in
-    stepped-mirrors nodes s (JoinedAt node start) h
+    steps h (JoinedAt node start)
     (legal-past nodes ((Join, Joined node start) ∷ s) (allowed, legal)) tt
-    (λ p e. subst (λ (q : ℕ × ℕ). clock_of q.0 s ≤ q.1) (some-injective (node, start) p e) low)
+    (λ p e. subst (λ (q : ℕ × ℕ). clock_of q.0 s ≤ q.1) (same_Some (node, start) p e) low)
 mirrored-entry nodes s (Deliver p k) (Accepted st) allowed legal h =
     taken-mirrors nodes s p k st (slice_get (issued_by p s) k) legal refl (on_link-none nodes s p _ allowed.0).1 h
 mirrored-entry nodes s (OpenAt at) (Snapshot id st) allowed legal h =
-    stepped-mirrors nodes s (OpenedAt st) h
+    steps h (OpenedAt st)
     (legal-past nodes ((OpenAt at, Snapshot id st) ∷ s) (allowed, legal)) tt (λ q e. absurd (cc))
 mirrored-entry nodes s OpenFloor (Snapshot id st) allowed legal h =
-    stepped-mirrors nodes s (OpenedAt st) h
+    steps h (OpenedAt st)
     (legal-past nodes ((OpenFloor, Snapshot id st) ∷ s) (allowed, legal)) tt (λ q e. absurd (cc))
 mirrored-entry nodes s (Read id key) (Answer value) allowed legal h = h
 mirrored-entry nodes s (ListAll id) (Listing pairs) allowed legal h = h
 mirrored-entry nodes s (Close id) (Closed st) allowed legal h =
-    stepped-mirrors nodes s (ClosedOf id) h
+    steps h (ClosedOf id)
     (legal-past nodes ((Close id, Closed st) ∷ s) (allowed, legal)) tt (λ q e. absurd (cc))
 mirrored-entry nodes s Vacuum (Vacuumed report) allowed legal h =
-    stepped-mirrors nodes s (VacuumedTo report.floor) h
+    steps h (VacuumedTo report.floor)
     (legal-past nodes ((Vacuum, Vacuumed report) ∷ s) (allowed, legal)) tt (λ q e. absurd (cc))
 mirrored-entry nodes s _ _ allowed legal h = h
 

@@ -1,7 +1,6 @@
 -- The run of a schedule says what the schedule says, and each event has its place in it.
 use Rattle.hlc_world_run.proofs.Mirrors.{mirrored}
-use Rattle.hlc_world_run.proofs.Orders.{stamped, ordered}
-use Rattle.hlc_world_run.proofs.Events.{events}
+use Rattle.hlc_world_run.proofs.Orders.{stamped, ordered, events}
 use Rattle.hlc_world_run.proofs.worlds_are_runs.Goals as goal
 
 pub returns-clause-legal : goal.returns-clause-legal

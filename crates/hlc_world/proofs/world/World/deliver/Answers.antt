@@ -4,7 +4,7 @@ use Rattle.std.proofs.lemmas.Option.{slice_get_read, slice_get_within}
 use Rattle.std.specs.Prelude.{slice_get}
 use Rattle.hlc_world.specs.Store.{core_past}
 use Rattle.hlc_world.specs.declared.reply.Reply.TheVariants.{Refused}
-use Rattle.hlc_world.proofs.Delivery.{found, answered, reply_of}
+use Rattle.hlc_world.proofs.StoreEvents.{found, answered, reply_of}
 use Rattle.hlc_world.proofs.world.World.deliver.Goals as goal
 use Rattle.hlc_world.proofs.world.World.deliver.Goals.{in-Ok, in-Err}
 
@@ -17,8 +17,8 @@ returns-clause-represents c = λ nodes s h.
     let inside = slice_get_within c.self.inside.nodes.items c.args.node c.in-Some.issuer.now node in
     let at = found nodes _ s c.args.node c.args.number c.in-Some.issuer.now c.in-Some-item.item.now h' inside node
     c.in-Some-item.ensures in
-    let all' = answered nodes _ s c.args.node c.args.number c.in-Some-item.item.now c.accept.new.core c.accept.result
-    h' at (c.accept.ensures.represents (core_past nodes s) h'.core) in
+    let all' = answered nodes _ s c.args.node c.args.number c.in-Some-item.item.now h' at c.accept.new.core
+    c.accept.result (c.accept.ensures.represents (core_past nodes s) h'.core) in
     elim c.match-accept.branch [
       | in-Ok w ↦ rw (w.result-is ∙ sym (ap reply_of w.in-Ok.is)) all'
       | in-Err w ↦ rw (w.result-is ∙ ap Refused w.from.ensures ∙ sym (ap reply_of w.in-Err.is)) all'

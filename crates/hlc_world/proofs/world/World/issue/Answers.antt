@@ -11,8 +11,8 @@ returns-clause-represents c = λ nodes s h.
     let lent = c.in-Some.ensures.item in
     let at = slice_get_read c.self.inside.nodes.items _ c.args.node c.in-Some.issuer.now refl lent.3.0 lent.1 in
     elim c.match-issue.branch [
-      | in-Ok w ↦ rw w.result-is (issues nodes _ s c.args.node c.args.reading c.args.content c.in-Some.issuer.now
-          c.issue.new.self _ h' lent.3.0 at w.in-Ok.ensures)
-      | in-Err w ↦ rw w.result-is (issues_not nodes _ s c.args.node c.args.reading c.args.content c.in-Some.issuer.now
-          c.issue.new.self _ h' lent.3.0 at w.in-Err.ensures)
+      | in-Ok w ↦ rw w.result-is (issues nodes _ s c.args.node c.in-Some.issuer.now h' lent.3.0 at c.args.reading
+          c.args.content c.issue.new.self _ w.in-Ok.ensures)
+      | in-Err w ↦ rw w.result-is (issues_not nodes _ s c.args.node c.in-Some.issuer.now h' lent.3.0 at
+          c.args.reading c.args.content c.issue.new.self _ w.in-Err.ensures)
     ]

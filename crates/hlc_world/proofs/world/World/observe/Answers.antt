@@ -17,9 +17,8 @@ returns-clause-represents c = λ nodes s h.
     sym (c.in-Some-stamp_of.ensures (core_past nodes s) h'.core) in
     let is = observe-is nodes s c.args.node c.args.reading c.args.id c.in-Some-stamp_of.seen there in
     elim c.match-see.branch [
-      | in-Ok w ↦ rw w.result-is (sees nodes _ s _ Observed c.args.node c.in-Some-stamp_of.seen
-          c.args.reading w.in-Ok.stamp
-          c.in-Some.issuer.now c.see.new.self is h' lent.3.0 at w.in-Ok.ensures)
-      | in-Err w ↦ rw w.result-is (sees_not nodes _ s _ Observed c.args.node c.in-Some-stamp_of.seen c.args.reading
-          c.in-Some.issuer.now c.see.new.self _ is h' lent.3.0 at w.in-Err.ensures)
+      | in-Ok w ↦ rw w.result-is (sees nodes _ s c.args.node c.in-Some.issuer.now h' lent.3.0 at _ Observed
+          c.in-Some-stamp_of.seen c.args.reading w.in-Ok.stamp c.see.new.self is w.in-Ok.ensures)
+      | in-Err w ↦ rw w.result-is (sees_not nodes _ s c.args.node c.in-Some.issuer.now h' lent.3.0 at _ Observed
+          c.in-Some-stamp_of.seen c.args.reading c.see.new.self _ is w.in-Err.ensures)
     ]

@@ -11,7 +11,7 @@ returns-in-Err-clause-represents c = λ nodes s h.
     let lent = c.in-Some.ensures.item in
     let at = slice_get_read c.self.inside.nodes.items _ c.args.node c.in-Some.issuer.now refl lent.3.0 lent.1 in
     rw c.from.ensures (put-back nodes _ _ c.args.node c.in-Some.issuer.now at
-    (sends_not nodes _ s c.args.node c.args.reading c.in-Some.issuer.now c.in-Err.fault h' lent.3.0 at
+    (sends_not nodes _ s c.args.node c.in-Some.issuer.now h' lent.3.0 at c.args.reading c.in-Err.fault
     (ap (λ node. expected_event node (node.last ∷ []) c.args.reading) (sym c.node-sender.ensures)
     ∙ c.in-Err.ensures.expected.0)))
 
@@ -25,8 +25,8 @@ returns-else-not-post-clause-represents c = λ nodes s h.
     let many : c.len-message.result ≡ length c.self.inside.sent_stamps.items =
     omega (arith, c.len-message.ensures, c.self.inside.sent_stamps.ok.0) in
     rw (c.go_on.ensures, many)
-    (sends nodes _ s c.args.node c.args.reading c.in-Some.issuer.now c.send.new.self c.in-Ok.sent.stamp
-    c.post.new.stamps.items h' lent.3.0 at
+    (sends nodes _ s c.args.node c.in-Some.issuer.now h' lent.3.0 at c.args.reading c.send.new.self c.in-Ok.sent.stamp
+    c.post.new.stamps.items
     (ap (λ node. expected_event node (node.last ∷ []) c.args.reading) (sym sender) ∙ expected.0)
     (expected.2 ∙ ap (λ node. stamped node c.in-Ok.sent.stamp) sender)
     c.if-not-post.ensures)

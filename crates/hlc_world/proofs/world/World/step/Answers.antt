@@ -1,10 +1,9 @@
 -- What is true of every legal schedule is true of the one with this event, which the world represents.
 use Rattle.std.proofs.Common.{◌∷◌}
-use Rattle.hlc_world.proofs.Times.{less}
-use Rattle.hlc_world.proofs.Floors.{complete, below_clocks}
+use Rattle.hlc_world.proofs.Times.{less, closed}
+use Rattle.hlc_world.proofs.Orderly.{complete, below_clocks}
 use Rattle.hlc_world.proofs.Rises.{rising}
-use Rattle.hlc_world.proofs.Delivery.{goes-by-number}
-use Rattle.hlc_world.proofs.Closure.{closed}
+use Rattle.hlc_world.proofs.StoreEvents.{goes-by-number}
 use Rattle.hlc_world.proofs.Faithful.{faithful}
 use Rattle.hlc_world.proofs.world.World.step.Goals as goal
 
