@@ -2,6 +2,7 @@
 ghost use Rattle.std.specs.Prelude.{◌≡◌, ◌<◌, ◌≤◌, ◌+◌, ◌-◌, ◌^◌};
 ghost use Rattle.hlc_events.specs.declared.event.CoreEvent.{CoreEvent as AnEvent};
 ghost use Rattle.hlc_server.specs.Calls.{IsResultFor, IsLockedCall};
+ghost use Rattle.hlc_server.specs.Trails.{HasHistory};
 
 use crate::caller::{Called, Caller};
 use crate::entry::{CallResult, NotDone, Receipt};
@@ -14,7 +15,8 @@ use std::thread::Threads;
 /// Makes the call that an event asks for, and returns its caller with the receipt.
 ///
 /// The call is not made where no number is left, or where it runs out of memory: all memory that it needs is allocated
-/// before anything changes. Any other refusal is the reply of a call that was made.
+/// before anything changes. Without a trail, only an event that may run out of memory does so. Any other refusal is
+/// the reply of a call that was made.
 #[inline(always)]
 pub fn step_guarded<L: Ledger>(
     guarded: &mut Guarded<L>,
@@ -47,6 +49,7 @@ impl<L: Ledger> Guarded<L> {
     /// Makes the call that an event asks for, as `step_guarded` does.
     #[inline(always)]
     pub(crate) fn call(&mut self, caller: &mut Caller<L>, event: CoreEvent) -> CallResult
+        ensures history { HasHistory self.old.core self.old.calls }
         ensures called { IsLockedCall self.old self.new event result }
         ensures returned { IsResultFor caller.old event (caller.new, result) }
     {
@@ -66,6 +69,7 @@ impl<L: Ledger> Guarded<L> {
         caller: &mut Caller<L>,
         event: CoreEvent,
     ) -> CallResult
+        ensures history { HasHistory self.old.core self.old.calls }
         ensures called { IsLockedCall self.old self.new event result }
         ensures returned { IsResultFor caller.old event (caller.new, result) }
     {

@@ -1,7 +1,7 @@
 //! What the lock of a shared store protects, by the number of trails.
 ghost use Rattle.std.specs.Prelude.{◌≡◌, ◌==◌};
 ghost use Rattle.std.specs.Option.{is_some};
-ghost use Rattle.hlc_server.specs.Calls.{IsResultFor, IsLockedCall};
+ghost use Rattle.hlc_server.specs.Calls.{IsResultFor, IsUnderLock};
 
 use crate::caller::Caller;
 use crate::entry::CallResult;
@@ -22,7 +22,7 @@ impl<L: Ledger, const TRAILS: usize> Locked<L, TRAILS> {
     /// Makes the call that an event asks for.
     #[inline(always)]
     pub(crate) fn call(&mut self, caller: &mut Caller<L>, event: CoreEvent) -> CallResult
-        ensures called { IsLockedCall self.old.guarded self.new.guarded event result }
+        ensures locked { IsUnderLock (TRAILS == 1) event result }
         ensures returned { IsResultFor caller.old event (caller.new, result) }
     {
         self.guarded.call(caller, event)
@@ -35,7 +35,7 @@ impl<L: Ledger, const TRAILS: usize> Locked<L, TRAILS> {
         caller: &mut Caller<L>,
         event: CoreEvent,
     ) -> CallResult
-        ensures called { IsLockedCall self.old.guarded self.new.guarded event result }
+        ensures locked { IsUnderLock (TRAILS == 1) event result }
         ensures returned { IsResultFor caller.old event (caller.new, result) }
     {
         self.guarded.call_by_threads(rt, caller, event)

@@ -7,7 +7,7 @@ ghost use Rattle.hlc_core.specs.StoreView.{StoreView};
 ghost use Rattle.hlc_core.specs.Calls.{new_refusal, IsRefusal};
 ghost use Rattle.hlc_events.specs.declared.event.CoreEvent.{CoreEvent as AnEvent};
 ghost use Rattle.hlc_server.specs.Seats.{fresh_seat};
-ghost use Rattle.hlc_server.specs.Calls.{IsResultFor};
+ghost use Rattle.hlc_server.specs.Calls.{IsShared};
 ghost use Rattle.hlc_server.specs.Trails.{HasHistory};
 
 use crate::caller::{Called, Caller};
@@ -84,8 +84,9 @@ impl<L: Ledger> Shared<L> {
     }
 
     /// Makes the call that an event asks for, and leaves the caller with its owner. This thread alone plans a vacuum.
+    /// The reply is one that a store gives after as many calls as the receipt's number.
     pub fn call<R: Wait>(&self, rt: &R, caller: &mut Caller<L>, event: CoreEvent) -> CallResult
-        ensures { IsResultFor caller.old event (caller.new, result) }
+        ensures { IsShared self.now.audited caller.old event (caller.new, result) }
     {
         match &self.lock {
             StoreLock::Audited(lock) => lock.lock(rt).call(caller, event),
@@ -100,7 +101,7 @@ impl<L: Ledger> Shared<L> {
         caller: &mut Caller<L>,
         event: CoreEvent,
     ) -> CallResult
-        ensures { IsResultFor caller.old event (caller.new, result) }
+        ensures { IsShared self.now.audited caller.old event (caller.new, result) }
     {
         match &self.lock {
             StoreLock::Audited(lock) => lock.lock(rt).call_by_threads(rt, caller, event),
@@ -124,7 +125,7 @@ impl<L: Ledger> Shared<L> {
 
     /// Makes the call that an event asks for, and returns its caller.
     fn step<R: Wait>(&self, rt: &R, caller: Caller<L>, event: CoreEvent) -> Called<L>
-        ensures { IsResultFor caller event result }
+        ensures { IsShared self.now.audited caller event result }
     {
         let mut caller = caller;
         let returned = self.call(rt, &mut caller, event);
@@ -133,7 +134,7 @@ impl<L: Ledger> Shared<L> {
 
     /// Accepts the next item of a link.
     pub fn accept<R: Wait>(&self, rt: &R, caller: Caller<L>, item: Item) -> Called<L>
-        ensures { IsResultFor caller (AnEvent.Accept item) result }
+        ensures { IsShared self.now.audited caller (AnEvent.Accept item) result }
     {
         self.step(rt, caller, CoreEvent::Accept(item))
     }
@@ -141,49 +142,49 @@ impl<L: Ledger> Shared<L> {
     /// Lets a node join. The reply has its number and the stamp at which its clock starts: `NodeCore::new(node, start)`
     /// makes the node's side from them.
     pub fn join<R: Wait>(&self, rt: &R, caller: Caller<L>) -> Called<L>
-        ensures { IsResultFor caller AnEvent.Join result }
+        ensures { IsShared self.now.audited caller AnEvent.Join result }
     {
         self.step(rt, caller, CoreEvent::Join)
     }
 
     /// Opens a snapshot at a stamp.
     pub fn open<R: Wait>(&self, rt: &R, caller: Caller<L>, stamp: Stamp) -> Called<L>
-        ensures { IsResultFor caller (AnEvent.OpenAt stamp) result }
+        ensures { IsShared self.now.audited caller (AnEvent.OpenAt stamp) result }
     {
         self.step(rt, caller, CoreEvent::OpenAt(stamp))
     }
 
     /// Opens a snapshot at the floor (closed timestamp).
     pub fn open_floor<R: Wait>(&self, rt: &R, caller: Caller<L>) -> Called<L>
-        ensures { IsResultFor caller AnEvent.OpenFloor result }
+        ensures { IsShared self.now.audited caller AnEvent.OpenFloor result }
     {
         self.step(rt, caller, CoreEvent::OpenFloor)
     }
 
     /// Reads a key in an open snapshot.
     pub fn read<R: Wait>(&self, rt: &R, caller: Caller<L>, id: u64, key: Bytes) -> Called<L>
-        ensures { IsResultFor caller (AnEvent.Read id key) result }
+        ensures { IsShared self.now.audited caller (AnEvent.Read id key) result }
     {
         self.step(rt, caller, CoreEvent::Read { id, key })
     }
 
     /// Lists an open snapshot.
     pub fn list<R: Wait>(&self, rt: &R, caller: Caller<L>, id: u64) -> Called<L>
-        ensures { IsResultFor caller (AnEvent.List id) result }
+        ensures { IsShared self.now.audited caller (AnEvent.List id) result }
     {
         self.step(rt, caller, CoreEvent::List(id))
     }
 
     /// Closes an open snapshot.
     pub fn close<R: Wait>(&self, rt: &R, caller: Caller<L>, id: u64) -> Called<L>
-        ensures { IsResultFor caller (AnEvent.Close id) result }
+        ensures { IsShared self.now.audited caller (AnEvent.Close id) result }
     {
         self.step(rt, caller, CoreEvent::Close(id))
     }
 
     /// Drops the rows that no reader needs, with a plan by several threads. The store is locked for the whole call.
     pub fn vacuum<R: Wait + Threads + Sync>(&self, rt: &R, caller: Caller<L>) -> Called<L>
-        ensures { IsResultFor caller AnEvent.Vacuum result }
+        ensures { IsShared self.now.audited caller AnEvent.Vacuum result }
     {
         let mut caller = caller;
         let returned = self.call_by_threads(rt, &mut caller, CoreEvent::Vacuum);
