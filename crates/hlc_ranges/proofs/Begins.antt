@@ -9,7 +9,7 @@ use Rattle.hlc_rows.specs.declared.row.Row.{Row}
 use Rattle.hlc_core.specs.Past.{Step, Started, Took, count, head, retired, writes, IsLegal as IsLegalPast}
 use Rattle.hlc_core.specs.Replicas.{items_of}
 use Rattle.hlc_ranges.specs.Run.{Layout, Turn, Issued, Sent, Received, Observed, Stepped, past_of, ends_with, CanBegin}
-use Rattle.hlc_ranges.specs.Run.{IsLegal, begun_writes, issued_writes}
+use Rattle.hlc_ranges.specs.Run.{IsLegal, begun_writes}
 use Rattle.hlc_ranges.proofs.Pasts.{IsOfItem, of-more, of-step, step-writes, step-keeps, items-untaken, count-step}
 use Rattle.hlc_ranges.proofs.Pasts.{retired-step}
 use Rattle.hlc_ranges.proofs.Turns.{past-same, past-other, stepped-none}
@@ -164,14 +164,3 @@ begun-inside layout s row can m =
           let none = can.none s out in
           absurd (Contains-none row (subst (λ (p : List Step). Contains (writes p) row) none.1 m))
     ]
-
--- they are among the issued ones
-pub begun-issued : (layout : Layout) (run : List Turn) (row : Row)
-    → Contains (begun_writes layout layout.stores) row → Contains (issued_writes layout run) row
-begun-issued layout [] row m = m
-begun-issued layout (Issued t item ∷ run) row m =
-    Contains-append_left (issued_writes layout run) _ row (begun-issued layout run row m)
-begun-issued layout (Sent k st ∷ run) row m = begun-issued layout run row m
-begun-issued layout (Received k j st ∷ run) row m = begun-issued layout run row m
-begun-issued layout (Observed k t at st ∷ run) row m = begun-issued layout run row m
-begun-issued layout (Stepped t step ∷ run) row m = begun-issued layout run row m

@@ -17,7 +17,7 @@ use Rattle.hlc_ranges.proofs.Pasts.{step-writes, step-keeps}
 use Rattle.hlc_ranges.proofs.NewestWrites.{answer-in_part}
 
 -- the legal step of a store
-step-legal : (layout : Layout) (t s : ℕ) (step : Step) (run : List Turn) → t ≡ s
+pub step-legal : (layout : Layout) (t s : ℕ) (step : Step) (run : List Turn) → t ≡ s
     → IsLegalPast (step ∷ past_of layout t run) → IsLegalPast (step ∷ past_of layout s run)
 step-legal layout t s step run same legal = subst (λ k. IsLegalPast (step ∷ past_of layout k run)) same legal
 
@@ -108,17 +108,23 @@ kept-rows layout run (Stepped t step ∷ later) s row m =
           (step-keeps step (past_of layout s (later ++ run)) row (kept-rows layout run later s row m))
     ]
 
-legal-before : (layout : Layout) (run later : List Turn) → IsLegal layout (later ++ run) → IsLegal layout run
+pub legal-before : (layout : Layout) (run later : List Turn) → IsLegal layout (later ++ run) → IsLegal layout run
 legal-before layout run [] legal = legal
 legal-before layout run (turn ∷ later) legal = legal-before layout run later legal.1
+
+pub reads-below : (layout : Layout) (run later : List Turn) (stamp s : ℕ) (key : List ℕ) → IsLegal layout (later ++ run)
+    → stamp ≤ floor (past_of layout s run)
+    → answer (writes (past_of layout s (later ++ run))) key stamp ≡ answer (writes (past_of layout s run)) key stamp
+reads-below layout run later stamp s key legal low =
+    sym (answer-in_part (writes (past_of layout s run)) (writes (past_of layout s (later ++ run))) key stamp
+    (writes-row_set (past_of layout s run) (past-legal layout run s (legal-before layout run later legal)))
+    (λ row m of_key. kept-rows layout run later s row m)
+    (λ row m of_key below.
+    (let low' : stamp ≤ floor (past_of layout s run) = low in
+    let b : row.stamp ≤ stamp = below in old-rows layout run later s row legal m (omega arith))))
 
 pub reads-stay : (layout : Layout) (run later : List Turn) (stamp s : ℕ) (key : List ℕ) → IsLegal layout (later ++ run)
     → IsCut layout run stamp → s < layout.stores
     → answer (writes (past_of layout s (later ++ run))) key stamp ≡ answer (writes (past_of layout s run)) key stamp
 reads-stay layout run later stamp s key legal cut within =
-    let low : stamp ≤ floor (past_of layout s run) = cut s within in
-    sym (answer-in_part (writes (past_of layout s run)) (writes (past_of layout s (later ++ run))) key stamp
-    (writes-row_set (past_of layout s run) (past-legal layout run s (legal-before layout run later legal)))
-    (λ row m. kept-rows layout run later s row m)
-    (λ row m of_key below.
-    (let b : row.stamp ≤ stamp = below in old-rows layout run later s row legal m (omega arith))))
+    reads-below layout run later stamp s key legal (cut s within)

@@ -106,7 +106,8 @@ link-more base ended last many many' n items taken top up h = record {
 
 -- the node that joins has issued nothing, and starts at a stamp that its clock has reached
 pub link-start : (base : ℕ) (ended : Bool) (last many n : ℕ) (items taken : List Item) (top start : ℕ) → n ≡ many
-    → start ≤ last → IsLink base ended last many n items taken top → IsLink base ended last (many + 1) n items taken start
+    → start ≤ last → IsLink base ended last many n items taken top
+    → IsLink base ended last (many + 1) n items taken start
 link-start base ended last many n items taken top start is up h = record {
   later = h.later;
   is = h.is;

@@ -14,31 +14,44 @@ use Rattle.hlc_node.specs.declared.item.Item.{Item}
 use Rattle.hlc_node.specs.declared.item.Body.{Body}
 use Rattle.hlc_node.specs.declared.item.Body.TheVariants.{Write, Batch, Report, Retire}
 use Rattle.hlc_rows.specs.Rows.{newest, answer, IsRowSet}
-use Rattle.hlc_rows.proofs.NewestLemmas.{newest_is_greatest, answer_none, answer_some}
-use Rattle.hlc_vacuum_draft.proofs.PartLemmas.{newest_in_part, none_in_part}
+use Rattle.hlc_rows.proofs.NewestLemmas.{newest_is_greatest, no_newest_no_row, newest_is_unique, answer_none}
+use Rattle.hlc_rows.proofs.NewestLemmas.{answer_some}
 use Rattle.hlc_core.specs.Past.{Step, Took, writes, body_rows, item_rows}
 use Rattle.hlc_core.proofs.PastLemmas.{body_rows-are, took-writes, writes-row_set}
 use Rattle.hlc_ranges.specs.Run.{Layout, Turn, Issued, Sent, Received, Observed, Stepped, past_of, issued, IsRouted}
-use Rattle.hlc_ranges.specs.Run.{IsIssuedStep, IsLegal, step_rows, begun_writes, issued_writes, accepted_writes}
-use Rattle.hlc_ranges.specs.Cut.{IsCut, AreNewestAccepted, AreNewestIssued}
+use Rattle.hlc_ranges.specs.Run.{IsIssuedStep, IsLegal, step_rows, begun_writes, issued_since, issued_writes}
+use Rattle.hlc_ranges.specs.Run.{accepted_writes}
+use Rattle.hlc_ranges.specs.Cut.{IsComplete, AreNewestAccepted, AreNewestIssued, IsConsistent}
+use Rattle.hlc_ranges.specs.Change.{IsCutOfOthers}
 use Rattle.hlc_ranges.proofs.Pasts.{of-step, step-writes}
 use Rattle.hlc_ranges.proofs.Turns.{past-same, past-other, issued-same, issued-other_node, issued-other}
 use Rattle.hlc_ranges.proofs.Turns.{past-legal, can-begin, stepped-none}
-use Rattle.hlc_ranges.proofs.Begins.{rows-since, begun-stay, begun-from, begun-inside, begun-issued}
-use Rattle.hlc_ranges.proofs.Cuts.{issued-keeps, issued-from, complete}
+use Rattle.hlc_ranges.proofs.Begins.{rows-since, begun-stay, begun-from, begun-inside}
+use Rattle.hlc_ranges.proofs.Cuts.{issued-keeps, issued-from, complete, closed}
 
--- if a row set has some of the rows of a list, and the newest of a key there, it gives the same answer
+-- if a row set has some of a key's rows in a list, and those at or below a stamp, it gives the same answer there
 pub answer-in_part : (part all : List Row) (key : List ℕ) (at : ℕ) → IsRowSet part
-    → ((row : Row) → Contains part row → Contains all row)
+    → ((row : Row) → Contains part row → row.key ≡ key → Contains all row)
     → ((row : Row) → Contains all row → row.key ≡ key → row.stamp ≤ at → Contains part row)
     → answer part key at ≡ answer all key at
 answer-in_part part all key at set' within back =
     elim (newest all key at) as (λ o. newest all key at ≡ o → answer part key at ≡ answer all key at) [
-      | None ↦ λ e. answer_none part key at (none_in_part part all key at within e) ∙ sym (answer_none all key at e)
+      | None ↦ λ e.
+          elim (newest part key at) as (λ o. newest part key at ≡ o → answer part key at ≡ answer all key at) [
+            | None ↦ λ f. answer_none part key at f ∙ sym (answer_none all key at e)
+            | Some row ↦ λ f.
+                let is = newest_is_greatest part key at row f in
+                absurd (no_newest_no_row all key at row e (within row is.member is.of_key) is.of_key is.in_bound)
+          ] refl
       | Some row ↦ λ e.
           let is = newest_is_greatest all key at row e in
           answer_some part key at row
-          (newest_in_part part all key at row set' within is (back row is.member is.of_key is.in_bound))
+          (newest_is_unique part key at row set' (record {
+            member = back row is.member is.of_key is.in_bound;
+            of_key = is.of_key;
+            in_bound = is.in_bound;
+            greatest = λ other m k low. is.greatest other (within other m k) k low;
+          }))
           ∙ sym (answer_some all key at row e)
     ] refl
 
@@ -68,7 +81,7 @@ row-routed layout s node stamp (Write key value) row routed m =
     ]
 
 -- an accepted item was issued for its store
-accepted-issued : (layout : Layout) (run : List Turn) (s : ℕ) (item : Item) → IsLegal layout run
+pub accepted-issued : (layout : Layout) (run : List Turn) (s : ℕ) (item : Item) → IsLegal layout run
     → Contains (past_of layout s run) (Took item) → Contains (issued s item.node run) item
 accepted-issued layout [] s item legal m = absurd (legal.untaken s item m)
 accepted-issued layout (Issued t x ∷ run) s item legal m =
@@ -103,67 +116,58 @@ issued-cases t x run s n item m =
           ]
     ]
 
--- the rows of issued items are the issued writes
-issued_writes-have : (layout : Layout) (run : List Turn) (s n : ℕ) (item : Item) (row : Row)
-    → Contains (issued s n run) item → Contains (item_rows item) row → Contains (issued_writes layout run) row
-issued_writes-have layout [] s n item row m r = absurd (Contains-none item m)
-issued_writes-have layout (Sent k st ∷ run) s n item row m r = issued_writes-have layout run s n item row m r
-issued_writes-have layout (Received k j st ∷ run) s n item row m r = issued_writes-have layout run s n item row m r
-issued_writes-have layout (Observed k t at st ∷ run) s n item row m r = issued_writes-have layout run s n item row m r
-issued_writes-have layout (Stepped t step ∷ run) s n item row m r = issued_writes-have layout run s n item row m r
-issued_writes-have layout (Issued t x ∷ run) s n item row m r =
+-- the rows of issued items are those that were issued
+pub issued_since-have : (run : List Turn) (s n : ℕ) (item : Item) (row : Row) → Contains (issued s n run) item
+    → Contains (item_rows item) row → Contains (issued_since run) row
+issued_since-have [] s n item row m r = absurd (Contains-none item m)
+issued_since-have (Sent k st ∷ run) s n item row m r = issued_since-have run s n item row m r
+issued_since-have (Received k j st ∷ run) s n item row m r = issued_since-have run s n item row m r
+issued_since-have (Observed k t at st ∷ run) s n item row m r = issued_since-have run s n item row m r
+issued_since-have (Stepped t step ∷ run) s n item row m r = issued_since-have run s n item row m r
+issued_since-have (Issued t x ∷ run) s n item row m r =
     elim (issued-cases t x run s n item m) [
-      | inl is ↦ Contains-append_right (issued_writes layout run) (item_rows x) row
+      | inl is ↦ Contains-append_right (issued_since run) (item_rows x) row
           (subst (λ y. Contains (item_rows y) row) (sym is) r)
-      | inr old ↦ Contains-append_left (issued_writes layout run) (item_rows x) row
-          (issued_writes-have layout run s n item row old r)
+      | inr old ↦ Contains-append_left (issued_since run) (item_rows x) row (issued_since-have run s n item row old r)
     ]
 
--- an issued write is one that a store began with, or the row of an issued item
-record IsOfLink (run : List Turn) (row : Row) : Type 0 where
+-- and each of these is the row of an issued item
+pub record IsOfLink (run : List Turn) (row : Row) : Type 0 where
   pub store : ℕ
   pub item : Item
   pub issued : Contains (issued store item.node run) item
   pub of : Contains (item_rows item) row
 
-abbrev IsIssuedRow : Layout → List Turn → Row → Type 0
-IsIssuedRow layout run row = Contains (begun_writes layout layout.stores) row ⊎ IsOfLink run row
-
-of_link-keeps : (layout : Layout) (turn : Turn) (run : List Turn) (row : Row) → IsIssuedRow layout run row
-    → IsIssuedRow layout (turn ∷ run) row
-of_link-keeps layout turn run row (inl began) = inl began
-of_link-keeps layout turn run row (inr h) = inr (record {
+of_link-keeps : (turn : Turn) (run : List Turn) (row : Row) → IsOfLink run row → IsOfLink (turn ∷ run) row
+of_link-keeps turn run row h = record {
   store = h.store;
   item = h.item;
   issued = issued-keeps turn run h.store h.item.node h.item h.issued;
   of = h.of;
-})
+}
 
-issued_writes-from : (layout : Layout) (run : List Turn) (row : Row) → Contains (issued_writes layout run) row
-    → IsIssuedRow layout run row
-issued_writes-from layout [] row m = inl m
-issued_writes-from layout (Sent k st ∷ run) row m =
-    of_link-keeps layout (Sent k st) run row (issued_writes-from layout run row m)
-issued_writes-from layout (Received k j st ∷ run) row m =
-    of_link-keeps layout (Received k j st) run row (issued_writes-from layout run row m)
-issued_writes-from layout (Observed k t at st ∷ run) row m =
-    of_link-keeps layout (Observed k t at st) run row (issued_writes-from layout run row m)
-issued_writes-from layout (Stepped t step ∷ run) row m =
-    of_link-keeps layout (Stepped t step) run row (issued_writes-from layout run row m)
-issued_writes-from layout (Issued t x ∷ run) row m =
-    elim (Contains-append_cases (issued_writes layout run) (item_rows x) row m) [
-      | inl old ↦ of_link-keeps layout (Issued t x) run row (issued_writes-from layout run row old)
-      | inr fresh ↦ inr (record {
+pub issued_since-from : (run : List Turn) (row : Row) → Contains (issued_since run) row → IsOfLink run row
+issued_since-from [] row m = absurd (Contains-none row m)
+issued_since-from (Sent k st ∷ run) row m = of_link-keeps (Sent k st) run row (issued_since-from run row m)
+issued_since-from (Received k j st ∷ run) row m =
+    of_link-keeps (Received k j st) run row (issued_since-from run row m)
+issued_since-from (Observed k t at st ∷ run) row m =
+    of_link-keeps (Observed k t at st) run row (issued_since-from run row m)
+issued_since-from (Stepped t step ∷ run) row m = of_link-keeps (Stepped t step) run row (issued_since-from run row m)
+issued_since-from (Issued t x ∷ run) row m =
+    elim (Contains-append_cases (issued_since run) (item_rows x) row m) [
+      | inl old ↦ of_link-keeps (Issued t x) run row (issued_since-from run row old)
+      | inr fresh ↦ record {
         store = t;
         item = x;
         issued = subst (λ xs. Contains xs x) (sym (issued-same t t x.node x run refl refl))
             (Contains-first x (issued t x.node run));
         of = fresh;
-      })
+      }
     ]
 
 -- a row that a store began with, of a key, is in the key's store
-begun-here : (layout : Layout) (run : List Turn) (row : Row) (key : List ℕ) → IsLegal layout run → row.key ≡ key
+pub begun-here : (layout : Layout) (run : List Turn) (row : Row) (key : List ℕ) → IsLegal layout run → row.key ≡ key
     → Contains (begun_writes layout layout.stores) row
     → Contains (writes (past_of layout (layout.store_of key) run)) row
 begun-here layout run row key legal of_key m =
@@ -173,35 +177,56 @@ begun-here layout run row key legal of_key m =
     sym (can.routed h.store row h.row_of) ∙ ap (λ k. layout.store_of k) of_key in
     subst (λ k. Contains (writes (past_of layout k run)) row) at (begun-stay layout run h.store row h.row_of)
 
--- a row of a key that was issued at or below a cut is in the key's store
-pub newest-issued : (layout : Layout) (run : List Turn) (stamp : ℕ) → IsLegal layout run → IsCut layout run stamp
-    → AreNewestIssued layout run stamp
-newest-issued layout run stamp legal cut = λ key at low.
+-- the rows of a key that were issued are in the key's store, if their items were accepted
+pub issued-here : (layout : Layout) (run : List Turn) (row : Row) (key : List ℕ) → IsLegal layout run → row.key ≡ key
+    → Contains (issued_since run) row
+    → ((n : ℕ) (item : Item) → Contains (issued (layout.store_of key) n run) item → item.stamp ≡ row.stamp
+    → Contains (past_of layout (layout.store_of key) run) (Took item))
+    → (item : Item) × Contains (past_of layout (layout.store_of key) run) (Took item)
+    × (item.stamp ≡ row.stamp) × Contains (writes (past_of layout (layout.store_of key) run)) row
+issued-here layout run row key legal of_key m accept =
     let s : ℕ = layout.store_of key in
+    let w = issued_since-from run row m in
+    let from = issued-from layout run w.store w.item.node w.item legal w.issued in
+    let at : w.store ≡ s =
+    sym (row-routed layout w.store w.item.node w.item.stamp w.item.body row from.routed w.of)
+    ∙ ap (λ k. layout.store_of k) of_key in
+    let same : w.item.stamp ≡ row.stamp = sym (body_rows-are w.item.node w.item.stamp w.item.body row w.of).1 in
+    let accepted = accept w.item.node w.item
+    (subst (λ k. Contains (issued k w.item.node run) w.item) at w.issued) same in
+    (w.item, accepted, same, took-writes (past_of layout s run) w.item row accepted w.of)
+
+-- a row that the key's store began with or accepted was there before, or issued
+pub rows-from : (layout : Layout) (run : List Turn) (s : ℕ) (row : Row) → IsLegal layout run
+    → Contains (writes (past_of layout s run)) row
+    → Contains (writes (layout.begun s)) row ⊎ Contains (issued_since run) row
+rows-from layout run s row legal m =
+    elim (rows-since layout run s row legal m) [
+      | inl began ↦ inl began
+      | inr w ↦ inr (issued_since-have run s w.item.node w.item row
+          (accepted-issued layout run s w.item legal w.accepted) w.of)
+    ]
+
+-- a row of a key that was issued at or below a cut is in the key's store
+pub newest-issued : (layout : Layout) (run : List Turn) (stamp : ℕ) → IsLegal layout run → IsComplete layout run stamp
+    → AreNewestIssued layout run stamp
+newest-issued layout run stamp legal all = λ key at low.
+    let s : ℕ = layout.store_of key in
+    let begun : List Row = begun_writes layout layout.stores in
     answer-in_part (writes (past_of layout s run)) (issued_writes layout run) key at
     (writes-row_set (past_of layout s run) (past-legal layout run s legal))
-    (λ row m.
-    elim (rows-since layout run s row legal m) [
-      | inl began ↦ begun-issued layout run row (begun-inside layout s row (can-begin layout run legal) began)
-      | inr w ↦
-          issued_writes-have layout run s w.item.node w.item row (accepted-issued layout run s w.item legal w.accepted)
-          w.of
+    (λ row m of_key.
+    elim (rows-from layout run s row legal m) [
+      | inl began ↦ Contains-append_left begun (issued_since run) row
+          (begun-inside layout s row (can-begin layout run legal) began)
+      | inr fresh ↦ Contains-append_right begun (issued_since run) row fresh
     ])
     (λ row m of_key below.
-    elim (issued_writes-from layout run row m) [
+    elim (Contains-append_cases begun (issued_since run) row m) [
       | inl began ↦ begun-here layout run row key legal of_key began
-      | inr w ↦
-          let from = issued-from layout run w.store w.item.node w.item legal w.issued in
-          let at' : w.store ≡ s =
-          sym (row-routed layout w.store w.item.node w.item.stamp w.item.body row from.routed w.of)
-          ∙ ap (λ k. layout.store_of k) of_key in
-          let e : row.stamp ≡ w.item.stamp =
-          (body_rows-are w.item.node w.item.stamp w.item.body row w.of).1 in
-          let low' : at ≤ stamp = low in
-          let below' : row.stamp ≤ at = below in
-          let accepted = complete layout run stamp legal cut w.store w.item.node w.item w.issued (omega arith) in
-          took-writes (past_of layout s run) w.item row
-          (subst (λ k. Contains (past_of layout k run) (Took w.item)) at' accepted) w.of
+      | inr fresh ↦
+          (issued-here layout run row key legal of_key fresh
+          (λ n item i same. all s n item i (omega (arith, same, below, low)))).3
     ])
 
 -- an accepted item stays one
@@ -301,7 +326,7 @@ newest-accepted layout run legal = λ key at.
     let s : ℕ = layout.store_of key in
     answer-in_part (writes (past_of layout s run)) (accepted_writes layout run) key at
     (writes-row_set (past_of layout s run) (past-legal layout run s legal))
-    (λ row m. accepted_writes-have layout run s row legal m)
+    (λ row m of_key. accepted_writes-have layout run s row legal m)
     (λ row m of_key below.
     elim (accepted_writes-from layout run row m) [
       | inl began ↦ begun-here layout run row key legal of_key began
@@ -314,6 +339,17 @@ newest-accepted layout run legal = λ key at.
           took-writes (past_of layout s run) w.item row
           (subst (λ k. Contains (past_of layout k run) (Took w.item)) at' w.accepted) w.of
     ])
+
+-- the stamp is a cut
+pub consistent : (layout : Layout) (run : List Turn) (stamp : ℕ) → IsLegal layout run → IsCutOfOthers layout run stamp
+    → IsConsistent layout run stamp
+consistent layout run stamp legal cut =
+    let all = complete layout run stamp legal cut in record {
+      complete = all;
+      closed = closed layout run stamp legal all;
+      accepted = newest-accepted layout run legal;
+      issued = newest-issued layout run stamp legal all;
+    }
 
 -- a store has no row of another store's key
 pub other-none : (layout : Layout) (run : List Turn) (s : ℕ) (key : List ℕ) (stamp : ℕ) → IsLegal layout run

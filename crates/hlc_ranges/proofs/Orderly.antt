@@ -83,7 +83,8 @@ orderly-clock : (layout : Layout) (turn : Turn) (run : List Turn) → IsOrderly 
     (last_stamp layout (layout.machine s n) (turn ∷ run)) n (issued s n run) (past_of layout s run)
 orderly-clock layout turn run h s n =
     link-rises (count n (layout.begun s)) (retired n (layout.begun s)) _ _ (numbered (past_of layout s run)) n
-    (issued s n run) (items_of n (past_of layout s run)) (head n (past_of layout s run)) (clock-grows layout (layout.machine s n) turn run) (h s n)
+    (issued s n run) (items_of n (past_of layout s run)) (head n (past_of layout s run))
+    (clock-grows layout (layout.machine s n) turn run) (h s n)
 
 orderly-issued : (layout : Layout) (t : ℕ) (item : Item) (run : List Turn) → IsAllowed layout (Issued t item) run
     → IsOrderly layout run → IsOrderly layout (Issued t item ∷ run)

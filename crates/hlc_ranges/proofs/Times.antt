@@ -156,3 +156,28 @@ less layout run i j m a n b legal before h k =
     let x : both.a ≡ a = stamp-unique layout run i both.m both.a m a both.first h in
     let y : both.b ≡ b = stamp-unique layout run j both.n both.b n b both.later k in
     let r : both.a < both.b = both.rise in omega arith
+
+-- no clock is below that of the beginning, and each stamp is above it
+clock-low : (layout : Layout) (run : List Turn) (m : ℕ) → layout.clock m ≤ last_stamp layout m run
+clock-low layout [] m = omega arith
+clock-low layout (turn ∷ run) m =
+    (let h = clock-low layout run m in let g = clock-grows layout m turn run in omega (arith, h, g))
+
+above-clock : (layout : Layout) (run : List Turn) (j m b : ℕ) (y : Turn) → IsLegal layout run → turn_at run j ≡ Some y
+    → stamping_of layout y ≡ Some (m, b) → layout.clock m < b
+above-clock layout [] j m b y legal at mark = absurd (cc)
+above-clock layout (turn ∷ run) j m b y legal at mark =
+    elim (turn-cases turn run j y at) [
+      | inr there ↦ above-clock layout run j m b y legal.1 there.1 mark
+      | inl here ↦
+          (let up = stamp-new layout turn run (m, b) legal.0 (ap (λ z. stamping_of layout z) here.1 ∙ mark) in
+          let low = clock-low layout run m in omega (arith, up, low))
+    ]
+
+-- so the stamps of a machine go on rising from run to run
+pub clocks-on : (old new : Layout) (run later : List Turn) (first second m a b : ℕ) → IsLegal new later
+    → last_stamp old m run ≤ new.clock m → IsStamped old run first m a → IsStamped new later second m b → a < b
+clocks-on old new run later first second m a b legal reached h k =
+    let low = stamp-low old run first m a h.turn h.at h.mark in
+    let up = above-clock new later second m b k.turn legal k.at k.mark in
+    let reached' : last_stamp old m run ≤ new.clock m = reached in omega (arith, low, up)

@@ -148,11 +148,15 @@ abbrev pub begun_writes : Layout → ℕ → List Row
 begun_writes layout zero = []
 begun_writes layout (suc s) = begun_writes layout s ++ writes (layout.begun s)
 
--- all issued writes and deletions, of all machines and for all stores, after the rows that the stores begin with
+-- the writes and deletions of all items that were issued in the run, of all machines and for all stores
+abbrev pub issued_since : List Turn → List Row
+issued_since [] = []
+issued_since (Issued s item ∷ run) = issued_since run ++ item_rows item
+issued_since (_ ∷ run) = issued_since run
+
+-- those after the rows that the stores begin with
 abbrev pub issued_writes : Layout → List Turn → List Row
-issued_writes layout [] = begun_writes layout layout.stores
-issued_writes layout (Issued s item ∷ run) = issued_writes layout run ++ item_rows item
-issued_writes layout (_ ∷ run) = issued_writes layout run
+issued_writes layout run = begun_writes layout layout.stores ++ issued_since run
 
 -- the rows of an item that a step accepted
 abbrev pub step_rows : Step → List Row

@@ -1,7 +1,8 @@
 //! The laws of several stores with one key space: a stamp at most the floor of each store is a consistent cut.
 #![tactic(auto)]
 
-ghost use Rattle.std.specs.Prelude.{◌≡◌, ◌≢◌, ◌<◌, ◌≤◌, ◌∷◌, ◌++◌, ℕ, List, Ok, None};
+ghost use Rattle.std.specs.Prelude.{◌≡◌, ◌≢◌, ◌<◌, ◌≤◌, ◌∷◌, ◌++◌, ℕ, List, Ok, None, Contains};
+ghost use Rattle.hlc_rows.specs.declared.row.Row.{Row as ARow};
 ghost use Rattle.hlc_rows.specs.Rows.{answer};
 ghost use Rattle.hlc_node.specs.Node.{NodeView, expected_issue};
 ghost use Rattle.hlc_node.specs.declared.item.Body.{Body as ABody};
@@ -9,10 +10,11 @@ ghost use Rattle.hlc_node.specs.declared.item.Item.{Item as AnItem};
 ghost use Rattle.hlc_core.specs.Past.{Step, floor, writes};
 ghost use Rattle.hlc_core.specs.StoreView.{StoreView, Represents};
 ghost use Rattle.hlc_ranges.specs.Run.{Layout, Turn, Issued, Sent, Received, Observed, Stepped, past_of};
-ghost use Rattle.hlc_ranges.specs.Run.{IsLegal, IsMessage, IsRouted, IsIssuedStep};
+ghost use Rattle.hlc_ranges.specs.Run.{issued, last_stamp, issued_writes, IsLegal, IsMessage, IsRouted, IsIssuedStep};
+ghost use Rattle.hlc_ranges.specs.Change.{IsReadable, IsCutOfOthers, past_with, LeadsTo};
 ghost use Rattle.hlc_ranges.specs.Before.{HappenedBefore, IsStamped};
 ghost use Rattle.hlc_ranges.specs.Calls.{IsNodeOf, HasClock, Extends};
-ghost use Rattle.hlc_ranges.specs.Cut.{IsCut, IsConsistent};
+ghost use Rattle.hlc_ranges.specs.Cut.{IsCut, IsAccepted, IsConsistent};
 
 /// In a legal run, if an event happened before another, on machines, through messages and through stores, its stamp is
 /// the lesser.
@@ -44,6 +46,34 @@ pub fn cuts_are_final()
         → IsLegal layout (later ++ run) → IsCut layout run stamp → s < layout.stores
         → answer (writes (past_of layout s (later ++ run))) key stamp
         ≡ answer (writes (past_of layout s run)) key stamp }
+{}
+
+/// If a run led on to a later one along the stores of a key, as where stores were divided, joined or moved, a read of
+/// the key in its store, at a stamp at most that store's floor at which it can be read, gives the newest of all writes
+/// that were ever issued. No floor falls, so a cut stays one, and its reads stay the same where they can be made.
+///
+/// Each item that was issued for a store, at or below its floor, was accepted, whatever the floors of others are; so in
+/// the run of the stores that are left, the floors of drained ones do not count for a consistent cut. The stamps of a
+/// machine go on rising, if its clock begins where it was.
+pub fn cuts_go_on()
+    ensures newest { (key : List ℕ) (old new : Layout) (run later : List Turn) (rows : List ARow) (at : ℕ)
+        → LeadsTo key old run new later rows → at ≤ floor (past_with new later key)
+        → IsReadable (past_with new later key) at
+        → answer (writes (past_with new later key)) key at ≡ answer (issued_writes old run ++ rows) key at }
+    ensures floors { (key : List ℕ) (old new : Layout) (run later : List Turn) (rows : List ARow)
+        → LeadsTo key old run new later rows → floor (past_with old run key) ≤ floor (past_with new later key) }
+    ensures reads { (key : List ℕ) (old new : Layout) (run later : List Turn) (rows : List ARow) (at : ℕ)
+        → LeadsTo key old run new later rows → at ≤ floor (past_with old run key)
+        → IsReadable (past_with new later key) at
+        → answer (writes (past_with new later key)) key at ≡ answer (writes (past_with old run key)) key at }
+    ensures complete { (layout : Layout) (run : List Turn) (s n : ℕ) (item : AnItem) → IsLegal layout run
+        → Contains (issued s n run) item → item.stamp ≤ floor (past_of layout s run)
+        → IsAccepted layout s item run }
+    ensures consistent { (layout : Layout) (run : List Turn) (stamp : ℕ) → IsLegal layout run
+        → IsCutOfOthers layout run stamp → IsConsistent layout run stamp }
+    ensures clocks { (old new : Layout) (run later : List Turn) (first second m a b : ℕ) → IsLegal new later
+        → last_stamp old m run ≤ new.clock m → IsStamped old run first m a → IsStamped new later second m b
+        → a < b }
 {}
 
 /// An item that a node issues extends a legal run, if the node's clock was raised to its machine's
