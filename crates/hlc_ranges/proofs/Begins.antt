@@ -8,7 +8,7 @@ use Rattle.hlc_values.proofs.MemberLemmas.{Contains-none, Contains-cons_cases}
 use Rattle.hlc_rows.specs.declared.row.Row.{Row}
 use Rattle.hlc_core.specs.Past.{Step, Started, Took, count, head, retired, writes, IsLegal as IsLegalPast}
 use Rattle.hlc_core.specs.Replicas.{items_of}
-use Rattle.hlc_ranges.specs.Run.{Layout, Turn, Issued, Sent, Received, Observed, Stepped, past_of, ends_with, CanBegin}
+use Rattle.hlc_ranges.specs.Run.{Layout, Turn, Stepped, past_of, ends_with, CanBegin}
 use Rattle.hlc_ranges.specs.Run.{IsLegal, begun_writes}
 use Rattle.hlc_ranges.proofs.Pasts.{IsOfItem, of-more, of-step, step-writes, step-keeps, items-untaken, count-step}
 use Rattle.hlc_ranges.proofs.Pasts.{retired-step}
@@ -41,10 +41,6 @@ count-since layout [] s n legal =
     let none : length (items_of n (layout.begun s)) ≡ 0 = ap length (untaken layout s n legal) in
     let goal : count n (layout.begun s) ≡ count n (layout.begun s) + length (items_of n (layout.begun s)) =
     omega arith in goal
-count-since layout (Issued t item ∷ run) s n legal = count-since layout run s n legal.1
-count-since layout (Sent m st ∷ run) s n legal = count-since layout run s n legal.1
-count-since layout (Received m k st ∷ run) s n legal = count-since layout run s n legal.1
-count-since layout (Observed m t at st ∷ run) s n legal = count-since layout run s n legal.1
 count-since layout (Stepped t step ∷ run) s n legal =
     elim (cases_eq t s) [
       | inl same ↦
@@ -56,6 +52,7 @@ count-since layout (Stepped t step ∷ run) s n legal =
           subst (λ (p : List Step). count n p ≡ count n (layout.begun s) + length (items_of n p))
           (sym (past-other layout s t step run other)) (count-since layout run s n legal.1)
     ]
+count-since layout (turn ∷ run) s n legal = count-since layout run s n legal.1
 
 -- a node has retired in its store as the last of them says
 pub retired-since : (layout : Layout) (run : List Turn) (s n : ℕ) → IsLegal layout run
@@ -63,10 +60,6 @@ pub retired-since : (layout : Layout) (run : List Turn) (s n : ℕ) → IsLegal 
     ≡ ends_with (retired n (layout.begun s)) (items_of n (past_of layout s run))
 retired-since layout [] s n legal =
     sym (ap (ends_with (retired n (layout.begun s))) (untaken layout s n legal))
-retired-since layout (Issued t item ∷ run) s n legal = retired-since layout run s n legal.1
-retired-since layout (Sent m st ∷ run) s n legal = retired-since layout run s n legal.1
-retired-since layout (Received m k st ∷ run) s n legal = retired-since layout run s n legal.1
-retired-since layout (Observed m t at st ∷ run) s n legal = retired-since layout run s n legal.1
 retired-since layout (Stepped t step ∷ run) s n legal =
     elim (cases_eq t s) [
       | inl same ↦
@@ -78,16 +71,13 @@ retired-since layout (Stepped t step ∷ run) s n legal =
           subst (λ (p : List Step). retired n p ≡ ends_with (retired n (layout.begun s)) (items_of n p))
           (sym (past-other layout s t step run other)) (retired-since layout run s n legal.1)
     ]
+retired-since layout (turn ∷ run) s n legal = retired-since layout run s n legal.1
 
 -- an accepted write is one that the store began with, or that of an item
 pub rows-since : (layout : Layout) (run : List Turn) (s : ℕ) (row : Row) → IsLegal layout run
     → Contains (writes (past_of layout s run)) row
     → Contains (writes (layout.begun s)) row ⊎ IsOfItem (past_of layout s run) row
 rows-since layout [] s row legal m = inl m
-rows-since layout (Issued t item ∷ run) s row legal m = rows-since layout run s row legal.1 m
-rows-since layout (Sent k st ∷ run) s row legal m = rows-since layout run s row legal.1 m
-rows-since layout (Received k j st ∷ run) s row legal m = rows-since layout run s row legal.1 m
-rows-since layout (Observed k t at st ∷ run) s row legal m = rows-since layout run s row legal.1 m
 rows-since layout (Stepped t step ∷ run) s row legal m =
     elim (cases_eq t s) [
       | inl same ↦
@@ -108,15 +98,12 @@ rows-since layout (Stepped t step ∷ run) s row legal m =
           (rows-since layout run s row legal.1
           (subst (λ (p : List Step). Contains (writes p) row) (past-other layout s t step run other) m))
     ]
+rows-since layout (turn ∷ run) s row legal m = rows-since layout run s row legal.1 m
 
 -- and what a store began with it keeps
 pub begun-stay : (layout : Layout) (run : List Turn) (s : ℕ) (row : Row) → Contains (writes (layout.begun s)) row
     → Contains (writes (past_of layout s run)) row
 begun-stay layout [] s row m = m
-begun-stay layout (Issued t item ∷ run) s row m = begun-stay layout run s row m
-begun-stay layout (Sent k st ∷ run) s row m = begun-stay layout run s row m
-begun-stay layout (Received k j st ∷ run) s row m = begun-stay layout run s row m
-begun-stay layout (Observed k t at st ∷ run) s row m = begun-stay layout run s row m
 begun-stay layout (Stepped t step ∷ run) s row m =
     elim (cases_eq t s) [
       | inl same ↦ subst (λ (p : List Step). Contains (writes p) row) (sym (past-same layout s t step run same))
@@ -124,6 +111,7 @@ begun-stay layout (Stepped t step ∷ run) s row m =
       | inr other ↦ subst (λ (p : List Step). Contains (writes p) row) (sym (past-other layout s t step run other))
           (begun-stay layout run s row m)
     ]
+begun-stay layout (turn ∷ run) s row m = begun-stay layout run s row m
 
 -- a row that one of the stores began with
 pub record IsBegun (layout : Layout) (many : ℕ) (row : Row) : Type 0 where

@@ -25,7 +25,7 @@ use Rattle.hlc_core.proofs.BeganLemmas.{floor-began}
 use Rattle.hlc_core.proofs.CheckpointLemmas.{floor-in}
 use Rattle.hlc_core.proofs.PartLemmas.{answer-of_keys}
 use Rattle.hlc_core.proofs.PastLemmas.{above_floor, horizon-low, open-above, vacuum-above, writes-row_set}
-use Rattle.hlc_ranges.specs.Run.{Layout, Turn, Issued, Sent, Received, Observed, Stepped, past_of, issued, begun_writes}
+use Rattle.hlc_ranges.specs.Run.{Layout, Turn, Issued, Stepped, past_of, issued, begun_writes}
 use Rattle.hlc_ranges.specs.Run.{issued_since, issued_writes, IsLegal}
 use Rattle.hlc_ranges.specs.Cut.{IsAccepted}
 use Rattle.hlc_ranges.specs.Change.{IsReadable, past_with, IsDrained, TakesOver, LeadsTo, went_on, taken_over}
@@ -81,10 +81,6 @@ readable-step (PartVacuumed to dropped) past at legal none (inr m) = inr m
 readable-since : (layout : Layout) (run : List Turn) (s at : ℕ) → IsLegal layout run
     → IsReadable (past_of layout s run) at → IsReadable (layout.begun s) at
 readable-since layout [] s at legal h = h
-readable-since layout (Issued t item ∷ run) s at legal h = readable-since layout run s at legal.1 h
-readable-since layout (Sent m st ∷ run) s at legal h = readable-since layout run s at legal.1 h
-readable-since layout (Received m k st ∷ run) s at legal h = readable-since layout run s at legal.1 h
-readable-since layout (Observed m t up st ∷ run) s at legal h = readable-since layout run s at legal.1 h
 readable-since layout (Stepped t step ∷ run) s at legal h =
     elim (cases_eq t s) [
       | inr other ↦ readable-since layout run s at legal.1
@@ -94,6 +90,7 @@ readable-since layout (Stepped t step ∷ run) s at legal h =
           (stepped-none layout t step run legal)
           (subst (λ (p : List Step). IsReadable p at) (past-same layout s t step run same) h))
     ]
+readable-since layout (turn ∷ run) s at legal h = readable-since layout run s at legal.1 h
 
 -- floors and reads since the beginning
 floor-since : (layout : Layout) (run : List Turn) (s : ℕ) → IsLegal layout run
@@ -114,10 +111,6 @@ reads-since layout run at s key legal low =
 took-above : (layout : Layout) (run : List Turn) (s : ℕ) (item : Item) → IsLegal layout run
     → Contains (past_of layout s run) (Took item) → floor (layout.begun s) < item.stamp
 took-above layout [] s item legal m = absurd (legal.untaken s item m)
-took-above layout (Issued t x ∷ run) s item legal m = took-above layout run s item legal.1 m
-took-above layout (Sent n st ∷ run) s item legal m = took-above layout run s item legal.1 m
-took-above layout (Received n k st ∷ run) s item legal m = took-above layout run s item legal.1 m
-took-above layout (Observed n t at st ∷ run) s item legal m = took-above layout run s item legal.1 m
 took-above layout (Stepped t step ∷ run) s item legal m =
     elim (cases_eq t s) [
       | inr other ↦ took-above layout run s item legal.1
@@ -134,6 +127,7 @@ took-above layout (Stepped t step ∷ run) s item legal m =
                 let low : floor (layout.begun s) ≤ floor past = floor-since layout run s legal.1 in omega arith
           ]
     ]
+took-above layout (turn ∷ run) s item legal m = took-above layout run s item legal.1 m
 
 -- rows of a list that are no candidates change no newest row of those before them
 newest-misses : (rows others : List Row) (key : List ℕ) (at : ℕ)
@@ -366,10 +360,7 @@ since-append [] run = sym (append-nil (issued_since run))
 since-append (Issued s item ∷ more) run =
     ap (λ rows. rows ++ item_rows item) (since-append more run)
     ∙ append_assoc (issued_since run) (issued_since more) (item_rows item)
-since-append (Sent m st ∷ more) run = since-append more run
-since-append (Received m k st ∷ more) run = since-append more run
-since-append (Observed m s at st ∷ more) run = since-append more run
-since-append (Stepped s step ∷ more) run = since-append more run
+since-append (turn ∷ more) run = since-append more run
 
 -- what a run that was led to began with, of all that was issued along the stores of a key
 record Leads (key : List ℕ) (new : Layout) (later : List Turn) (all : List Row) : Type 0 where

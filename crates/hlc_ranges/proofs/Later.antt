@@ -10,7 +10,7 @@ use Rattle.hlc_core.specs.Past.{writes}
 use Rattle.hlc_core.specs.Past.{IsLegal as IsLegalPast}
 use Rattle.hlc_core.proofs.StayLemmas.{floor-never_falls}
 use Rattle.hlc_core.proofs.PastLemmas.{above_floor, body_rows-are, writes-row_set}
-use Rattle.hlc_ranges.specs.Run.{Layout, Turn, Issued, Sent, Received, Observed, Stepped, past_of, step_rows, IsLegal}
+use Rattle.hlc_ranges.specs.Run.{Layout, Turn, Stepped, past_of, step_rows, IsLegal}
 use Rattle.hlc_ranges.specs.Cut.{IsCut}
 use Rattle.hlc_ranges.proofs.Turns.{past-same, past-other, past-legal, stepped-none}
 use Rattle.hlc_ranges.proofs.Pasts.{step-writes, step-keeps}
@@ -25,10 +25,6 @@ step-legal layout t s step run same legal = subst (λ k. IsLegalPast (step ∷ p
 pub floor-later : (layout : Layout) (run later : List Turn) (s : ℕ) → IsLegal layout (later ++ run)
     → floor (past_of layout s run) ≤ floor (past_of layout s (later ++ run))
 floor-later layout run [] s legal = omega arith
-floor-later layout run (Issued t item ∷ later) s legal = floor-later layout run later s legal.1
-floor-later layout run (Sent m st ∷ later) s legal = floor-later layout run later s legal.1
-floor-later layout run (Received m k st ∷ later) s legal = floor-later layout run later s legal.1
-floor-later layout run (Observed m t at st ∷ later) s legal = floor-later layout run later s legal.1
 floor-later layout run (Stepped t step ∷ later) s legal =
     let old : floor (past_of layout s run) ≤ floor (past_of layout s (later ++ run)) =
     floor-later layout run later s legal.1 in
@@ -43,6 +39,7 @@ floor-later layout run (Stepped t step ∷ later) s legal =
           subst (λ p. floor (past_of layout s run) ≤ floor p)
           (sym (past-same layout s t step (later ++ run) same)) (omega arith)
     ]
+floor-later layout run (turn ∷ later) s legal = floor-later layout run later s legal.1
 
 pub cut-stays : (layout : Layout) (run later : List Turn) (stamp : ℕ) → IsLegal layout (later ++ run)
     → IsCut layout run stamp → IsCut layout (later ++ run) stamp
@@ -70,10 +67,6 @@ old-rows : (layout : Layout) (run later : List Turn) (s : ℕ) (row : Row) → I
     → Contains (writes (past_of layout s (later ++ run))) row → row.stamp ≤ floor (past_of layout s run)
     → Contains (writes (past_of layout s run)) row
 old-rows layout run [] s row legal m low = m
-old-rows layout run (Issued t item ∷ later) s row legal m low = old-rows layout run later s row legal.1 m low
-old-rows layout run (Sent k st ∷ later) s row legal m low = old-rows layout run later s row legal.1 m low
-old-rows layout run (Received k j st ∷ later) s row legal m low = old-rows layout run later s row legal.1 m low
-old-rows layout run (Observed k t at st ∷ later) s row legal m low = old-rows layout run later s row legal.1 m low
 old-rows layout run (Stepped t step ∷ later) s row legal m low =
     elim (cases_eq t s) [
       | inr other ↦ old-rows layout run later s row legal.1
@@ -91,15 +84,12 @@ old-rows layout run (Stepped t step ∷ later) s row legal m low =
                 floor-later layout run later s legal.1 in omega arith)
           ]
     ]
+old-rows layout run (turn ∷ later) s row legal m low = old-rows layout run later s row legal.1 m low
 
 -- and an old write stays
 kept-rows : (layout : Layout) (run later : List Turn) (s : ℕ) (row : Row) → Contains (writes (past_of layout s run)) row
     → Contains (writes (past_of layout s (later ++ run))) row
 kept-rows layout run [] s row m = m
-kept-rows layout run (Issued t item ∷ later) s row m = kept-rows layout run later s row m
-kept-rows layout run (Sent k st ∷ later) s row m = kept-rows layout run later s row m
-kept-rows layout run (Received k j st ∷ later) s row m = kept-rows layout run later s row m
-kept-rows layout run (Observed k t at st ∷ later) s row m = kept-rows layout run later s row m
 kept-rows layout run (Stepped t step ∷ later) s row m =
     elim (cases_eq t s) [
       | inr other ↦ subst (λ p. Contains (writes p) row) (sym (past-other layout s t step (later ++ run) other))
@@ -107,6 +97,7 @@ kept-rows layout run (Stepped t step ∷ later) s row m =
       | inl same ↦ subst (λ p. Contains (writes p) row) (sym (past-same layout s t step (later ++ run) same))
           (step-keeps step (past_of layout s (later ++ run)) row (kept-rows layout run later s row m))
     ]
+kept-rows layout run (turn ∷ later) s row m = kept-rows layout run later s row m
 
 pub legal-before : (layout : Layout) (run later : List Turn) → IsLegal layout (later ++ run) → IsLegal layout run
 legal-before layout run [] legal = legal

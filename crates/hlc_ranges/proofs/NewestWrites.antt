@@ -18,7 +18,7 @@ use Rattle.hlc_rows.proofs.NewestLemmas.{newest_is_greatest, no_newest_no_row, n
 use Rattle.hlc_rows.proofs.NewestLemmas.{answer_some}
 use Rattle.hlc_core.specs.Past.{Step, Took, writes, body_rows, item_rows}
 use Rattle.hlc_core.proofs.PastLemmas.{body_rows-are, took-writes, writes-row_set}
-use Rattle.hlc_ranges.specs.Run.{Layout, Turn, Issued, Sent, Received, Observed, Stepped, past_of, issued, IsRouted}
+use Rattle.hlc_ranges.specs.Run.{Layout, Turn, Issued, Stepped, past_of, issued, IsRouted}
 use Rattle.hlc_ranges.specs.Run.{IsIssuedStep, IsLegal, step_rows, begun_writes, issued_since, issued_writes}
 use Rattle.hlc_ranges.specs.Run.{accepted_writes}
 use Rattle.hlc_ranges.specs.Cut.{IsComplete, AreNewestAccepted, AreNewestIssued, IsConsistent}
@@ -86,9 +86,6 @@ pub accepted-issued : (layout : Layout) (run : List Turn) (s : ℕ) (item : Item
 accepted-issued layout [] s item legal m = absurd (legal.untaken s item m)
 accepted-issued layout (Issued t x ∷ run) s item legal m =
     issued-keeps (Issued t x) run s item.node item (accepted-issued layout run s item legal.1 m)
-accepted-issued layout (Sent n st ∷ run) s item legal m = accepted-issued layout run s item legal.1 m
-accepted-issued layout (Received n k st ∷ run) s item legal m = accepted-issued layout run s item legal.1 m
-accepted-issued layout (Observed n t at st ∷ run) s item legal m = accepted-issued layout run s item legal.1 m
 accepted-issued layout (Stepped t step ∷ run) s item legal m =
     elim (cases_eq t s) [
       | inr other ↦ accepted-issued layout run s item legal.1
@@ -101,6 +98,7 @@ accepted-issued layout (Stepped t step ∷ run) s item legal m =
                 (subst (λ x. IsIssuedStep t x run) is legal.0.2)
           ]
     ]
+accepted-issued layout (turn ∷ run) s item legal m = accepted-issued layout run s item legal.1 m
 
 -- an item of a link after one more was issued is that one or an old one
 issued-cases : (t : ℕ) (x : Item) (run : List Turn) (s n : ℕ) (item : Item)
@@ -120,16 +118,13 @@ issued-cases t x run s n item m =
 pub issued_since-have : (run : List Turn) (s n : ℕ) (item : Item) (row : Row) → Contains (issued s n run) item
     → Contains (item_rows item) row → Contains (issued_since run) row
 issued_since-have [] s n item row m r = absurd (Contains-none item m)
-issued_since-have (Sent k st ∷ run) s n item row m r = issued_since-have run s n item row m r
-issued_since-have (Received k j st ∷ run) s n item row m r = issued_since-have run s n item row m r
-issued_since-have (Observed k t at st ∷ run) s n item row m r = issued_since-have run s n item row m r
-issued_since-have (Stepped t step ∷ run) s n item row m r = issued_since-have run s n item row m r
 issued_since-have (Issued t x ∷ run) s n item row m r =
     elim (issued-cases t x run s n item m) [
       | inl is ↦ Contains-append_right (issued_since run) (item_rows x) row
           (subst (λ y. Contains (item_rows y) row) (sym is) r)
       | inr old ↦ Contains-append_left (issued_since run) (item_rows x) row (issued_since-have run s n item row old r)
     ]
+issued_since-have (turn ∷ run) s n item row m r = issued_since-have run s n item row m r
 
 -- and each of these is the row of an issued item
 pub record IsOfLink (run : List Turn) (row : Row) : Type 0 where
@@ -148,12 +143,6 @@ of_link-keeps turn run row h = record {
 
 pub issued_since-from : (run : List Turn) (row : Row) → Contains (issued_since run) row → IsOfLink run row
 issued_since-from [] row m = absurd (Contains-none row m)
-issued_since-from (Sent k st ∷ run) row m = of_link-keeps (Sent k st) run row (issued_since-from run row m)
-issued_since-from (Received k j st ∷ run) row m =
-    of_link-keeps (Received k j st) run row (issued_since-from run row m)
-issued_since-from (Observed k t at st ∷ run) row m =
-    of_link-keeps (Observed k t at st) run row (issued_since-from run row m)
-issued_since-from (Stepped t step ∷ run) row m = of_link-keeps (Stepped t step) run row (issued_since-from run row m)
 issued_since-from (Issued t x ∷ run) row m =
     elim (Contains-append_cases (issued_since run) (item_rows x) row m) [
       | inl old ↦ of_link-keeps (Issued t x) run row (issued_since-from run row old)
@@ -165,6 +154,7 @@ issued_since-from (Issued t x ∷ run) row m =
         of = fresh;
       }
     ]
+issued_since-from (turn ∷ run) row m = of_link-keeps turn run row (issued_since-from run row m)
 
 -- a row that a store began with, of a key, is in the key's store
 pub begun-here : (layout : Layout) (run : List Turn) (row : Row) (key : List ℕ) → IsLegal layout run → row.key ≡ key
@@ -244,10 +234,6 @@ past-keeps layout t step run s item m =
 accepted_writes-have : (layout : Layout) (run : List Turn) (s : ℕ) (row : Row) → IsLegal layout run
     → Contains (writes (past_of layout s run)) row → Contains (accepted_writes layout run) row
 accepted_writes-have layout [] s row legal m = begun-inside layout s row legal m
-accepted_writes-have layout (Issued t x ∷ run) s row legal m = accepted_writes-have layout run s row legal.1 m
-accepted_writes-have layout (Sent k st ∷ run) s row legal m = accepted_writes-have layout run s row legal.1 m
-accepted_writes-have layout (Received k j st ∷ run) s row legal m = accepted_writes-have layout run s row legal.1 m
-accepted_writes-have layout (Observed k t at st ∷ run) s row legal m = accepted_writes-have layout run s row legal.1 m
 accepted_writes-have layout (Stepped t step ∷ run) s row legal m =
     elim (cases_eq t s) [
       | inr other ↦ Contains-append_left (accepted_writes layout run) (step_rows step) row
@@ -261,6 +247,7 @@ accepted_writes-have layout (Stepped t step ∷ run) s row legal m =
             | inr fresh ↦ Contains-append_right (accepted_writes layout run) (step_rows step) row fresh
           ]
     ]
+accepted_writes-have layout (turn ∷ run) s row legal m = accepted_writes-have layout run s row legal.1 m
 
 -- an accepted write is one that a store began with, or the row of an item that some store accepted
 record IsOfStore (layout : Layout) (run : List Turn) (row : Row) : Type 0 where
@@ -307,19 +294,13 @@ of_store-same layout turn run row same (inr w) = inr (record {
 accepted_writes-from : (layout : Layout) (run : List Turn) (row : Row) → Contains (accepted_writes layout run) row
     → IsAcceptedRow layout run row
 accepted_writes-from layout [] row m = inl m
-accepted_writes-from layout (Issued t x ∷ run) row m =
-    of_store-same layout (Issued t x) run row (λ s. refl) (accepted_writes-from layout run row m)
-accepted_writes-from layout (Sent k st ∷ run) row m =
-    of_store-same layout (Sent k st) run row (λ s. refl) (accepted_writes-from layout run row m)
-accepted_writes-from layout (Received k j st ∷ run) row m =
-    of_store-same layout (Received k j st) run row (λ s. refl) (accepted_writes-from layout run row m)
-accepted_writes-from layout (Observed k t at st ∷ run) row m =
-    of_store-same layout (Observed k t at st) run row (λ s. refl) (accepted_writes-from layout run row m)
 accepted_writes-from layout (Stepped t step ∷ run) row m =
     elim (Contains-append_cases (accepted_writes layout run) (step_rows step) row m) [
       | inl old ↦ of_store-keeps layout t step run row (accepted_writes-from layout run row old)
       | inr fresh ↦ inr (of_store-step layout t step run row fresh)
     ]
+accepted_writes-from layout (turn ∷ run) row m =
+    of_store-same layout turn run row (λ s. refl) (accepted_writes-from layout run row m)
 
 pub newest-accepted : (layout : Layout) (run : List Turn) → IsLegal layout run → AreNewestAccepted layout run
 newest-accepted layout run legal = λ key at.

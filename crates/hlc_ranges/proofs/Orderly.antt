@@ -11,7 +11,7 @@ use Rattle.hlc_core.specs.Replicas.{items_of, begun}
 use Rattle.hlc_core.proofs.PastLemmas.{inside, on_link, admissible, head-same, head-other, head-joined}
 use Rattle.hlc_core.proofs.PastLemmas.{head-joined_other}
 use Rattle.hlc_replicas.proofs.ReplicaLemmas.{items-same, items-other}
-use Rattle.hlc_ranges.specs.Run.{Layout, Turn, Issued, Sent, Received, Observed, Stepped, past_of, issued, mark_of}
+use Rattle.hlc_ranges.specs.Run.{Layout, Turn, Issued, Stepped, past_of, issued, mark_of}
 use Rattle.hlc_ranges.specs.Run.{raised_by, last_stamp, ends_with, has_ended, next_number, IsIssuedStep, IsAllowed}
 use Rattle.hlc_ranges.specs.Run.{IsLegal}
 use Rattle.hlc_ranges.proofs.Links.{IsLink, link-begins, link-rises, link-issue, link-took, link-more, link-start}
@@ -164,8 +164,5 @@ orderly layout [] legal = λ s n.
     (link-begins (count n (layout.begun s)) (retired n (layout.begun s)) (layout.clock (layout.machine s n))
     (numbered (layout.begun s)) n (head n (layout.begun s)) (legal.reached s n))
 orderly layout (Issued t item ∷ run) legal = orderly-issued layout t item run legal.0 (orderly layout run legal.1)
-orderly layout (Sent m st ∷ run) legal = orderly-clock layout (Sent m st) run (orderly layout run legal.1)
-orderly layout (Received m k st ∷ run) legal = orderly-clock layout (Received m k st) run (orderly layout run legal.1)
-orderly layout (Observed m s at st ∷ run) legal =
-    orderly-clock layout (Observed m s at st) run (orderly layout run legal.1)
 orderly layout (Stepped t step ∷ run) legal = orderly-stepped layout t step run legal (orderly layout run legal.1)
+orderly layout (turn ∷ run) legal = orderly-clock layout turn run (orderly layout run legal.1)
