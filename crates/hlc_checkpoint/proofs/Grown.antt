@@ -15,7 +15,7 @@ use Rattle.hlc_witness.specs.Certificate.{RowsAscend, row_cmp}
 use Rattle.hlc_witness.specs.Cost.{IsInLimits}
 use Rattle.hlc_witness.proofs.ListedLemmas.{sorted_append}
 use Rattle.hlc_checkpoint.specs.StoreView.{StoreView, IsUnderHead, with_rows}
-use Rattle.hlc_checkpoint.specs.Checkpoint.{IsCheckpoint, IsCopyOf, IsFirstReason, IsHeadReason, IsStoreHead}
+use Rattle.hlc_checkpoint.specs.Checkpoint.{IsCheckpoint, IsFirstReason, IsHeadReason, IsStoreHead}
 use Rattle.hlc_checkpoint.specs.declared.checkpoint.RestoreFault.{RestoreFault}
 use Rattle.hlc_checkpoint.specs.declared.checkpoint.RestoreFault.TheVariants as reasons
 use Rattle.hlc_checkpoint.specs.Growing.{with_row, growing_of, without_value, IsLast, IsAfter, HasGrown, first_fault}
@@ -211,13 +211,4 @@ grown-none head = record {
   under = (λ t. All-nil (IsUnderHead head.links), λ all'. refl);
   limits = (λ t. All-nil IsInLimits, λ all'. refl);
   stored = λ t v w. IsPermutation-refl [];
-}
-
--- the parts, with the rows that are stored, are a copy
-pub grown-copy : (head : StoreView) (stored : List Row) (last : Option Row) (a u l : Bool) (kept : StoreView)
-    → HasGrown (growing_of head stored last a u l) kept → IsCheckpoint kept → IsCopyOf kept (with_rows head stored)
-grown-copy head stored last a u l kept grown is = record {
-  same = grown.same;
-  rows = grown.stored (grown.ascend.1 is.ascend) (grown.under.1 is.store.consistent.stored)
-      (grown.limits.1 is.store.sound.limits);
 }

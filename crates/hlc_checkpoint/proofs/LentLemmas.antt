@@ -1,7 +1,7 @@
 -- Lists of columns, one after another, are the list of all columns; and if the keys ascend, its rows ascend.
 use Rattle.std.proofs.Common.{◌≡◌, ℕ, zero, suc, ◌<◌, List, [], ◌∷◌, ◌++◌, length, nat_cmp, Less, Some, slice_get}
 use Rattle.std.proofs.Common.{Option, refl, sym, ap, ap₂, ◌∙◌, subst, append_assoc, arith, IsPermutation}
-use Rattle.std.proofs.Common.{inl, inr, Contains}
+use Rattle.std.proofs.Common.{Contains}
 use Rattle.std.specs.Prelude.{All, Bool}
 use Rattle.std.specs.List.{AllByRecursion}
 use Rattle.std.specs.Ordering.{ordering_then}
@@ -9,9 +9,9 @@ use Rattle.std.specs.Cmp.Lexicographic.{slice_cmp}
 use Rattle.std.specs.List.Sorted.{IsStrictlySortedBy}
 use Rattle.std.proofs.lemmas.Option.{same_Some, slice_get_within}
 use Rattle.std.proofs.lemmas.List.Elements.{All-nil, All-cons, All-head, All-tail, All-filter, Contains-append_left}
+use Rattle.std.proofs.lemmas.List.Elements.{All-contains, All-from_recursion}
 use Rattle.std.proofs.lemmas.List.Sorted.{IsPermutation-refl, IsPermutation-sym, IsPermutation-append}
 use Rattle.std.proofs.lemmas.List.Sorted.{Contains-permutation}
-use Rattle.hlc_values.proofs.MemberLemmas.{Contains-none, Contains-first, Contains-rest, Contains-cons_cases}
 use Rattle.hlc_rows.specs.declared.row.Row.{Row}
 use Rattle.hlc_rows.specs.Rows.{IsRowSet}
 use Rattle.hlc_table_column.specs.Cells.{Cell}
@@ -22,6 +22,7 @@ use Rattle.hlc_columns.specs.Answers.{AreNext, in_part, part_end}
 use Rattle.hlc_columns.specs.Table.{columns_in}
 use Rattle.hlc_witness.specs.Certificate.{row_cmp, RowsAscend}
 use Rattle.hlc_witness.specs.Cost.{IsInLimits, AreInLimits}
+use Rattle.hlc_witness.proofs.ListedLemmas.{sorted_append}
 use Rattle.hlc_checkpoint.specs.Lent.{IsWritable, AreListOf}
 
 -- the row at a position of a column
@@ -59,36 +60,17 @@ list-same (one ∷ columns) rows (first, others, is, own, so) =
     subst (IsPermutation (rows_in (one ∷ columns))) (sym is)
     (IsPermutation-append (rows_in_one one) first (rows_in columns) others own.same (list-same columns others so))
 
-all_of : (P : Row → Type 0) (rows : List Row) → ((row : Row) → Contains rows row → P row) → AllByRecursion P rows
-all_of P [] each = tt
-all_of P (row ∷ rows) each =
-    (each row (Contains-first row rows), all_of P rows (λ r m. each r (Contains-rest row r rows m)))
-
-all_append : (P : Row → Type 0) (xs ys : List Row) → AllByRecursion P xs → AllByRecursion P ys
-    → AllByRecursion P (xs ++ ys)
-all_append P [] ys front back = back
-all_append P (x ∷ xs) ys front back = (front.0, all_append P xs ys front.1 back)
-
 -- each later key is above the first
 pub all_less : (k : List ℕ) (keys : List (List ℕ)) (other : List ℕ)
     → AllByRecursion (λ key. slice_cmp nat_cmp k key ≡ Less) keys → Contains keys other
     → slice_cmp nat_cmp k other ≡ Less
-all_less k [] other each m = absurd (Contains-none other m)
-all_less k (key ∷ keys) other each m = elim (Contains-cons_cases key other keys m) [
-  | inl is ↦ subst (λ z. slice_cmp nat_cmp k z ≡ Less) is each.0
-  | inr r ↦ all_less k keys other each.1 r
-]
+all_less k keys other each m = All-contains (λ key. slice_cmp nat_cmp k key ≡ Less) keys other
+    (All-from_recursion (λ key. slice_cmp nat_cmp k key ≡ Less) keys each) m
 
 -- rows that ascend, and more above them
 pub ascend-append : (xs ys : List Row) → RowsAscend xs → RowsAscend ys
     → ((x y : Row) → Contains xs x → Contains ys y → row_cmp x y ≡ Less) → RowsAscend (xs ++ ys)
-unfolding IsStrictlySortedBy
-ascend-append [] ys up more above = more
-ascend-append (x ∷ xs) ys up more above = (
-  all_append (λ y. row_cmp x y ≡ Less) xs ys up.0
-      (all_of (λ y. row_cmp x y ≡ Less) ys (λ y m. above x y (Contains-first x xs) m)),
-  ascend-append xs ys up.1 more (λ a b m n. above a b (Contains-rest x a xs m) n),
-)
+ascend-append xs ys up more above = sorted_append row_cmp xs ys up more above
 
 pub key-less : (x y : Row) → slice_cmp nat_cmp x.key y.key ≡ Less → row_cmp x y ≡ Less
 key-less x y less =
