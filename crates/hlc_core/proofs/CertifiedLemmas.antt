@@ -25,7 +25,7 @@ use Rattle.hlc_core.specs.StoreView.{StoreView, Represents}
 use Rattle.hlc_core.specs.PlanAt.{IsPlanAt}
 use Rattle.hlc_core.specs.Certified.{IsCertified, AreNotFewest}
 use Rattle.hlc_core.proofs.PastLemmas.{vacuum-above}
-use Rattle.hlc_core.proofs.ReportLemmas.{one-changes}
+use Rattle.hlc_core.proofs.ReportLemmas.{one-changes, a_report}
 use Rattle.hlc_core.proofs.VacuumLemmas.{vacuums, represents-vacuumed, fewer-open, low-open}
 
 -- the points of the plan are those of a vacuum after the past
@@ -95,10 +95,6 @@ vacuums-leave-certified kept at past h not_fewest =
     let fewer : length not_fewest.others < length (rows_to at kept.rows) = not_fewest.fewer in
     absurd (omega arith)
 
-abbrev with_numbers : ℕ → List ℕ → ℕ → ℕ → List Witness → Report
-with_numbers at points kept bytes witnesses =
-    record { floor = at; points = points; kept = kept; bytes = bytes; dropped = 0; witnesses = witnesses }
-
 -- and their certificate is the report of the vacuum, with no row dropped
 pub certificate-is-report : (kept : StoreView) (at : ℕ) (past : List Step) (report certificate : Report)
     → IsReport at past report → IsCertified kept at (Vacuumed at ∷ past) certificate
@@ -113,9 +109,7 @@ certificate-is-report kept at past report certificate is made =
     let number : certificate.kept ≡ report.kept = also.kept ∙ ap length witnesses ∙ sym is.kept in
     let bytes : certificate.bytes ≡ report.bytes =
     also.bytes ∙ ap (changes_cost (writes past)) witnesses ∙ sym is.bytes in
-    ap (λ x. record certificate { dropped = x }) made.none_dropped
-    ∙ ap (λ x. with_numbers x certificate.points certificate.kept certificate.bytes certificate.witnesses) floor
-    ∙ ap (λ x. with_numbers report.floor x certificate.kept certificate.bytes certificate.witnesses) points
-    ∙ ap (λ x. with_numbers report.floor report.points x certificate.bytes certificate.witnesses) number
-    ∙ ap (λ x. with_numbers report.floor report.points report.kept x certificate.witnesses) bytes
-    ∙ ap (λ x. with_numbers report.floor report.points report.kept report.bytes x) witnesses
+    let dropped : certificate.dropped ≡ 0 = made.none_dropped in
+    let same : a_report certificate.floor certificate.points certificate.kept certificate.bytes certificate.dropped
+    certificate.witnesses
+    ≡ a_report report.floor report.points report.kept report.bytes 0 report.witnesses = cc in same

@@ -440,8 +440,7 @@ vacuum-none past at low high = cond-false _ _ _ (le-ltb (floor past) at low)
 pub horizon-low : (past : List Step) → IsLegal past → horizon past ≤ floor past
 horizon-low [] legal = omega arith
 horizon-low (Took item ∷ past) legal =
-    let low : horizon past ≤ floor past = horizon-low past legal.1 in
-    let up : floor past ≤ floor (Took item ∷ past) = floor-grows past item legal.0 in omega arith
+    omega (arith, horizon-low past legal.1, floor-grows past item legal.0)
 horizon-low (Started nodes ∷ past) legal = rw legal.0 (omega arith)
 horizon-low (Vacuumed at ∷ past) legal = vacuum-below past at legal.0
 horizon-low (Began kept ∷ past) legal =
@@ -450,9 +449,7 @@ horizon-low (Began kept ∷ past) legal =
     let goal : kept.horizon ≤ floor (Began kept ∷ past) = omega arith in goal
 horizon-low (PartVacuumed at dropped ∷ past) legal = vacuum-below past at legal.0
 horizon-low (Joined node start ∷ past) legal =
-    let low : horizon past ≤ floor past = horizon-low past legal.3 in
-    let up : floor past ≤ floor (Joined node start ∷ past) =
-    floor-joins past node start legal.1 legal.2 in omega arith
+    omega (arith, horizon-low past legal.3, floor-joins past node start legal.1 legal.2)
 horizon-low (_ ∷ past) legal = horizon-low past legal.1
 
 -- nor is the stamp of the last whole vacuum above the horizon
@@ -472,8 +469,7 @@ vacuumed-low (step ∷ past) legal = vacuumed-low past (older step past legal)
 pub above-horizon : (past : List Step) (item : Item) → IsLegal past
     → item_refusal past item ≡ None → horizon past < item.stamp
 above-horizon past item legal none =
-    let low : horizon past ≤ floor past = horizon-low past legal in
-    let up : floor past < item.stamp = above_floor past item none in omega arith
+    omega (arith, horizon-low past legal, above_floor past item none)
 
 -- a stamp that is neither above the floor nor below the horizon is refused only if no more snapshot can be opened
 pub open-room : (past : List Step) (stamp : ℕ) → stamp ≤ floor past → horizon past ≤ stamp

@@ -39,7 +39,7 @@ there_is_one_count past count other is also =
     let same : length is.0 ≡ length also.0 = one-last past is.0 also.0 is.1 also.1 in
     omega (arith, is.2, also.2)
 
-abbrev a_report : ℕ → List ℕ → ℕ → ℕ → ℕ → List Witness → Report
+abbrev pub a_report : ℕ → List ℕ → ℕ → ℕ → ℕ → List Witness → Report
 a_report at points kept bytes dropped witnesses =
     record { floor = at; points = points; kept = kept; bytes = bytes; dropped = dropped; witnesses = witnesses }
 

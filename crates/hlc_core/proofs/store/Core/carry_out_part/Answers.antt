@@ -1,13 +1,10 @@
 -- The rows of the part are vacuumed, at the points of the open snapshots up to the stamp, and the horizon is moved.
-use Rattle.std.proofs.Common.{sym, subst}
+use Rattle.std.proofs.Common.{subst}
 use Rattle.hlc_columns.specs.Answers.{in_part}
 use Rattle.hlc_vacuum.specs.Part.{IsPartVacuum}
-use Rattle.hlc_core.specs.PlanAt.{IsPartPlanAt}
 use Rattle.hlc_core.proofs.Consistent.{consistent-fewer}
 use Rattle.hlc_core.proofs.Sound.{sound-vacuum}
 use Rattle.hlc_core.proofs.PartVacuumLemmas.{part-vacuums_keys}
-use Rattle.hlc_core.specs.StoreView.{StoreView}
-use Rattle.hlc_vacuum.specs.Representing.{IsWithin}
 use Rattle.hlc_core.proofs.store.Core.carry_out_part.Goals as goal
 
 pub apply_part-made-requires : goal.apply_part-made-requires
@@ -16,8 +13,7 @@ apply_part-made-requires c =
 
 pub invariant_of-self : goal.invariant_of-self
 invariant_of-self c =
-    let planned = subst (λ kept. IsPartPlanAt kept c.args.at c.requires.plan.0 c.requires.plan.1 c.args.part)
-    (sym c.self.view_is) c.requires.plan.2 in
+    let planned = rw (← c.self.view_is) at c.requires.plan.2 in
     let made = c.apply_part-made.ensures.vacuumed c.requires.plan.0 c.requires.plan.1 planned.made in
     let low = rw (← c.self.view_is) at c.requires.low in (
       consistent-fewer _ _ _ _ c.self.invariant.0 made.row_set made.within,
@@ -26,7 +22,7 @@ invariant_of-self c =
 
 pub returns-clause-vacuums : goal.returns-clause-vacuums
 returns-clause-vacuums c = λ past after limit h plan.
-    let planned = subst (λ kept. IsPartPlanAt kept c.args.at after limit c.args.part) (sym c.self.view_is) plan in
+    let planned = rw (← c.self.view_is) at plan in
     let made = subst (IsPartVacuum c.self.inside.table c.apply_part-made.new.table (in_part after c.args.part.end))
     c.apply_part-made.ensures.report (c.apply_part-made.ensures.vacuumed after limit planned.made) in
     rw (← c.self.view_is)
@@ -37,5 +33,4 @@ returns-clause-vacuums c = λ past after limit h plan.
 
 pub returns-clause-within : goal.returns-clause-within
 returns-clause-within c =
-    subst (λ (kept : StoreView). IsWithin kept.rows c.apply_part-made.new.table) c.self.view_is
-    c.apply_part-made.ensures.within
+    rw (← c.self.view_is) c.apply_part-made.ensures.within

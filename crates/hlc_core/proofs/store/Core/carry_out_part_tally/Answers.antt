@@ -1,13 +1,10 @@
 -- The rows of the part are vacuumed, at the points of the open snapshots up to the stamp, and the horizon is moved.
-use Rattle.std.proofs.Common.{◌∙◌, ap, sym, subst}
+use Rattle.std.proofs.Common.{◌∙◌, ap}
 use Rattle.hlc_vacuum_draft.specs.Report.{numbers_in, report_of}
 use Rattle.hlc_vacuum.specs.Part.{with_plan}
-use Rattle.hlc_core.specs.PlanAt.{IsPartTallyAt}
 use Rattle.hlc_core.proofs.Consistent.{consistent-fewer}
 use Rattle.hlc_core.proofs.Sound.{sound-vacuum}
 use Rattle.hlc_core.proofs.PartVacuumLemmas.{part-vacuums_keys}
-use Rattle.hlc_core.specs.StoreView.{StoreView}
-use Rattle.hlc_vacuum.specs.Representing.{IsWithin}
 use Rattle.hlc_core.proofs.store.Core.carry_out_part_tally.Goals as goal
 
 pub apply_part_tally-made-requires : goal.apply_part_tally-made-requires
@@ -21,8 +18,7 @@ apply_part_tally-made-requires c =
 
 pub invariant_of-self : goal.invariant_of-self
 invariant_of-self c =
-    let of = subst (λ kept. IsPartTallyAt kept c.args.at c.requires.tally.0 c.requires.tally.1 c.args.part)
-    (sym c.self.view_is) c.requires.tally.2 in
+    let of = rw (← c.self.view_is) at c.requires.tally.2 in
     let made = c.apply_part_tally-made.ensures.vacuumed c.requires.tally.0 c.requires.tally.1 of.plan of.planned.made
     of.is in
     let low = rw (← c.self.view_is) at c.requires.low in (
@@ -32,7 +28,7 @@ invariant_of-self c =
 
 pub returns-clause-vacuums : goal.returns-clause-vacuums
 returns-clause-vacuums c = λ past after limit h tally.
-    let of = subst (λ kept. IsPartTallyAt kept c.args.at after limit c.args.part) (sym c.self.view_is) tally in
+    let of = rw (← c.self.view_is) at tally in
     let made = part-vacuums_keys _ c.args.at past after limit (with_plan c.args.part of.plan)
     c.apply_part_tally-made.new.table (rw (← c.self.view_is) at h)
     (rw (← c.self.view_is) at c.requires.low) (rw (← c.self.view_is) at c.requires.high) of.planned
@@ -50,5 +46,4 @@ returns-clause-vacuums c = λ past after limit h tally.
 
 pub returns-clause-within : goal.returns-clause-within
 returns-clause-within c =
-    subst (λ (kept : StoreView). IsWithin kept.rows c.apply_part_tally-made.new.table) c.self.view_is
-    c.apply_part_tally-made.ensures.within
+    rw (← c.self.view_is) c.apply_part_tally-made.ensures.within

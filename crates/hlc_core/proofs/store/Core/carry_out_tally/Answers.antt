@@ -10,14 +10,12 @@ use Rattle.hlc_vacuum_draft.specs.Report.{numbers_in, report_of}
 use Rattle.hlc_vacuum_draft.specs.Vacuumed.{IsVacuumOf, rows_to}
 use Rattle.hlc_core.specs.Past.{floor, horizon}
 use Rattle.hlc_core.specs.StoreView.{StoreView}
-use Rattle.hlc_core.specs.PlanAt.{IsPlanAt}
 use Rattle.hlc_clock.proofs.PointLemmas.{points-last}
 use Rattle.hlc_core.proofs.PastLemmas.{vacuum-none}
 use Rattle.hlc_core.proofs.VacuumLemmas.{vacuums}
 use Rattle.hlc_core.proofs.Consistent.{consistent-fewer}
 use Rattle.hlc_core.proofs.CheckpointLemmas.{floor-in}
 use Rattle.hlc_core.proofs.Sound.{sound-vacuum}
-use Rattle.hlc_vacuum.specs.Representing.{IsWithin}
 use Rattle.hlc_core.proofs.store.Core.carry_out_tally.Goals as goal
 use Rattle.hlc_core.proofs.store.Core.carry_out_tally.Goals.{After-apply_tally-numbers}
 
@@ -52,7 +50,7 @@ invariant_of-self c =
 pub returns-clause-vacuums : goal.returns-clause-vacuums
 returns-clause-vacuums c = λ past plan h plans is.
     let h' = rw (← c.self.view_is) at h in
-    let planned = subst (λ kept. IsPlanAt kept c.args.at plan) (sym c.self.view_is) plans in
+    let planned = rw (← c.self.view_is) at plans in
     let at = subst (λ xs. ArePoints (stamps_to c.args.at xs) c.args.at plan.points) h'.snapshots planned.points in
     let new = c.apply_tally-numbers.new.table in
     let old = c.self.inside.table in
@@ -72,5 +70,4 @@ returns-clause-vacuums c = λ past plan h plans is.
 
 pub returns-clause-within : goal.returns-clause-within
 returns-clause-within c =
-    subst (λ (kept : StoreView). IsWithin kept.rows c.apply_tally-numbers.new.table) c.self.view_is
-    (c.args.tally.now.keep, c.apply_tally-numbers.ensures.rows)
+    rw (← c.self.view_is) (c.args.tally.now.keep, c.apply_tally-numbers.ensures.rows)
