@@ -14,6 +14,8 @@ use Rattle.hlc_snapshot.proofs.RegisterLemmas.{stamp_in-all}
 use Rattle.hlc_core.specs.declared.listing.Pair.{Pair}
 use Rattle.hlc_snapshot.specs.RegistryView.{stamps, stamp_in}
 use Rattle.hlc_core.specs.Listing.{IsListing}
+use Rattle.hlc_core.specs.Differences.{Difference, AreDifferences, Compares}
+use Rattle.hlc_core.proofs.DifferenceLemmas.{differences-alike}
 
 -- an open snapshot is at one of the open stamps, so the rows answer there as all accepted writes do
 pub answer-alike : (kept : StoreView) (past : List Step) (id stamp : ℕ)
@@ -35,3 +37,17 @@ lists-alike rows others stamp listing alike is = record {
   ascending = is.ascending;
   exact = λ key value. (λ m. sym (alike key) ∙ (is.exact key value).0 m, λ e. (is.exact key value).1 (alike key ∙ e));
 }
+
+-- so the differences of the stored rows are those of all accepted writes
+pub compares-alike : (kept : StoreView) (past : List Step) (from to before after : ℕ) (IsWanted : List ℕ → Type 0)
+    (differences : List Difference) → Represents kept past → stamp_in from kept.snapshots ≡ Some before
+    → stamp_in to kept.snapshots ≡ Some after → AreDifferences kept.rows before after IsWanted differences
+    → Compares from to past IsWanted (Some differences)
+compares-alike kept past from to before after IsWanted differences h first second are = (
+  before,
+  after,
+  ap (stamp_in from) (sym h.snapshots) ∙ first,
+  ap (stamp_in to) (sym h.snapshots) ∙ second,
+  differences-alike kept.rows (writes past) before after IsWanted differences
+      (answer-alike kept past from before h first) (answer-alike kept past to after h second) are,
+)

@@ -1,27 +1,12 @@
 -- The stored rows answer at both open snapshots as all accepted writes do.
-use Rattle.std.proofs.Common.{◌≡◌, Some, sym, ap, ◌∙◌}
+use Rattle.std.proofs.Common.{sym}
 use Rattle.std.specs.Prelude.{option_copied}
 use Rattle.hlc_columns.specs.Answers.{IsBetween}
-use Rattle.hlc_core.specs.Past.{stamp_of, writes}
-use Rattle.hlc_snapshot.specs.RegistryView.{stamp_in}
-use Rattle.hlc_core.proofs.Answering.{answer-alike}
-use Rattle.hlc_core.proofs.DifferenceLemmas.{differences-alike}
+use Rattle.hlc_core.proofs.Answering.{compares-alike}
 use Rattle.hlc_core.proofs.store.Core.changes_between.Goals as goal
 
 pub returns : goal.returns
 returns c = λ past h.
-    let h' = rw (← c.self.view_is) at h in
-    let first : stamp_of c.args.from past ≡ Some c.in_ok-before.before =
-    ap (stamp_in c.args.from) (sym h'.snapshots) ∙ sym c.in_ok-before.ensures.value in
-    let second : stamp_of c.args.to past ≡ Some c.in_ok-after.after =
-    ap (stamp_in c.args.to) (sym h'.snapshots) ∙ sym c.in_ok-after.ensures.value in (
-      c.in_ok-before.before,
-      c.in_ok-after.after,
-      first,
-      second,
-      differences-alike _ (writes past) c.in_ok-before.before c.in_ok-after.after
-          (IsBetween c.args.first.now (option_copied c.args.end)) c.changes_between.result
-          (answer-alike _ past c.args.from c.in_ok-before.before h' (sym c.in_ok-before.ensures.value))
-          (answer-alike _ past c.args.to c.in_ok-after.after h' (sym c.in_ok-after.ensures.value))
-          c.changes_between.ensures,
-    )
+    compares-alike _ past c.args.from c.args.to _ _ (IsBetween c.args.first.now (option_copied c.args.end))
+    c.changes_between.result (rw (← c.self.view_is) at h) (sym c.in_ok-before.ensures.value)
+    (sym c.in_ok-after.ensures.value) c.changes_between.ensures
