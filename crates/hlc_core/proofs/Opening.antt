@@ -71,8 +71,9 @@ still-open id stamp (x ∷ xs) m =
     ]
 
 -- with fewer stamps open
-pub fewer-stamps : (stored all : List Row) (horizon : ℕ) (opened fewer : List ℕ) → RowsRepresent stored all horizon opened
-    → ((stamp : ℕ) → Contains fewer stamp → Contains opened stamp) → RowsRepresent stored all horizon fewer
+pub fewer-stamps : (stored all : List Row) (horizon : ℕ) (opened fewer : List ℕ)
+    → RowsRepresent stored all horizon opened → ((stamp : ℕ) → Contains fewer stamp → Contains opened stamp)
+    → RowsRepresent stored all horizon fewer
 fewer-stamps stored all horizon opened fewer represent still = record {
   row_set = represent.row_set;
   all_row_set = represent.all_row_set;
