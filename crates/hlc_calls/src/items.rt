@@ -1,9 +1,10 @@
 //! Items that C passes as numbers and bytes.
-ghost use Rattle.std.specs.Prelude.{◌≡◌, ◌≢◌, ◌∷◌, List, None, OnErr, IfOk, MatchResult};
+ghost use Rattle.std.specs.Prelude.{◌≡◌, ◌≢◌, ◌∷◌, ◌++◌, List, None, OnOk, OnErr, IfOk, MatchResult};
+ghost use Rattle.std.specs.List.Sorted.{IsPermutation};
 ghost use Rattle.hlc_node.specs.declared.item.Body.{Body as ABody};
 ghost use Rattle.hlc_node.specs.Items.{an_item, body_refusal};
 ghost use Rattle.hlc_node.specs.declared.item.Body.TheVariants.{Report as a_report, Retire as a_retire};
-ghost use Rattle.hlc_core.specs.Past.{Step, Took, item_refusal};
+ghost use Rattle.hlc_core.specs.Past.{Step, Took, item_refusal, item_rows};
 ghost use Rattle.hlc_core.specs.StoreView.{Represents};
 ghost use Rattle.hlc_core.specs.Calls.{IsWrite, IsRefusal};
 ghost use Rattle.hlc_calls.specs.Answers.{ReturnsAccepted, ReturnsChecked};
@@ -47,6 +48,7 @@ fn accept_item(core: &mut Core, item: &ItemRef<'_>) -> Result<u64, CoreFault>
     ensures represents { (past : List Step) → Represents core.old past → MatchResult result
         (λ _. (item_refusal past item.now ≡ None) × Represents core.new (Took item.now ∷ past))
         (λ fault. IsRefusal (item_refusal past item.now) (IsWrite item.now.body) fault) }
+    ensures rows { OnOk result (IsPermutation (core.old.rows ++ item_rows item.now) core.new.rows) }
     ensures unchanged { OnErr result (core.new ≡ core.old) }
 {
     match core.accept_ref(item) {
@@ -60,6 +62,7 @@ fn accept_item(core: &mut Core, item: &ItemRef<'_>) -> Result<u64, CoreFault>
 pub fn accept(core: &mut Core, item: &ItemRef<'_>, word: &mut u64) -> u32
     ensures answer { (past : List Step) → Represents core.old past
         → ReturnsAccepted core.new item.now past result word.new }
+    ensures rows { result ≡ 0 → IsPermutation (core.old.rows ++ item_rows item.now) core.new.rows }
     ensures unchanged { result ≢ 0 → core.new ≡ core.old }
 {
     answer(accept_item(core, item), word)

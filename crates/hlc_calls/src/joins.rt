@@ -12,6 +12,7 @@ use hlc_core::{Core, Stamp};
 pub fn join(core: &mut Core, node: &mut u16, start: &mut u64) -> u32
     ensures answer { (past : List Step) → Represents core.old past
         → ReturnsJoined core.new past result node.new start.new }
+    ensures rows { core.new.rows ≡ core.old.rows }
     ensures unchanged { result ≢ 0 → (core.new ≡ core.old) × (node.new ≡ 0) × (start.new ≡ 0) }
 {
     match core.join() {
@@ -34,6 +35,7 @@ pub fn join(core: &mut Core, node: &mut u16, start: &mut u64) -> u32
 pub fn join_at(core: &mut Core, start: Stamp, node: &mut u16, returned: &mut u64) -> u32
     ensures answer { (past : List Step) → Represents core.old past
         → ReturnsJoinedAt core.new start past result node.new returned.new }
+    ensures rows { core.new.rows ≡ core.old.rows }
     ensures unchanged { result ≢ 0 → (core.new ≡ core.old) × (node.new ≡ 0) }
 {
     match core.join_at(start) {

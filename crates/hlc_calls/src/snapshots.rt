@@ -14,6 +14,7 @@ use hlc_core::{Core, Stamp};
 pub fn open(core: &mut Core, stamp: Stamp, returned: &mut u64) -> u32
     ensures answer { (past : List Step) → Represents core.old past
         → ReturnsOpened core.new stamp past result returned.new }
+    ensures rows { core.new.rows ≡ core.old.rows }
     ensures unchanged { result ≢ 0 → core.new ≡ core.old }
 {
     answer(core.open(stamp), returned)
@@ -25,6 +26,7 @@ pub fn open(core: &mut Core, stamp: Stamp, returned: &mut u64) -> u32
 pub fn open_floor(core: &mut Core, returned: &mut u64, stamp: &mut u64) -> u32
     ensures answer { (past : List Step) → Represents core.old past
         → ReturnsOpenedAtFloor core.new past result returned.new stamp.new }
+    ensures rows { core.new.rows ≡ core.old.rows }
     ensures unchanged { result ≢ 0 → (core.new ≡ core.old) × (stamp.new ≡ 0) }
 {
     match core.open_floor() {
@@ -45,6 +47,7 @@ pub fn open_floor(core: &mut Core, returned: &mut u64, stamp: &mut u64) -> u32
 pub fn close(core: &mut Core, id: u64, returned: &mut u64) -> u32
     ensures answer { (past : List Step) → Represents core.old past
         → ReturnsClosed core.new id past result returned.new }
+    ensures rows { core.new.rows ≡ core.old.rows }
     ensures unchanged { result ≢ 0 → core.new ≡ core.old }
 {
     match core.close(id) {

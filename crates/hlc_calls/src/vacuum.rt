@@ -1,5 +1,6 @@
 //! Vacuums to the floor (closed timestamp) and to a stamp, whole and in parts.
 ghost use Rattle.std.specs.Prelude.{◌≡◌, ◌≢◌, List, false};
+ghost use Rattle.hlc_vacuum.specs.Representing.{IsWithin};
 ghost use Rattle.hlc_core.specs.Past.{Step};
 ghost use Rattle.hlc_core.specs.StoreView.{Represents};
 ghost use Rattle.hlc_calls.specs.Answers.{ReturnsVacuumedAtFloor, ReturnsVacuumedTo, ReturnsVacuumChecked, AreNumbers};
@@ -37,6 +38,7 @@ pub fn vacuum(
     ensures vacuumed { result ≡ 0 → (past : List Step) → Represents core.old past
         → ReturnsVacuumedAtFloor core.new past
         floor.new kept.new bytes.new dropped.new }
+    ensures within { result ≡ 0 → IsWithin core.old.rows core.new.rows }
     ensures expected { result ≢ 0 → (result ≡ 15) × (core.new ≡ core.old) }
     ensures nothing { result ≢ 0
         → (floor.new ≡ 0) × (kept.new ≡ 0) × (bytes.new ≡ 0) × (dropped.new ≡ 0) }
@@ -83,6 +85,7 @@ pub fn vacuum_to(
     ensures answer { (past : List Step) → Represents core.old past
         → ReturnsVacuumedTo core.new at past result returned.new
         kept.new bytes.new dropped.new }
+    ensures within { result ≡ 0 → IsWithin core.old.rows core.new.rows }
     ensures unchanged { result ≢ 0 → core.new ≡ core.old }
     ensures nothing { result ≢ 0 → (kept.new ≡ 0) × (bytes.new ≡ 0) × (dropped.new ≡ 0) }
 {
@@ -117,6 +120,7 @@ pub fn vacuum_part(
     ensures answer { (past : List Step) → Represents core.old past
         → ReturnsVacuumedPart core.old core.new at after.now limit past result returned.new
         kept.new bytes.new dropped.new len.new more.new out.old out.new }
+    ensures within { result ≡ 0 → IsWithin core.old.rows core.new.rows }
     ensures unchanged { result ≢ 0 → core.new ≡ core.old }
     ensures nothing { result ≢ 0 → (kept.new ≡ 0) × (bytes.new ≡ 0) × (dropped.new ≡ 0)
         × (len.new ≡ 0) × (more.new ≡ false) × (out.new ≡ out.old) }
