@@ -126,10 +126,7 @@ pub many_rows : (es : List Entry) → total kept_one many es ≡ length (table_r
 unfolding total
 many_rows [] = refl
 many_rows (e ∷ es) =
-    let n = length-map e.1 (row_of e.0) in
-    let sum = length-append (rows_of e.0 e.1) (table_rows es) in
-    let rest = many_rows es in
-    omega (arith, n, sum, rest)
+    omega (arith, length-map e.1 (row_of e.0), length-append (rows_of e.0 e.1) (table_rows es), many_rows es)
 
 -- and for the leaves
 abbrev pub leaf_rows : List Entry → ℕ
@@ -159,9 +156,7 @@ unfolding total
 leaves_rows [] = refl
 leaves_rows (l ∷ ls) =
     let both = ap length (rows_both l (entries_in ls)) in
-    let sum = length-append (table_rows l) (indexed_rows ls) in
-    let rest = leaves_rows ls in
-    omega (arith, both, sum, rest)
+    omega (arith, length-append (table_rows l) (indexed_rows ls), leaves_rows ls)
 
 one_more : (n : ℕ) → suc n ≡ n + 1
 one_more n = omega arith
@@ -184,9 +179,7 @@ module _ (old cols : List (List Entry)) (at : ℕ) (flags left : List Bool) (ins
       let e = ap length inv in
       let a = length-append (run kept_in leaf_rows flags (take at old)) (drop at old) in
       let b = length-run kept_in leaf_rows flags (take at old) in
-      let d = length-append (take at old) (drop at old) in
-      let f = ap length (take-append-drop at old) in
-      omega (arith, inside, e, a, b, d, f)
+      omega (arith, length-append (take at old) (drop at old), ap length (take-append-drop at old))
 
   pub leaf_enough : length flags ≡ length (indexed_rows old) → length (table_rows (get_or cols at [])) ≤ length left
   leaf_enough all =
@@ -199,8 +192,7 @@ module _ (old cols : List (List Entry)) (at : ℕ) (flags left : List Bool) (ins
       let both = ap (λ es. length (table_rows es)) (flat_map-append (λ (l : List Entry). l) (take (suc at) old) (drop
       (suc at) old)) in
       let sides = ap length (rows_both (entries_in (take (suc at) old)) (entries_in (drop (suc at) old))) in
-      let sum = length-append (indexed_rows (take (suc at) old)) (indexed_rows (drop (suc at) old)) in
-      omega (arith, all, e, f, d, more, rows, whole, both, sides, sum)
+      omega (arith, length-append (indexed_rows (take (suc at) old)) (indexed_rows (drop (suc at) old)))
 
   pub next_leaves : (now : List (List Entry)) → now ≡ set cols at (kept_in left (get_or cols at []))
       → now ≡ run kept_in leaf_rows flags (take (at + 1) old) ++ drop (at + 1) old
@@ -253,9 +245,7 @@ module _ (old cols : List (List Entry)) (at slot : ℕ) (flags left : List Bool)
   long =
       let a = length-append (run kept_one many flags (take slot leaf)) (drop slot leaf) in
       let b = length-run kept_one many flags (take slot leaf) in
-      let d = length-append (take slot leaf) (drop slot leaf) in
-      let e = ap length (take-append-drop slot leaf) in
-      omega (arith, a, b, d, e)
+      omega (arith, length-append (take slot leaf) (drop slot leaf), ap length (take-append-drop slot leaf))
 
   pub leaf_inside : at < length cols
   leaf_inside = let e = ap length inv in let n = length-set old at passed in omega (arith, inside, e, n)
@@ -287,8 +277,7 @@ module _ (old cols : List (List Entry)) (at slot : ℕ) (flags left : List Bool)
       let all = many_rows (take (suc slot) leaf) in
       let whole = ap (λ es. length (table_rows es)) (take-append-drop (suc slot) leaf) in
       let both = ap length (rows_both (take (suc slot) leaf) (drop (suc slot) leaf)) in
-      let sum = length-append (table_rows (take (suc slot) leaf)) (table_rows (drop (suc slot) leaf)) in
-      omega (arith, le, e, f, d, more, all, whole, both, sum)
+      omega (arith, length-append (table_rows (take (suc slot) leaf)) (table_rows (drop (suc slot) leaf)))
 
   pub next_columns : (now : List (List Entry)) → now ≡ with_value_in cols at slot
       (items_where_true (take (length (cells_at cols at slot)) left) (cells_at cols at slot))

@@ -135,15 +135,11 @@ module _ (ls : List (List Entry)) (at slot : ℕ) (inside : at < length ls) (lt 
 
     pub inside_now : at < length now
     inside_now =
-        let n = ap length is in
-        let m = length-set ls at (set leaf slot (key_at ls at slot, cells)) in
-        omega (arith, inside, n, m)
+        omega (arith, ap length is, length-set ls at (set leaf slot (key_at ls at slot, cells)))
 
     pub slot_now : slot < length (get_or now at [])
     slot_now =
-        let n = ap length leaf_now in
-        let m = length-set leaf slot (key_at ls at slot, cells) in
-        omega (arith, lt, n, m)
+        omega (arith, ap length leaf_now, length-set leaf slot (key_at ls at slot, cells))
 
     pub before_now : entries_before now at slot ≡ entries_before ls at slot
     before_now =

@@ -70,9 +70,7 @@ pub is_there : (key : List ℕ) (old new : List Row) (row : Row) → row.key ≡
 is_there key old new row own (front, back, was, is, others) =
     let same = (bytes_eq-Decides row.key key).1 own in
     let none = none_behind key back (λ other m has. others other m (has ∙ sym own)) in
-    let all = ap (λ (rows : List Row). length (rows_with key rows)) is in
-    let count = counted key front back row same none in
-    omega (arith, all, count)
+    omega (arith, ap (λ (rows : List Row). length (rows_with key rows)) is, counted key front back row same none)
 
 -- Writes of different keys.
 

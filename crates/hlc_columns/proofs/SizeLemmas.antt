@@ -37,10 +37,7 @@ pub rows_counted : (es : List Entry) → sum_by (λ e. length e.1) es ≡ length
 rows_counted [] = refl
 rows_counted (e ∷ es) =
     let first = sum_by-cons (λ (e : Entry). length e.1) e es in
-    let rest = rows_counted es in
-    let n = length-map e.1 (row_of e.0) in
-    let sum = length-append (rows_of e.0 e.1) (table_rows es) in
-    omega (arith, first, rest, n, sum)
+    omega (arith, rows_counted es, length-map e.1 (row_of e.0), length-append (rows_of e.0 e.1) (table_rows es))
 
 column_bytes : (key : List ℕ) (cells : List Cell) → sum_by cell_bytes cells ≡ sum_by row_bytes (rows_of key cells)
 column_bytes key [] = refl
@@ -52,10 +49,7 @@ pub bytes_counted : (es : List Entry) → sum_by (λ e. sum_by cell_bytes e.1) e
 bytes_counted [] = refl
 bytes_counted (e ∷ es) =
     let first = sum_by-cons (λ (e : Entry). sum_by cell_bytes e.1) e es in
-    let rest = bytes_counted es in
-    let own = column_bytes e.0 e.1 in
-    let sum = sum_by-append row_bytes (rows_of e.0 e.1) (table_rows es) in
-    omega (arith, first, rest, own, sum)
+    omega (arith, bytes_counted es, column_bytes e.0 e.1, sum_by-append row_bytes (rows_of e.0 e.1) (table_rows es))
 
 pub names_counted : (es : List Entry) → sum_by (λ e. length e.0) es ≡ sum_by length (keys_in es)
 names_counted [] = refl
@@ -102,8 +96,7 @@ sum_added f k cells (e ∷ es) h =
       | Equal ↦ λ is. absurd (true≢false (ap is_eq (sym is) ∙ p.0))
       | Greater ↦ λ is.
           let first = sum_by-cons f e (insert_entry (λ a b. slice_cmp nat_cmp a b) es k cells) in
-          let rest = sum_added f k cells es p.1 in
-          omega (arith, own, first, rest)
+          omega (arith, sum_added f k cells es p.1)
     ] refl
 
 pub length_added : (k : List ℕ) (cells : List Cell) (es : List Entry) → lookup (test k) es ≡ None

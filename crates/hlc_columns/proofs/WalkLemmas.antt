@@ -78,8 +78,7 @@ module _ (bound : ℕ) where
   count_next left after e total n all is inv own =
       let next = ap (λ es. length (filter within (table_rows es))) is in
       let both = ap length (filter-append within (rows_of e.0 e.1) (table_rows after)) in
-      let sum = length-append (filter within (rows_of e.0 e.1)) (filter within (table_rows after)) in
-      omega (arith, inv, own, next, both, sum)
+      omega (arith, length-append (filter within (rows_of e.0 e.1)) (filter within (table_rows after)))
 
 -- from the first slot on there are all entries
 pub all_from_first : (ls : List (List Entry)) → entries_from ls 0 0 ≡ entries_in ls

@@ -181,7 +181,4 @@ with_room cells others room other e f =
 pub room_kept : (N a b c a_new b_new c_new room : ℕ) → min a (min b c) ≡ room → (N ≤ a → N ≤ a_new)
     → (N ≤ b → N ≤ b_new) → (N ≤ c → N ≤ c_new) → N ≤ room → N ≤ min a_new (min b_new c_new)
 room_kept N a b c a_new b_new c_new room e fa fb fc le =
-    let x = fa (omega (arith, e, le)) in
-    let y = fb (omega (arith, e, le)) in
-    let z = fc (omega (arith, e, le)) in
-    omega (arith, x, y, z)
+    omega (arith, fa (omega (arith, e, le)), fb (omega (arith, e, le)), fc (omega (arith, e, le)))

@@ -30,8 +30,7 @@ best_is_newest ss ns vs bound (Some i) b (inside, within, top) =
       refl,
       refl,
       λ k from below same alike.
-          let h = (top k (omega (arith, below, inside)) (subst (λ s. s ≤ bound) (sym same) within)).2 same alike in
-          omega (arith, h, below),
+          omega (arith, (top k (omega (arith, below, inside)) (subst (λ s. s ≤ bound) (sym same) within)).2 same alike),
     )
 
 -- the same, of cells that are those of the lists, at a bound that is the given one

@@ -25,10 +25,7 @@ one_more c =
 
 pub overflow_add-total : goal.overflow_add-total
 overflow_add-total c =
-    let more = one_more c in
-    let le = few c.args.bound (indexed_rows c.args.columns.now) in
-    let all = c.requires in
-    omega (arith, more, le, all)
+    omega (arith, one_more c, few c.args.bound (indexed_rows c.args.columns.now), c.requires)
 
 pub loop-entry-preserved : goal.loop-entry-preserved
 loop-entry-preserved c = one_more c

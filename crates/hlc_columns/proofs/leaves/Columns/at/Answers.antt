@@ -6,10 +6,7 @@ use Rattle.hlc_columns.proofs.leaves.Columns.at.Goals as goal
 
 pub entry_at-requires : goal.entry_at-requires
 entry_at-requires c =
-    let lt = c.requires in
-    let same = ap length (sym c.self.view_is) in
-    let long = length-map c.self.inside.entries.now one_of in
-    omega (arith, lt, same, long)
+    omega (arith, c.requires, ap length (sym c.self.view_is), length-map c.self.inside.entries.now one_of)
 
 pub returns : goal.returns
 returns c = ap (λ columns. slice_get columns c.args.place) (sym c.self.view_is) ∙ c.entry_at.ensures

@@ -32,9 +32,7 @@ same_many c = read_many c ∙ sym (its_many c)
 
 pub split_at-first-requires : goal.split_at-first-requires
 split_at-first-requires c =
-    let e = same_many ((goal.at.split_at-first-requires c).After-len) in
-    let le = c.requires in
-    omega (arith, e, le)
+    omega (arith, same_many ((goal.at.split_at-first-requires c).After-len), c.requires)
 
 pub keep_column-requires-clause-many : goal.keep_column-requires-clause-many
 keep_column-requires-clause-many c =

@@ -8,24 +8,21 @@ move_flagged-requires g c =
     let i = c.self.inside in
     let (le, most, s, n, v) = c.self.invariant in
     let count = length_front i.len g.row.N i.stamps i.nodes i.values c.args.self.now le s n v c.self.view_is in
-    let flags = c.requires in
-    omega (arith, count, flags, le, n)
+    omega (arith, c.requires)
 
 pub move_flagged-requires-2 : goal.move_flagged-requires-2
 move_flagged-requires-2 g c =
     let i = c.self.inside in
     let (le, most, s, n, v) = c.self.invariant in
     let count = length_front i.len g.row.N i.stamps i.nodes i.values c.args.self.now le s n v c.self.view_is in
-    let flags = c.requires in
-    omega (arith, count, flags, le, s)
+    omega (arith, c.requires)
 
 pub move_flagged-kept-requires : goal.move_flagged-kept-requires
 move_flagged-kept-requires g c =
     let i = c.self.inside in
     let (le, most, s, n, v) = c.self.invariant in
     let count = length_front i.len g.row.N i.stamps i.nodes i.values c.args.self.now le s n v c.self.view_is in
-    let flags = c.requires in
-    omega (arith, count, flags, le, v)
+    omega (arith, c.requires)
 
 pub returns : goal.returns
 returns g c =

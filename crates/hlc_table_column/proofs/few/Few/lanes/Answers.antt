@@ -7,5 +7,4 @@ pub returns-clause-few : goal.returns-clause-few
 returns-clause-few g c =
     let i = c.self.inside in
     let (le, most, s, n, v) = c.self.invariant in
-    let count = length_front i.len g.row.N i.stamps i.nodes i.values c.args.self.now le s n v c.self.view_is in
-    omega (arith, count, le)
+    omega (arith, length_front i.len g.row.N i.stamps i.nodes i.values c.args.self.now le s n v c.self.view_is)

@@ -8,40 +8,35 @@ bounds-self-inside-len g c =
     let i = c.self.inside in
     let (le, most, s, n, v) = c.self.invariant in
     let count = length_front i.len g.row.N i.stamps i.nodes i.values c.args.self.now le s n v c.self.view_is in
-    let fits = c.requires in
-    omega (arith, count, fits)
+    omega (arith, c.requires)
 
 pub bounds-self-inside-len-2 : goal.bounds-self-inside-len-2
 bounds-self-inside-len-2 g c =
     let i = c.self.inside in
     let (le, most, s, n, v) = c.self.invariant in
     let count = length_front i.len g.row.N i.stamps i.nodes i.values c.args.self.now le s n v c.self.view_is in
-    let fits = c.requires in
-    omega (arith, count, fits)
+    omega (arith, c.requires)
 
 pub listed : goal.listed
 listed g c =
     let i = c.self.inside in
     let (le, most, s, n, v) = c.self.invariant in
     let count = length_front i.len g.row.N i.stamps i.nodes i.values c.args.self.now le s n v c.self.view_is in
-    let fits = c.requires in
-    omega (arith, count, fits, v)
+    omega (arith, c.requires)
 
 pub way_replace-self : goal.way_replace-self
 way_replace-self g c =
     let i = c.self.inside in
     let (le, most, s, n, v) = c.self.invariant in
     let count = length_front i.len g.row.N i.stamps i.nodes i.values c.args.self.now le s n v c.self.view_is in
-    let fits = c.requires in
-    omega (arith, count, fits)
+    omega (arith, c.requires)
 
 pub overflow_add-self : goal.overflow_add-self
 overflow_add-self g c =
     let i = c.self.inside in
     let (le, most, s, n, v) = c.self.invariant in
     let count = length_front i.len g.row.N i.stamps i.nodes i.values c.args.self.now le s n v c.self.view_is in
-    let fits = c.requires in
-    omega (arith, count, fits, most)
+    omega (arith, c.requires)
 
 pub invariant_of-self : goal.invariant_of-self
 invariant_of-self g c =

@@ -8,24 +8,21 @@ item_at-requires g c =
     let i = c.self.inside in
     let (le, most, s, n, v) = c.self.invariant in
     let count = length_front i.len g.row.N i.stamps i.nodes i.values c.args.self.now le s n v c.self.view_is in
-    let there = c.requires in
-    omega (arith, count, there, le, n)
+    omega (arith, c.requires)
 
 pub item_at-requires-2 : goal.item_at-requires-2
 item_at-requires-2 g c =
     let i = c.self.inside in
     let (le, most, s, n, v) = c.self.invariant in
     let count = length_front i.len g.row.N i.stamps i.nodes i.values c.args.self.now le s n v c.self.view_is in
-    let there = c.requires in
-    omega (arith, count, there, le, s)
+    omega (arith, c.requires)
 
 pub take_value-requires : goal.take_value-requires
 take_value-requires g c =
     let i = c.self.inside in
     let (le, most, s, n, v) = c.self.invariant in
     let count = length_front i.len g.row.N i.stamps i.nodes i.values c.args.self.now le s n v c.self.view_is in
-    let there = c.requires in
-    omega (arith, count, there, le, v)
+    omega (arith, c.requires)
 
 pub invariant_of-self : goal.invariant_of-self
 invariant_of-self g c =

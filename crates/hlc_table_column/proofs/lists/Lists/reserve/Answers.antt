@@ -60,8 +60,4 @@ returns-clause-ok g c =
     let count = length_cells c.make_room.new.items.items c.make_room-2.new.items.items c.make_room-3.new.items.items
     (f ∙ b.0 ∙ sym e, h ∙ b.1 ∙ sym e) in
     let first = c.in_ok-make_room.ensures.ok in
-    let second = c.in_ok-make_room-2.ensures.ok in
-    let third = c.in_ok-make_room-3.ensures.ok in
-    let nodes = b.0 in
-    let values = b.1 in
-    omega (arith, count, first, second, third, e, f, h, nodes, values)
+    omega (arith, c.in_ok-make_room-2.ensures.ok, c.in_ok-make_room-3.ensures.ok, b.0, b.1)
