@@ -10,10 +10,10 @@ use Rattle.hlc_table_index.specs.Entries.{entries_before, entries_from, with_val
 use Rattle.hlc_columns.specs.Table.{if_filled, key_at, cells_at}
 use Rattle.hlc_columns.specs.Sizes.{sizes_of, filled_sizes, plus, minus, Fit, IsPart, Sizes}
 use Rattle.hlc_columns.proofs.Kept.{is_filled}
-use Rattle.hlc_columns.proofs.WalkLemmas.{filter_all}
+use Rattle.hlc_columns.proofs.WalkLemmas.{Entry, filter_all}
 use Rattle.hlc_columns.proofs.KeptOf.{apart, is_part, minus_is, parted_own, key_there, cells_there, key_now, cells_now}
 use Rattle.hlc_columns.proofs.KeptOf.{entries_now, filled_some}
-use Rattle.hlc_columns.proofs.SizeLemmas.{Entry, equal, fit_less, length_kept, less_one}
+use Rattle.hlc_columns.proofs.SizeLemmas.{equal, fit_less, length_kept, less_one}
 
 -- a column among others, if it has rows
 filled_among : (xs ys : List Entry) (e : Entry)

@@ -84,9 +84,8 @@ newest_in_table key s (e ∷ es) up =
           let past = none_past key es
           (subst (λ k. AllByRecursion (λ y. slice_cmp nat_cmp k y ≡ Less) (keys_of es)) (sym same)
           (sorted_head (λ a b. slice_cmp nat_cmp a b) e.0 (keys_of es) up)) in
-          newest_before_others (rows_of e.0 e.1) (table_rows es) key s (no_row key es past)
-          ∙ ap (λ k. newest (rows_of k e.1) key s) (sym same)
-          ∙ ap (λ b. newest (rows_of key (cells_in (cond b (Some e.1) (lookup (test key) es)))) key s) (sym t)
+          rw t (newest_before_others (rows_of e.0 e.1) (table_rows es) key s (no_row key es past)
+          ∙ ap (λ k. newest (rows_of k e.1) key s) (sym same))
       | inr n ↦
           newest_after_others (rows_of e.0 e.1) (table_rows es) key s
           (λ row m same. other_key key e.0 n (sym same ∙ row_key e.0 e.1 row m))

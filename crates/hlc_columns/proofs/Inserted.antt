@@ -127,10 +127,10 @@ module _ (row : Row) (es after : List (List ℕ × List Cell)) (old : List Row)
       → (key : List ℕ) (cells new : List Cell) → key ≡ row.key → Some cells ≡ lookup (test key) es
       → after ≡ set_value (test key) es new → new ≡ cells ++ cell_of row ∷ [] → InsertedLast old row (table_rows after)
   pushed_as up key cells new same found is more =
-      subst (λ o. InsertedLast o row (table_rows after)) was
-      (subst (λ k. InsertedLast (table_rows es) (row_of k (cell_of row)) (table_rows after)) same
-      (subst (λ a. InsertedLast (table_rows es) (row_of key (cell_of row)) (table_rows a))
-      (sym (is ∙ ap (set_value (test key) es) more)) (pushed key (cell_of row) cells es up (sym found))))
+      rw (← was, is, more)
+      (subst (λ k. InsertedLast (table_rows es) (row_of k (cell_of row))
+      (table_rows (set_value (test key) es (cells ++ cell_of row ∷ [])))) same
+      (pushed key (cell_of row) cells es up (sym found)))
 
   pub kept_as : (key : List ℕ) (cells new : List Cell) → Some cells ≡ lookup (test key) es
       → after ≡ set_value (test key) es new → new ≡ cells → table_rows after ≡ old
@@ -156,10 +156,8 @@ found_some is_key es cells h found =
 pub inserted-IsPermutation : (old : List Row) (row : Row) (new : List Row) → InsertedLast old row new
     → IsPermutation (old ++ row ∷ []) new
 inserted-IsPermutation old row new (front, back, was, is, others) =
-    subst (λ xs. IsPermutation (xs ++ row ∷ []) new) (sym was)
-    (subst (IsPermutation ((front ++ back) ++ row ∷ [])) (sym is)
-    (subst (λ xs. IsPermutation xs (front ++ row ∷ back)) (sym (append_assoc front back (row ∷ [])))
-    (IsPermutation-append_right front (back ++ row ∷ []) (row ∷ back) (IsPermutation-append_comm back (row ∷ [])))))
+    rw (was, is, append_assoc front back (row ∷ []))
+    (IsPermutation-append_right front (back ++ row ∷ []) (row ∷ back) (IsPermutation-append_comm back (row ∷ [])))
 
 -- and they are still a row set
 pub inserted-IsRowSet : (old : List Row) (row : Row) (new : List Row) → InsertedLast old row new → HasNoVersion old row

@@ -14,11 +14,8 @@ use Rattle.hlc_table_column.specs.Cells.{Cell}
 use Rattle.hlc_table_column.specs.Rows.{row_of, rows_of}
 use Rattle.hlc_table_index.specs.Entries.{entries_in, keys_in, with_value_in}
 use Rattle.hlc_columns.specs.Table.{table_rows, indexed_rows, kept_in, cells_at}
-use Rattle.hlc_columns.proofs.WalkLemmas.{rows_both}
+use Rattle.hlc_columns.proofs.WalkLemmas.{Entry, rows_both}
 use Rattle.hlc_table_column.proofs.FlagLemmas.{flagged-none, flagged-append, flagged-map}
-
-abbrev pub Entry : Type 0
-Entry = List ℕ × List Cell
 
 -- the rows that are kept are the flagged rows
 pub kept_rows : (es : List Entry) (flags : List Bool) → length flags ≡ length (table_rows es)

@@ -19,12 +19,12 @@ use Rattle.hlc_table_column.specs.Rows.{row_of, rows_of, rows_with}
 use Rattle.hlc_table_index.specs.Entries.{entries_in, entries_before, entries_from, with_value_in, keys_in, key_cmp}
 use Rattle.hlc_table_index.specs.Entries.{IsEntryAt}
 use Rattle.hlc_table_index.proofs.SlotLemmas.{itself}
-use Rattle.hlc_columns.proofs.WalkLemmas.{rows_both, rows_filtered, filter_none}
+use Rattle.hlc_columns.proofs.WalkLemmas.{Entry, rows_both, rows_filtered, filter_none}
 use Rattle.hlc_table_column.proofs.FlagLemmas.{flagged-map, flagged-IsRowSet}
 use Rattle.hlc_table_index.proofs.RemovalLemmas.{parted_at}
 use Rattle.hlc_columns.specs.Table.{table_rows, rows_kept, if_filled, key_at, cells_at}
 use Rattle.hlc_columns.specs.Sizes.{sizes_of, plus, minus, Fit, IsPart, Sizes}
-use Rattle.hlc_columns.proofs.SizeLemmas.{Entry, equal, fit_less, less_one}
+use Rattle.hlc_columns.proofs.SizeLemmas.{equal, fit_less, less_one}
 
 -- of two lists, one after another
 pub all_left : {X : Type 0} (P : X → Type 0) (xs ys : List X) → All P (xs ++ ys) → All P xs

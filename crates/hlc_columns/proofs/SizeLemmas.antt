@@ -16,13 +16,11 @@ use Rattle.hlc_table_column.specs.Cells.{Cell, value_bytes, cell_bytes}
 use Rattle.hlc_table_column.specs.Rows.{row_of, rows_of}
 use Rattle.hlc_columns.specs.Table.{table_rows}
 use Rattle.hlc_columns.specs.Sizes.{IsPart, sizes_of, with_row, with_key, Fit, row_bytes, AreSizes, Sizes}
+use Rattle.hlc_columns.proofs.WalkLemmas.{Entry}
 use Rattle.hlc_columns.proofs.FoundLemmas.{test, same_key, none_here}
 use Rattle.hlc_columns.proofs.Keys.{name_of_row, row_of_name}
 use Rattle.std.specs.List.{AllByRecursion, items_where_true}
 use Rattle.std.specs.List.Sorted.{IsStrictlySortedBy}
-
-abbrev pub Entry : Type 0
-Entry = List ℕ × List Cell
 
 -- sizes with the same numbers
 pub equal : (a b : Sizes) → a.rows ≡ b.rows → a.keys ≡ b.keys → a.key_bytes ≡ b.key_bytes

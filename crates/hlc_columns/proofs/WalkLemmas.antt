@@ -1,7 +1,6 @@
 -- Walks over leaves and their entries: what is listed or counted of one more.
 use Rattle.std.proofs.Common.{true, false, suc, inl, inr, All, ap₂, ◌≡◌, ◌≤◌, ◌+◌, ◌++◌, ◌∷◌, ◌∙◌, ℕ, List, [], Bool}
-use Rattle.std.proofs.Common.{length, arith, append_assoc, length-append, take_all, ap, sym, refl, take, map, filter}
-use Rattle.std.proofs.Common.{leb, Bor}
+use Rattle.std.proofs.Common.{length, arith, append_assoc, length-append, ap, sym, refl, map, filter, leb, Bor}
 use Rattle.std.proofs.lemmas.List.{map_push}
 use Rattle.std.proofs.lemmas.List.Concat.{flat_map-append}
 use Rattle.std.proofs.lemmas.List.Elements.{filter-append, All-map}
@@ -28,10 +27,6 @@ name_next list more one left after e all is grown same inv =
     ∙ ap (λ m. m ++ keys_in after) (map_push (λ (key : Bor (List ℕ)). key.now) list one)
     ∙ append_assoc listed (one.now ∷ []) (keys_in after) ∙ ap (λ key. listed ++ key ∷ keys_in after) same
     ∙ ap (λ es. listed ++ keys_in es) (sym is) ∙ inv
-
--- all are listed at the end
-pub whole : {X : Type 0} (xs : List X) (n : ℕ) → length xs ≤ n → take n xs ≡ xs
-whole xs n le = take_all n xs le
 
 -- the rows of some entries, and of others after them
 pub rows_both : (xs ys : List Entry) → table_rows (xs ++ ys) ≡ table_rows xs ++ table_rows ys

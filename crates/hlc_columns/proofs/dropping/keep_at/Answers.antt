@@ -4,7 +4,7 @@ use Rattle.std.specs.List.{items_where_true}
 use Rattle.std.proofs.lemmas.List.{get_or-map}
 use Rattle.hlc_table_index.specs.Entries.{with_value_in}
 use Rattle.hlc_columns.specs.Table.{cells_at}
-use Rattle.hlc_columns.proofs.SizeLemmas.{Entry}
+use Rattle.hlc_columns.proofs.WalkLemmas.{Entry}
 use Rattle.hlc_columns.proofs.Dropped.{same_value, all_set}
 use Rattle.hlc_columns.proofs.dropping.keep_at.Goals as goal
 use Rattle.hlc_columns.proofs.dropping.keep_at.Goals.{After-split_at-first}

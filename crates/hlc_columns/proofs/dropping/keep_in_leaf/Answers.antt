@@ -1,7 +1,6 @@
 -- One more column.
-use Rattle.std.proofs.Common.{◌<◌, ◌∙◌, ap, sym, arith, drop, set, length, get_or, []}
+use Rattle.std.proofs.Common.{take_all, ◌<◌, ◌∙◌, ap, sym, arith, drop, set, length, get_or, []}
 use Rattle.std.proofs.lemmas.List.{set-get_or}
-use Rattle.hlc_columns.proofs.WalkLemmas.{whole}
 use Rattle.hlc_columns.proofs.Kept.{run_none, total_none, total, kept_one, many, leaf_inside, slot_inside, many_inside}
 use Rattle.hlc_columns.proofs.Kept.{next_columns, next_flags, run_all, kept_run, many_rows}
 use Rattle.hlc_columns.proofs.dropping.keep_in_leaf.Goals as goal
@@ -69,5 +68,5 @@ returns-clause-left c =
     let over = c.loop-slot-test.false in
     let e = ap length c.leaf-slot-end.ensures in
     c.loop-slot.invariant.left ∙ ap (λ n. drop n c.args.flags)
-    (ap (total kept_one many) (whole (get_or c.args.columns.now c.args.at []) c.loop-slot.slot (omega (arith, over, e)))
+    (ap (total kept_one many) (take_all c.loop-slot.slot (get_or c.args.columns.now c.args.at []) (omega (arith, over, e)))
     ∙ many_rows (get_or c.args.columns.now c.args.at []))

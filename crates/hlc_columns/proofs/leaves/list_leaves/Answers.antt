@@ -1,8 +1,7 @@
 -- One more leaf.
-use Rattle.std.proofs.Common.{◌∙◌, ◌++◌, ◌∷◌, [], ap, ap₂, arith, map, sym, take, get_or}
+use Rattle.std.proofs.Common.{take_all, ◌∙◌, ◌++◌, ◌∷◌, [], ap, ap₂, arith, map, sym, take, get_or}
 use Rattle.std.proofs.lemmas.List.{map_push, take_more}
 use Rattle.hlc_columns.specs.Table.{keyed}
-use Rattle.hlc_columns.proofs.WalkLemmas.{whole}
 use Rattle.hlc_columns.proofs.leaves.list_leaves.Goals as goal
 
 pub loop-at-preserved : goal.loop-at-preserved
@@ -19,4 +18,4 @@ pub returns-clause-list : goal.returns-clause-list
 returns-clause-list c =
     let done = c.loop-at-test.false in
     let long = c.leaves-at-end.ensures.count in
-    c.loop-at.invariant ∙ ap (map keyed) (whole c.args.columns.now c.loop-at.at (omega (arith, done, long)))
+    c.loop-at.invariant ∙ ap (map keyed) (take_all c.loop-at.at c.args.columns.now (omega (arith, done, long)))

@@ -6,7 +6,7 @@ use Rattle.hlc_rows.specs.Rows.{IsRowSet}
 use Rattle.hlc_table_index.specs.Entries.{entries_in}
 use Rattle.hlc_table_column.specs.Rows.{row_of, rows_with}
 use Rattle.hlc_columns.specs.Table.{rows_kept, cells_at}
-use Rattle.hlc_columns.proofs.SizeLemmas.{Entry}
+use Rattle.hlc_columns.proofs.WalkLemmas.{Entry}
 use Rattle.hlc_columns.proofs.FoundLemmas.{absent_rows}
 use Rattle.hlc_columns.proofs.KeptOf.{rows_there, rows_left, filled_left, kept_row_set, none_of, kept_none}
 use Rattle.hlc_columns.proofs.table.Table.keep_of.Goals as goal
