@@ -16,9 +16,7 @@ bits_are c = ap flags_in (sym c.in-Bits.is) ∙ c.self.view_is
 inside : (c : In-Bits) → c.args.at < c.in-Bits.field-2 - c.in-Bits.from
 inside c =
     let many = bits_length c.in-Bits.words.now c.in-Bits.from (c.in-Bits.field-2 - c.in-Bits.from) in
-    let all = ap length (bits_are c) in
-    let lt = c.requires in
-    omega (arith, many, all, lt)
+    omega (arith, ap length (bits_are c), c.requires)
 
 within : (c : In-Bits) → (c.in-Bits.from ≤ c.in-Bits.field-2)
     × ((c.in-Bits.field-2 ≤ 64 * length c.in-Bits.words.now) × (c.in-Bits.field-2 < 2 ^ 64))
@@ -33,15 +31,12 @@ pub overflow_add-from : goal.overflow_add-from
 overflow_add-from c =
     let lt = inside ((goal.at.overflow_add-from c).In-Bits) in
     let top = (within ((goal.at.overflow_add-from c).In-Bits)).1.1 in
-    let order = (within ((goal.at.overflow_add-from c).In-Bits)).0 in
-    omega (arith, lt, order, top)
+    omega (arith, (within ((goal.at.overflow_add-from c).In-Bits)).0)
 
 pub bit_of-requires : goal.bit_of-requires
 bit_of-requires c =
     let lt = inside ((goal.at.bit_of-requires c).In-Bits) in
-    let words = (within ((goal.at.bit_of-requires c).In-Bits)).1.0 in
-    let order = (within ((goal.at.bit_of-requires c).In-Bits)).0 in
-    omega (arith, lt, order, words)
+    omega (arith, (within ((goal.at.bit_of-requires c).In-Bits)).1.0, (within ((goal.at.bit_of-requires c).In-Bits)).0)
 
 pub returns-in-Bytes : goal.returns-in-Bytes
 returns-in-Bytes c =

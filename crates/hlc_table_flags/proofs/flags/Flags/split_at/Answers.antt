@@ -19,9 +19,7 @@ within c = subst IsInWords c.in-Bits.is c.self.invariant
 few : (c : In-Bits) → c.args.count ≤ c.in-Bits.to - c.in-Bits.from
 few c =
     let many = bits_length c.in-Bits.words.now c.in-Bits.from (c.in-Bits.to - c.in-Bits.from) in
-    let all = ap length (bits_are c) in
-    let le = c.requires in
-    omega (arith, many, all, le)
+    omega (arith, ap length (bits_are c), c.requires)
 
 pub overflow_add-middle : goal.overflow_add-middle
 overflow_add-middle c =
@@ -78,10 +76,7 @@ in_run : (c : In-Run) → c.args.count ≤ c.in-Run.set + c.in-Run.unset
 in_run c =
     let many = ap length (sym (run_is c))
     ∙ length-append (replicate c.in-Run.set true) (replicate c.in-Run.unset false) in
-    let sets = length-replicate c.in-Run.set true in
-    let others = length-replicate c.in-Run.unset false in
-    let le = c.requires in
-    omega (arith, many, sets, others, le)
+    omega (arith, length-replicate c.in-Run.set true, length-replicate c.in-Run.unset false, c.requires)
 
 pub returns-in-Run-clause-first : goal.returns-in-Run-clause-first
 returns-in-Run-clause-first c =

@@ -11,10 +11,7 @@ at c = c.args.from + c.args.place
 
 below : (c : After-self) → at c < c.self.inside.len
 below c =
-    let many = bits_length c.self.inside.words.items 0 c.self.inside.len in
-    let all = ap length c.self.view_is in
-    let lt = c.requires in
-    omega (arith, many, all, lt)
+    omega (arith, bits_length c.self.inside.words.items 0 c.self.inside.len, ap length c.self.view_is, c.requires)
 
 -- its word
 inside : (c : After-self) → at c / 64 < length c.self.inside.words.items
@@ -22,15 +19,11 @@ inside c = let lt = below c in let many = c.self.invariant.0 in omega (arith, lt
 
 pub overflow_add-at : goal.overflow_add-at
 overflow_add-at c =
-    let lt = below ((goal.at.overflow_add-at c).After-self) in
-    let fits = c.self.ranges in
-    omega (arith, lt, fits)
+    omega (arith, below ((goal.at.overflow_add-at c).After-self), c.self.ranges)
 
 pub index_mut-requires : goal.index_mut-requires
 index_mut-requires c =
-    let lt = inside ((goal.at.index_mut-requires c).After-self) in
-    let many = c.self.invariant.0 in
-    omega (arith, lt, many)
+    omega (arith, inside ((goal.at.index_mut-requires c).After-self), c.self.invariant.0)
 
 -- no bit from the end on is set, since this one is before it
 pub invariant_of-self : goal.invariant_of-self
