@@ -1,9 +1,10 @@
 -- Rows that move from one place to another: one more row in each list, the first rows of longer lists, and the room of
 -- lists.
-use Rattle.std.proofs.Common.{◌≡◌, ◌<◌, ◌≤◌, ◌+◌, ℕ, zero, suc, List, [], ◌∷◌, ◌++◌, length, take, drop, slice_get, min}
-use Rattle.std.proofs.Common.{length-take-le, Bool, Option, Some, sym, ap, ap₂, ◌∙◌, refl, subst, arith, add-one, set}
-use Rattle.std.proofs.lemmas.Option.{none-some, same_Some}
-use Rattle.std.proofs.lemmas.List.{take_more_set}
+use Rattle.std.proofs.Common.{append_assoc, drop-drop, get_or-take, length-take, ◌≡◌, ◌<◌, ◌≤◌, ◌+◌, ℕ, zero, suc, List}
+use Rattle.std.proofs.Common.{[], ◌∷◌, ◌++◌, length, take, drop, slice_get, min, length-take-le, Bool, Option, Some}
+use Rattle.std.proofs.Common.{sym, ap, ap₂, ◌∙◌, refl, subst, arith, set}
+use Rattle.std.proofs.lemmas.Option.{same_Some, slice_get_within, slice_get-get_or, get_or_from_slice_get}
+use Rattle.std.proofs.lemmas.List.{take_more_set, take_more}
 use Rattle.std.specs.List.{items_where_true}
 use Rattle.hlc_table_column.specs.Cells.{Cell, CellsWithRoom, cells_of, AreBeside}
 use Rattle.hlc_table_order.specs.Order.{IsIndex}
@@ -23,45 +24,28 @@ at_same xs ys i x same at = sym (first_at ys i) ∙ ap (λ l. slice_get l 0) (sy
 
 -- and so is the rest after it
 pub rest_same : {X : Type 0} (xs ys : List X) (i : ℕ) → drop i xs ≡ drop i ys → drop (i + 1) xs ≡ drop (i + 1) ys
-rest_same xs ys i e = sym (one_more xs i) ∙ ap (drop 1) e ∙ one_more ys i
-  where
-    one_more : {X : Type 0} (xs : List X) (i : ℕ) → drop 1 (drop i xs) ≡ drop (i + 1) xs
-    one_more [] zero = refl
-    one_more [] (suc i) = rw add-one refl
-    one_more (x ∷ xs) zero = refl
-    one_more (x ∷ xs) (suc i) = rw add-one (rw add-one at (one_more xs i))
+rest_same xs ys i e = sym (drop-drop 1 i xs) ∙ ap (drop 1) e ∙ drop-drop 1 i ys
 
 -- one more row moves
 pub moved_more : (before rows : List Cell) (i : ℕ) (row : Cell) → slice_get rows i ≡ Some row
     → (before ++ take i rows) ++ row ∷ [] ≡ before ++ take (i + 1) rows
 moved_more before rows i row at =
-    append_append before (take i rows) (row ∷ []) ∙ ap (λ l. before ++ l) (sym (taken_next rows i row at))
-  where
-    append_append : (xs ys zs : List Cell) → (xs ++ ys) ++ zs ≡ xs ++ (ys ++ zs)
-    append_append [] ys zs = refl
-    append_append (x ∷ xs) ys zs = ap (λ l. x ∷ l) (append_append xs ys zs)
-
-    taken_next : (xs : List Cell) (i : ℕ) (x : Cell) → slice_get xs i ≡ Some x → take (i + 1) xs ≡ take i xs ++ x ∷ []
-    taken_next [] i x e = absurd (none-some x e)
-    taken_next (y ∷ ys) zero x e = ap (λ (z : Cell). z ∷ []) (same_Some y x e)
-    taken_next (y ∷ ys) (suc i) x e = rw add-one (ap (λ l. y ∷ l) (rw add-one at (taken_next ys i x e)))
+    append_assoc before (take i rows) (row ∷ [])
+    ∙ ap (λ l. before ++ l) (sym (take_more rows i row (slice_get_within rows i row at)
+    ∙ ap (λ (r : Cell). take i rows ++ r ∷ []) (get_or_from_slice_get rows i row row at)))
 
 -- the only row
 pub only_row : (cells : List Cell) (row : Cell) → length cells ≡ 1 → slice_get cells 0 ≡ Some row → cells ≡ row ∷ []
-only_row [] row one at = absurd (omega (arith, one))
 only_row (c ∷ []) row one at = ap (λ (x : Cell). x ∷ []) (same_Some c row at)
-only_row (c ∷ d ∷ cs) row one at = absurd (omega (arith, one))
+only_row cells row one at = absurd (omega arith)
 
 -- lists of one item each are one row
 pub one_cell : (ss ns : List ℕ) (vs : List (Option (List ℕ))) (s n : ℕ) (v : Option (List ℕ)) → length ss ≡ 1
     → length ns ≡ 1 → length vs ≡ 1 → slice_get ss 0 ≡ Some s → slice_get ns 0 ≡ Some n → slice_get vs 0 ≡ Some v
     → cells_of ss ns vs ≡ record { stamp = s; node = n; value = v } ∷ []
-one_cell [] ns vs s n v a b c es en ev = absurd (omega (arith, a))
-one_cell (x ∷ y ∷ ss) ns vs s n v a b c es en ev = absurd (omega (arith, a))
-one_cell (x ∷ []) [] vs s n v a b c es en ev = absurd (omega (arith, b))
-one_cell (x ∷ []) (y ∷ ns) [] s n v a b c es en ev = absurd (omega (arith, c))
 one_cell (x ∷ []) (y ∷ ns) (w ∷ vs) s n v a b c es en ev =
     rw (same_Some x s es, same_Some y n en, same_Some w v ev) refl
+one_cell ss ns vs s n v a b c es en ev = absurd (omega arith)
 
 -- one more item in each list is one more row
 pub pushed_cells : (ss ns ss_new ns_new : List ℕ) (vs vs_new : List (Option (List ℕ))) (s n : ℕ) (v : Option (List ℕ))
@@ -99,10 +83,9 @@ front_there len i s n v ss ns vs now lt es en ev is =
   where
     in_front : {X : Type 0} (n : ℕ) (xs : List X) (i : ℕ) (x : X) → i < n → slice_get xs i ≡ Some x
         → slice_get (take n xs) i ≡ Some x
-    in_front zero xs i x lt e = absurd (omega (arith, lt))
-    in_front (suc n) [] i x lt e = absurd (none-some x e)
-    in_front (suc n) (y ∷ ys) zero x lt e = e
-    in_front (suc n) (y ∷ ys) (suc i) x lt e = in_front n ys i x (omega (arith, lt)) e
+    in_front n xs i x lt e =
+        slice_get-get_or (take n xs) i x (omega (arith, length-take n xs, slice_get_within xs i x e))
+        ∙ ap (λ y. Some y) (get_or-take n xs i x lt ∙ get_or_from_slice_get xs i x x e)
 
 -- other values change no row from a position on if they are the same from there on
 pub front_same : (i len : ℕ) (ss ns : List ℕ) (vs ws : List (Option (List ℕ))) → length vs ≡ length ws
@@ -113,10 +96,9 @@ front_same (suc i) zero ss ns vs ws long e = refl
 front_same (suc i) (suc len) [] ns vs ws long e = refl
 front_same (suc i) (suc len) (s ∷ ss) [] vs ws long e = refl
 front_same (suc i) (suc len) (s ∷ ss) (n ∷ ns) [] [] long e = refl
-front_same (suc i) (suc len) (s ∷ ss) (n ∷ ns) [] (w ∷ ws) long e = absurd (omega (arith, long))
-front_same (suc i) (suc len) (s ∷ ss) (n ∷ ns) (v ∷ vs) [] long e = absurd (omega (arith, long))
 front_same (suc i) (suc len) (s ∷ ss) (n ∷ ns) (v ∷ vs) (w ∷ ws) long e =
     front_same i len ss ns vs ws (omega (arith, long)) e
+front_same i len ss ns vs ws long e = absurd (omega arith)
 
 -- one more item after the first
 pub front_push : {X : Type 0} (len N : ℕ) (xs : List X) (x : X) → len < N → length xs ≡ N
