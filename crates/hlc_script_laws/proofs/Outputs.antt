@@ -1,6 +1,6 @@
 -- An input has one output: each line has one event, and an event has one reply, unless memory runs out.
-use Rattle.std.proofs.Common.{◌≡◌, ℕ, ◌+◌, ◌∙◌, sym, ap, refl, subst, List, [], ◌∷◌, ◌++◌, Option, Some, None, Ok}
-use Rattle.std.proofs.Common.{Result, append_assoc, arith, ◌⊎◌, inl, inr}
+use Rattle.std.proofs.Common.{◌≡◌, ℕ, ◌+◌, ◌∙◌, sym, ap, refl, List, [], ◌∷◌, ◌++◌, Option, Some, None, Ok, Result}
+use Rattle.std.proofs.Common.{append_assoc, arith, ◌⊎◌, inl, inr}
 use Rattle.std.specs.Prelude.{codes, decimal, ◌≢◌}
 use Rattle.std.specs.List.{flat_map}
 use Rattle.std.proofs.lemmas.Fmt.{decimal-digits_of}
@@ -19,8 +19,7 @@ use Rattle.hlc_core.proofs.ReportLemmas.{there_is_one_report, there_is_one_count
 use Rattle.hlc_node.specs.declared.node.NodeFault.{NodeFault}
 use Rattle.hlc_world_event.specs.declared.event.Event.TheVariants.{Write, Delete, Report, Retire, Join, Send, Receive}
 use Rattle.hlc_world_event.specs.declared.event.Event.TheVariants.{Observe, Deliver, OpenAt, OpenFloor, Read}
-use Rattle.hlc_world_event.specs.declared.event.Event.TheVariants.{List as ListAll}
-use Rattle.hlc_world_event.specs.declared.event.Event.TheVariants.{Close, Floor, Vacuum, Rows}
+use Rattle.hlc_world_event.specs.declared.event.Event.TheVariants.{List as ListAll, Close, Floor, Vacuum, Rows}
 use Rattle.hlc_world.specs.declared.reply.Reply.{Reply}
 use Rattle.hlc_world.specs.declared.reply.Reply.TheVariants.{Stamped, Joined, Sent, Received, Observed, Accepted}
 use Rattle.hlc_world.specs.declared.reply.Reply.TheVariants.{Snapshot, Answer, Listing, Closed, Floor as FloorIs}
@@ -158,19 +157,7 @@ reply_cases : (nodes : ℕ) (schedule : List (Event × Reply)) (event : Event) (
     → MayReply nodes schedule event reply → ReplyCases nodes schedule event reply
 reply_cases nodes schedule event (Refused refusal) (inl expected) = inl (refusal, refl, inl expected)
 reply_cases nodes schedule event (Refused refusal) (inr lost) = inl (refusal, refl, inr lost.1)
-reply_cases nodes schedule event (Stamped stamp item) allowed = inr allowed
-reply_cases nodes schedule event (Joined node start) allowed = inr allowed
-reply_cases nodes schedule event (Sent stamp message) allowed = inr allowed
-reply_cases nodes schedule event (Received stamp) allowed = inr allowed
-reply_cases nodes schedule event (Observed stamp) allowed = inr allowed
-reply_cases nodes schedule event (Accepted stamp) allowed = inr allowed
-reply_cases nodes schedule event (Listing pairs) allowed = inr allowed
-reply_cases nodes schedule event (Closed stamp) allowed = inr allowed
-reply_cases nodes schedule event (Snapshot id stamp) allowed = inr allowed
-reply_cases nodes schedule event (Answer value) allowed = inr allowed
-reply_cases nodes schedule event (FloorIs stamp) allowed = inr allowed
-reply_cases nodes schedule event (Vacuumed report) allowed = inr allowed
-reply_cases nodes schedule event (RowsAre count) allowed = inr allowed
+reply_cases nodes schedule event reply allowed = inr allowed
 
 once : (nodes : ℕ) (schedule : List (Event × Reply)) (event : Event) (reply other : Reply)
     → ReplyCases nodes schedule event reply → ReplyCases nodes schedule event other → OneReply reply other
@@ -227,11 +214,11 @@ same_after_lines : (lines : List (List ℕ)) (rest more : List ℕ) (bad worse :
     → Same (flat_map printed lines ++ rest) (flat_map printed lines ++ more) bad worse
 same_after_lines [] rest more bad worse same = same
 same_after_lines (line ∷ lines) rest more bad worse same =
-    let F : List ℕ → Type 0 = λ (o : List ℕ). Same o (flat_map printed (line ∷ lines) ++ more) bad worse in
-    let G : List ℕ → Type 0 = λ (o : List ℕ). Same (printed line ++ (flat_map printed lines ++ rest)) o bad worse in
-    subst F (sym (append_assoc (printed line) (flat_map printed lines) rest))
-    (subst G (sym (append_assoc (printed line) (flat_map printed lines) more))
-    (same_after line _ _ bad worse (same_after_lines lines rest more bad worse same)))
+    rw (
+      append_assoc (printed line) (flat_map printed lines) rest,
+      append_assoc (printed line) (flat_map printed lines) more,
+    )
+    (same_after line _ _ bad worse (same_after_lines lines rest more bad worse same))
 
 -- a good line, answered twice
 one_line : (nodes : ℕ) (schedule : List (Event × Reply)) (number : ℕ) (lines : List (List ℕ)) (bad worse : Option ℕ)
@@ -250,13 +237,8 @@ one_line nodes schedule number lines bad worse e r q s t rest more onward (inl a
       | inr (inr lost) ↦ inr (inr (reports q more lost))
       | inl same ↦
           let together : s ≡ t = allowed.1 ∙ ap (λ (x : Reply). (e, x) ∷ schedule) same ∙ sym also.1 in
-          let F : List (Event × Reply) → Type 0 =
-          λ (x : List (Event × Reply)). Answers nodes x (number + 1) lines more worse in
-          let found =
-          same_after_lines (reply_lines r) rest more bad worse
-          (onward s rest more first (subst F (sym together) second)) in
-          let G : Reply → Type 0 = λ (x : Reply). Same (reply_text r ++ rest) (reply_text x ++ more) bad worse in
-          subst G same found
+          rw (← same)
+          (same_after_lines (reply_lines r) rest more bad worse (onward s rest more first (rw together second)))
     ]
 
 -- some lines, answered twice
@@ -269,13 +251,9 @@ answered_once nodes schedule number (line ∷ lines) output other bad worse
     (inl (e, r, s, rest, has, spelled, answers, is, first))
     (inl (f, q, t, more, also, spelled2, answers2, is2, second)) =
     let event : f ≡ e = one_event f e also has (sym spelled2 ∙ spelled) in
-    let found : Same (reply_text r ++ rest) (reply_text q ++ more) bad worse =
-    one_line nodes schedule number lines bad worse e r q s t rest more
-    (λ u o p. answered_once nodes u (number + 1) lines o p bad worse)
-    answers (subst (λ (x : Event). AnswersLine nodes schedule x q t) event answers2) first second in
-    let G : List ℕ → Type 0 = λ (o : List ℕ). Same o other bad worse in
-    let H : List ℕ → Type 0 = λ (o : List ℕ). Same (reply_text r ++ rest) o bad worse in
-    subst G (sym is) (subst H (sym is2) found)
+    let answers3 : AnswersLine nodes schedule e q t = rw (← event) answers2 in
+    rw (is, is2) (one_line nodes schedule number lines bad worse e r q s t rest more
+    (λ u o p. answered_once nodes u (number + 1) lines o p bad worse) answers answers3 first second)
 answered_once nodes schedule number (line ∷ lines) output other bad worse
     (inl (e, r, s, rest, has, spelled, answers, is, first)) (inr (none, is2, well2)) = absurd (none e has spelled)
 answered_once nodes schedule number (line ∷ lines) output other bad worse (inr (none, is, well))
@@ -292,15 +270,9 @@ script_once input output other bad worse (nodes, lines, replies, has, first, is,
     let header : header_line nodes2 ≡ header_line nodes = cc in
     let same_lines : lines2 ≡ lines = cc in
     let same : nodes2 ≡ nodes = one_header nodes2 nodes has2 has header in
-    let answers3 : Answers nodes [] 2 lines replies2 worse =
-    subst (λ (n : ℕ). Answers n [] 2 lines replies2 worse) same
-    (subst (λ (ls : List (List ℕ)). Answers nodes2 [] 2 ls replies2 worse) same_lines answers2) in
-    let found : Same (printed (header_line nodes) ++ replies) (printed (header_line nodes) ++ replies2) bad worse =
-    same_after (header_line nodes) replies replies2 bad worse
-    (answered_once nodes [] 2 lines replies replies2 bad worse answers answers3) in
-    let G : List ℕ → Type 0 = λ (o : List ℕ). Same o other bad worse in
-    let H : List ℕ → Type 0 = λ (o : List ℕ). Same (printed (header_line nodes) ++ replies) o bad worse in
-    subst G (sym is) (subst H (sym (is2 ∙ ap (λ (n : ℕ). printed (header_line n) ++ replies2) same)) found)
+    let answers3 : Answers nodes [] 2 lines replies2 worse = rw (← same, ← same_lines) answers2 in
+    rw (is, is2, same) (same_after (header_line nodes) replies replies2 bad worse
+    (answered_once nodes [] 2 lines replies replies2 bad worse answers answers3))
 
 -- the end of a script that was answered
 abbrev end_of : Option ℕ → RunEnd
@@ -341,13 +313,9 @@ one_output input output other BadHeader (BadLine n) is also e f =
     absurd (header_not input other (Some n) also.1 is.1)
 one_output input output other BadHeader BadHeader is also e f = inl (is.2 ∙ sym also.2, refl)
 one_output input output other (NotLoaded TooLong) (NotLoaded TooLong) is also e f = inl (is.1 ∙ sym also.1, refl)
-one_output input output other (NotLoaded TooLong) Answered is also e f = absurd (omega (arith, is.0, also.0))
-one_output input output other (NotLoaded TooLong) (BadLine n) is also e f = absurd (omega (arith, is.0, also.0))
-one_output input output other (NotLoaded TooLong) BadHeader is also e f = absurd (omega (arith, is.0, also.0))
-one_output input output other Answered (NotLoaded TooLong) is also e f = absurd (omega (arith, is.0, also.0))
-one_output input output other (BadLine m) (NotLoaded TooLong) is also e f = absurd (omega (arith, is.0, also.0))
-one_output input output other BadHeader (NotLoaded TooLong) is also e f = absurd (omega (arith, is.0, also.0))
 one_output input output other (NotLoaded ReadFault) finish is also e f = absurd (e refl)
 one_output input output other end (NotLoaded ReadFault) is also e f = absurd (f refl)
 one_output input output other WriteFault finish is also e f = absurd is
 one_output input output other end WriteFault is also e f = absurd also
+one_output input output other (NotLoaded TooLong) finish is also e f = absurd (omega (arith, is.0, also.0))
+one_output input output other end (NotLoaded TooLong) is also e f = absurd (omega (arith, is.0, also.0))
