@@ -242,13 +242,11 @@ observed-mirrors nodes s p reading st id (Some seen) legal at is h =
     observes h p st seen low up.0 up.1
 
 reversed : (items : List Item) (k : ℕ) (item : Item) → slice_get items k ≡ Some item → Contains (reverse items) item
-reversed [] k item at = absurd (let w : k < 0 = slice_get_within [] k item at in omega arith)
+reversed [] k item at = absurd (cc)
 reversed (x ∷ items) zero item at =
-    subst (λ xs. Contains xs item) (sym (reverse-append (x ∷ []) items))
-    (subst (λ y. Contains (reverse items ++ y ∷ []) item) (sym (same_Some x item at))
-    (Contains-push (reverse items) item))
+    rw (reverse-append (x ∷ []) items, same_Some x item at) (Contains-push (reverse items) item)
 reversed (x ∷ items) (suc k) item at =
-    subst (λ xs. Contains xs item) (sym (reverse-append (x ∷ []) items))
+    rw (reverse-append (x ∷ []) items)
     (Contains-append_left (reverse items) (x ∷ []) item (reversed items k item at))
 
 taken-mirrors : (nodes : ℕ) (s : List (Event × Reply)) (p k st : ℕ) (o : Option Item) → IsLegal nodes s
@@ -315,7 +313,7 @@ mirrored nodes [] legal =
       over = λ n. refl;
       clock = λ n. refl;
       many = refl;
-      each = λ k letter at. absurd (let w : k < 0 = slice_get_within [] k letter at in omega arith);
+      each = λ k letter at. absurd (cc);
     }
 mirrored nodes (entry ∷ s) legal =
     mirrored-entry nodes s entry.0 entry.1 legal.0 legal.1 (mirrored nodes s legal.1)

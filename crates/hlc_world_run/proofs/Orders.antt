@@ -12,8 +12,8 @@ use Rattle.hlc_world.specs.Before.{entry_at, write_stamp, IsStamped, HappenedBef
 use Rattle.hlc_world.specs.Before.{on_observation, through}
 use Rattle.hlc_world.proofs.ScheduleLemmas.{entry-cases, entry-inside, opened-found, opening, opening-later}
 use Rattle.hlc_world.proofs.ScheduleLemmas.{open-opening, received-below, observed-below, legal-past}
-use Rattle.hlc_ranges.specs.Run.{Turn, Issued, Sent as Sends, Received as Receives, Observed as Observes, Stepped}
-use Rattle.hlc_ranges.specs.Run.{turn_at, stamping_of}
+use Rattle.hlc_ranges.specs.Run.{Turn, Issued, Sent as Sends, Received as Receives, Observed as Observes, turn_at}
+use Rattle.hlc_ranges.specs.Run.{stamping_of}
 use Rattle.hlc_ranges.proofs.TurnLemmas.{turn-keeps, turn-inside, turn-cases}
 use Rattle.hlc_world_run.specs.RunOf.{messages, sent_at, turn_of, with_turn, run_of, place, layout_of, observing}
 use Rattle.hlc_world_run.specs.RunOf.{step_by, stepping}
@@ -50,9 +50,7 @@ turn-stays (Some last) run i turn at = turn-keeps last run i turn at
 
 turn-here : (o : Option Turn) (run : List Turn) (turn : Turn) → o ≡ Some turn
     → turn_at (with_turn o run) (length run) ≡ Some turn
-turn-here o run turn is =
-    subst (λ x. turn_at (with_turn x run) (length run) ≡ Some turn) (sym is)
-    (cond-true _ _ _ (eq-eqb (length run) (length run) refl))
+turn-here o run turn is = rw (is, eq-eqb (length run) (length run) refl)
 
 pub entry-keeps : (entry : Event × Reply) (s : List (Event × Reply)) (i : ℕ) (x : Event × Reply)
     → entry_at s i ≡ Some x → entry_at (entry ∷ s) i ≡ Some x
@@ -94,8 +92,7 @@ placed nodes (entry ∷ s) i x legal at =
             before = s;
             legal = legal;
             at = p;
-            turn = λ t e. subst (λ j. turn_at (run_of nodes (entry ∷ s)) j ≡ Some t)
-                (sym p) (turn-here o (run_of nodes s) t e);
+            turn = λ t e. rw p (turn-here o (run_of nodes s) t e);
             grows = omega arith;
             keeps = λ k lt. refl;
             opens = λ id stamp. opening-later nodes entry s id stamp legal;
@@ -108,8 +105,7 @@ placed nodes (entry ∷ s) i x legal at =
             before = r.before;
             legal = r.legal;
             at = p ∙ r.at;
-            turn = λ t e. subst (λ j. turn_at (run_of nodes (entry ∷ s)) j ≡ Some t) (sym p)
-                (turn-stays o (run_of nodes s) (place nodes s i) t (r.turn t e));
+            turn = λ t e. rw p (turn-stays o (run_of nodes s) (place nodes s i) t (r.turn t e));
             grows = (let more = messages-grow o (run_of nodes s) in omega (arith, g, more));
             keeps = λ k lt. sent-keeps o (run_of nodes s) k (omega (arith, lt, g)) ∙ r.keeps k lt;
             opens = λ id stamp is. opening-later nodes entry s id stamp legal (r.opens id stamp is);
