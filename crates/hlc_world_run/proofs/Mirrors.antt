@@ -1,6 +1,7 @@
 -- The run says of the store, of the links and of the clocks what the schedule says, and so it is legal: an item has the
 -- next number of its link and a stamp above its node's clock, a received message was sent, and a snapshot is not above
 -- the floor.
+use Rattle.std.proofs.lemmas.Grind.{common_steps}
 use Rattle.std.proofs.Common.{◌≡◌, ℕ, zero, suc, Bool, false, ◌+◌, ◌<◌, ◌≤◌, List, [], ◌∷◌, ◌++◌, length, Some, None}
 use Rattle.std.proofs.Common.{Option, refl, ap, sym, ◌∙◌, subst, inl, inr, arith, length-append, Ok}
 use Rattle.std.specs.Prelude.{Contains, slice_get, reverse}
@@ -57,11 +58,7 @@ one = omega arith
 -- a clock that is raised to a stamp that is not below it has that stamp
 clock-marked : (n a last : ℕ) (mark : ℕ × ℕ) → a ≡ last → (mark.0 ≡ n → last ≤ mark.1)
     → raised_by n (Some mark) a ≡ stamp_or n (Some mark) last
-clock-marked n a last mark is up =
-    elim (cases_eq mark.0 n) [
-      | inl same ↦ let u : last ≤ mark.1 = up same in rw (eq-eqb mark.0 n same) (omega arith)
-      | inr other ↦ rw (ne_eqb mark.0 n other) is
-    ]
+clock-marked n a last mark is up = grind (arith, common_steps, cases_eq, eq-eqb, ne_eqb)
 
 clock-by : (n a last : ℕ) (mark : Option (ℕ × ℕ)) → a ≡ last
     → ((p : ℕ × ℕ) → mark ≡ Some p → p.0 ≡ n → last ≤ p.1) → raised_by n mark a ≡ stamp_or n mark last
@@ -71,20 +68,11 @@ clock-by n a last (Some mark) is up = clock-marked n a last mark is (up mark ref
 -- an item is the last one of its link
 link-item : (n : ℕ) (item : Item) (run : List Turn) (items : List Item) → issued 0 n run ≡ reverse items
     → issued 0 n (Issued 0 item ∷ run) ≡ reverse (with_item n (Some item) items)
-link-item n item run items is =
-    elim (cases_eq item.node n) [
-      | inl same ↦
-          rw (eq-eqb item.node n same) (ap (λ xs. item ∷ xs) is ∙ sym (reverse-append items (item ∷ [])))
-      | inr other ↦ rw (ne_eqb item.node n other) is
-    ]
+link-item n item run items is = grind (arith, common_steps, cases_eq, eq-eqb, reverse-append, ne_eqb)
 
 over-item : (n : ℕ) (item : Item) (run : List Turn) (before : Bool) → ends_with false (issued 0 n run) ≡ before
     → ends_with false (issued 0 n (Issued 0 item ∷ run)) ≡ ends n (Some item) before
-over-item n item run before is =
-    elim (cases_eq item.node n) [
-      | inl same ↦ rw (eq-eqb item.node n same) refl
-      | inr other ↦ rw (ne_eqb item.node n other) is
-    ]
+over-item n item run before is = grind (arith, common_steps, cases_eq, eq-eqb, ne_eqb)
 
 module _ {nodes : ℕ} {items : ℕ → List Item} {overs : ℕ → Bool} {lasts : ℕ → ℕ} {letters : List Message}
     {past : List Step} {run : List Turn} (h : Mirrors nodes items overs lasts letters past run) where

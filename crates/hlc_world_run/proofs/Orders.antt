@@ -2,6 +2,7 @@
 -- change neither it nor the numbers of the messages. An event of a node has the same stamp there, and what happened
 -- before another event happened before it in the run: on nodes, through messages and through snapshots. Each turn with
 -- a stamp is the place of an event with this stamp: no event is the run's alone.
+use Rattle.std.proofs.lemmas.Grind.{common_steps}
 use Rattle.std.proofs.Common.{◌≡◌, ℕ, ◌<◌, ◌≤◌, List, [], ◌∷◌, length, Some, None, Option, refl, sym, ◌∙◌, subst, inl}
 use Rattle.std.proofs.Common.{inr, arith, ap, ◌⊎◌}
 use Rattle.std.proofs.lemmas.Bool.{cond-true, cond-false, eq-eqb, ne_eqb}
@@ -230,11 +231,7 @@ ordered nodes s legal (through x y) = through_in (ordered nodes s legal x) (orde
 with-cases : (o : Option Turn) (run : List Turn) (i : ℕ) (x : Turn) → turn_at (with_turn o run) i ≡ Some x
     → ((i ≡ length run) × (o ≡ Some x)) ⊎ (turn_at run i ≡ Some x)
 with-cases None run i x h = inr h
-with-cases (Some turn) run i x h =
-    elim (turn-cases turn run i x h) [
-      | inl here ↦ inl (here.0, ap Some here.1)
-      | inr there ↦ inr there.1
-    ]
+with-cases (Some turn) run i x h = grind (arith, common_steps, turn-cases)
 
 observing-made : (nodes n st : ℕ) (o : Option ℕ) (turn : Turn) (mark : ℕ × ℕ) → observing n o st ≡ Some turn
     → stamping_of (layout_of nodes) turn ≡ Some mark → Some (n, st) ≡ Some mark
