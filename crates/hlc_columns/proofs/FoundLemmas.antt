@@ -87,10 +87,9 @@ newest_in_table key s (e ∷ es) up =
           rw t (newest_before_others (rows_of e.0 e.1) (table_rows es) key s (no_row key es past)
           ∙ ap (λ k. newest (rows_of k e.1) key s) (sym same))
       | inr n ↦
-          newest_after_others (rows_of e.0 e.1) (table_rows es) key s
+          rw n (newest_after_others (rows_of e.0 e.1) (table_rows es) key s
           (λ row m same. other_key key e.0 n (sym same ∙ row_key e.0 e.1 row m))
-          ∙ newest_in_table key s es (sorted_tail (λ a b. slice_cmp nat_cmp a b) e.0 (keys_of es) up)
-          ∙ ap (λ b. newest (rows_of key (cells_in (cond b (Some e.1) (lookup (test key) es)))) key s) (sym n)
+          ∙ newest_in_table key s es (sorted_tail (λ a b. slice_cmp nat_cmp a b) e.0 (keys_of es) up))
     ]
 
 pub answer_in_table : (key : List ℕ) (s : ℕ) (es : List (List ℕ × List Cell))
@@ -150,13 +149,11 @@ rows_in_table key (e ∷ es) up =
           let past = none_past key es
           (subst (λ k. AllByRecursion (λ y. slice_cmp nat_cmp k y ≡ Less) (keys_of es)) (sym same)
           (sorted_head (λ a b. slice_cmp nat_cmp a b) e.0 (keys_of es) up)) in
-          ap₂ (λ xs ys. xs ++ ys) (ap (λ k. rows_with key (rows_of k e.1)) (sym same) ∙ own_rows key e.1)
-          (absent_rows key es past) ∙ append-nil (rows_of key e.1)
-          ∙ ap (λ b. rows_of key (cells_in (cond b (Some e.1) (lookup (test key) es)))) (sym t)
+          rw t (ap₂ (λ xs ys. xs ++ ys) (ap (λ k. rows_with key (rows_of k e.1)) (sym same) ∙ own_rows key e.1)
+          (absent_rows key es past) ∙ append-nil (rows_of key e.1))
       | inr n ↦
-          ap₂ (λ xs ys. xs ++ ys) (other_rows e.0 key e.1 (other_key key e.0 n))
-          (rows_in_table key es (sorted_tail (λ a b. slice_cmp nat_cmp a b) e.0 (keys_of es) up))
-          ∙ ap (λ b. rows_of key (cells_in (cond b (Some e.1) (lookup (test key) es)))) (sym n)
+          rw n (ap₂ (λ xs ys. xs ++ ys) (other_rows e.0 key e.1 (other_key key e.0 n))
+          (rows_in_table key es (sorted_tail (λ a b. slice_cmp nat_cmp a b) e.0 (keys_of es) up)))
     ]
 
 pub answer_nothing : (key : List ℕ) (s : ℕ) → answer [] key s ≡ None

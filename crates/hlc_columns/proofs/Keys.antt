@@ -1,6 +1,6 @@
 -- Walks over the columns: they are listed, named and counted one after another.
-use Rattle.std.proofs.Common.{◌≡◌, ℕ, ◌<◌, List, [], ◌∷◌, ◌++◌, length, refl, sym, ap, ◌∙◌, inl, inr, arith, Contains}
-use Rattle.std.proofs.Common.{map, Less, nat_cmp, zero, suc, Some, slice_get, get_or}
+use Rattle.std.proofs.Common.{subst, ◌≡◌, ℕ, ◌<◌, List, [], ◌∷◌, ◌++◌, length, refl, sym, ap, ◌∙◌, inl, inr, arith}
+use Rattle.std.proofs.Common.{Contains, map, nat_cmp, zero, suc, Some, slice_get, get_or}
 use Rattle.std.specs.Cmp.Lexicographic.{slice_cmp}
 use Rattle.std.specs.List.{AllByRecursion}
 use Rattle.std.specs.List.Sorted.{IsStrictlySortedBy}
@@ -19,16 +19,13 @@ pub rows_keyed : (es : List (List ℕ × List Cell)) → rows_in (keyed es) ≡ 
 rows_keyed [] = refl
 rows_keyed (e ∷ es) = ap (λ rows. rows_of e.0 e.1 ++ rows) (rows_keyed es)
 
+names_keyed : (es : List (List ℕ × List Cell)) → keys_in (keyed es) ≡ keys_of es
+names_keyed [] = refl
+names_keyed (e ∷ es) = ap (λ keys. e.0 ∷ keys) (names_keyed es)
+
 pub keys_keyed : (es : List (List ℕ × List Cell))
     → IsStrictlySortedBy (λ a b. slice_cmp nat_cmp a b) (keys_of es) → KeysAscend (keyed es)
-unfolding IsStrictlySortedBy
-keys_keyed [] up = tt
-keys_keyed (e ∷ es) up = (each es up.0, keys_keyed es up.1)
-  where
-    each : (es : List (List ℕ × List Cell)) → AllByRecursion (λ b. slice_cmp nat_cmp e.0 b ≡ Less) (keys_of es)
-        → AllByRecursion (λ b. slice_cmp nat_cmp e.0 b ≡ Less) (keys_in (keyed es))
-    each [] h = tt
-    each (d ∷ ds) h = (h.0, each ds h.1)
+keys_keyed es = subst (IsStrictlySortedBy (λ a b. slice_cmp nat_cmp a b)) (sym (names_keyed es))
 
 -- the columns of the leaves are those of all entries
 pub leaves_keyed : (leaves : List (List (List ℕ × List Cell)))

@@ -37,13 +37,10 @@ below_last : (k other : List ℕ) (e : Entry) (es : List Entry)
 below_last k other e [] h = h.0
 below_last k other e (f ∷ es) h = below_last k e.0 f es h.1
 
-not_gt_less : (o : Ordering) → o ≡ Less → is_gt o ≡ false
-not_gt_less o is = ap is_gt is
-
 first_upto : (e : Entry) (es : List Entry) → AllByRecursion (λ x. key_cmp e.0 x ≡ Less) (keys_in es)
     → is_gt (key_cmp e.0 (last_key e.0 (keyed es))) ≡ false
 first_upto e [] h = ap is_gt (itself e.0)
-first_upto e (f ∷ es) h = not_gt_less _ (below_last e.0 e.0 f es h)
+first_upto e (f ∷ es) h = ap is_gt (below_last e.0 e.0 f es h)
 
 upto_last : (key : List ℕ) (es : List Entry) → IsStrictlySortedBy key_cmp (keys_in es)
     → All (λ e. is_gt (key_cmp e.0 (last_key key (keyed es))) ≡ false) es

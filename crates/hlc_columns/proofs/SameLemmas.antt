@@ -1,15 +1,14 @@
 -- Two answers are the same, or not.
 use Rattle.std.proofs.Common.{◌≡◌, ◌≢◌, ◌∙◌, ℕ, List, true, false, Option, Some, None, refl, sym, ap, inl, inr}
 use Rattle.std.proofs.Common.{true≢false, ◌⊎◌}
-use Rattle.std.proofs.lemmas.Bool.{cases_Bool}
+use Rattle.std.proofs.lemmas.Bool.{cases_Bool, false_from_ne_true}
 use Rattle.std.proofs.lemmas.Slice.Eq.{bytes_eq-Decides}
 use Rattle.hlc_columns.specs.Differences.{is_same}
 
 same_is : (a b : Option (List ℕ)) → is_same a b ≡ true → a ≡ b
 same_is None None h = refl
-same_is None (Some b) h = absurd (true≢false (sym h))
-same_is (Some a) None h = absurd (true≢false (sym h))
 same_is (Some a) (Some b) h = ap (λ x. Some x) ((bytes_eq-Decides a b).0 h)
+same_is a b h = absurd (true≢false (sym h))
 
 same_itself : (a : Option (List ℕ)) → is_same a a ≡ true
 same_itself None = refl
@@ -25,7 +24,4 @@ cases_same a b = elim (cases_Bool (is_same a b)) [
 ]
 
 pub apart_is : (a b : Option (List ℕ)) → a ≢ b → is_same a b ≡ false
-apart_is a b apart = elim (cases_Bool (is_same a b)) [
-  | inl t ↦ absurd (apart (same_is a b t))
-  | inr f ↦ f
-]
+apart_is a b apart = false_from_ne_true (is_same a b) (λ t. apart (same_is a b t))

@@ -2,9 +2,10 @@
 use Rattle.std.proofs.Common.{true, false, suc, inl, inr, All, ap₂, ◌≡◌, ◌≤◌, ◌+◌, ◌++◌, ◌∷◌, ◌∙◌, ℕ, List, [], Bool}
 use Rattle.std.proofs.Common.{length, arith, append_assoc, length-append, ap, sym, refl, map, filter, leb, Bor}
 use Rattle.std.proofs.lemmas.List.{map_push}
+use Rattle.std.proofs.lemmas.List.Sums.{length-filter, count_by-le-length}
 use Rattle.std.proofs.lemmas.List.Concat.{flat_map-append}
 use Rattle.std.proofs.lemmas.List.Elements.{filter-append, All-map}
-use Rattle.std.proofs.lemmas.Bool.{cases_Bool, cond_both}
+use Rattle.std.proofs.lemmas.Bool.{cases_Bool}
 use Rattle.hlc_rows.specs.declared.row.Row.{Row}
 use Rattle.hlc_table_index.specs.Entries.{entries_in, entries_from, keys_in}
 use Rattle.hlc_table_column.specs.Cells.{Cell}
@@ -61,10 +62,7 @@ module _ (bound : ℕ) where
   within row = leb row.stamp bound
 
   pub few : (rows : List Row) → length (filter within rows) ≤ length rows
-  few [] = omega arith
-  few (row ∷ rows) =
-      cond_both (within row) (row ∷ filter within rows) (filter within rows) (λ l. length l ≤ length (row ∷ rows))
-      (λ t. omega (arith, few rows)) (λ f. omega (arith, few rows))
+  few rows = omega (arith, length-filter within rows, count_by-le-length within rows)
 
   -- the rows of one more entry are counted
   pub count_next : (left after : List Entry) (e : Entry) (total n all : ℕ) → left ≡ e ∷ after
