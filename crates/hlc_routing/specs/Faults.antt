@@ -1,4 +1,5 @@
--- The refusals of stores with one key space, and of machines: the number and the text of each.
+-- The refusals of stores with one key space, of machines, and of stores that are not those of a division: the number
+-- and the text of each.
 use Rattle.std.specs.Prelude.{ℕ, List, codes}
 use Rattle.hlc_node.specs.Faults.{node_code, node_text}
 use Rattle.hlc_events.specs.Faults.{core_code, core_text}
@@ -7,6 +8,9 @@ use Rattle.hlc_routing.specs.declared.fault.RangesFault.TheVariants.{NoStore, Wr
 use Rattle.hlc_routing.specs.declared.machine.MachineFault.{MachineFault}
 use Rattle.hlc_routing.specs.declared.machine.MachineFault.TheVariants as machine_fault
 use Rattle.hlc_routing.specs.declared.machine.MachineFault.TheVariants.{ManyStores, Node, NoMemory}
+use Rattle.hlc_routing.specs.declared.placing.PlacingFault.{PlacingFault}
+use Rattle.hlc_routing.specs.declared.placing.PlacingFault.TheVariants as placing_fault
+use Rattle.hlc_routing.specs.declared.placing.PlacingFault.TheVariants.{Number, Key}
 
 -- the number of a refusal
 abbrev pub ranges_code : RangesFault → ℕ
@@ -33,3 +37,15 @@ machine_text machine_fault.NoStore = codes "the machine has no node in the store
 machine_text ManyStores = codes "the keys of the batch belong to different stores"
 machine_text (Node fault) = node_text fault
 machine_text NoMemory = codes "out of memory"
+
+-- the number of a refusal of stores for a division
+abbrev pub placing_code : PlacingFault → ℕ
+placing_code Number = 123
+placing_code (Key store key) = 121
+placing_code placing_fault.NoMemory = 15
+
+-- its text
+abbrev pub placing_text : PlacingFault → List ℕ
+placing_text Number = codes "the division has more or fewer stores"
+placing_text (Key store key) = codes "a store has a key that belongs to another store"
+placing_text placing_fault.NoMemory = codes "out of memory"

@@ -2,6 +2,7 @@
 ghost use Rattle.std.specs.Prelude.{◌≡◌, ◌↔◌, IfOk, IfErr, IsTrue, MatchOption};
 ghost use Rattle.hlc_table_column.specs.Rows.{rows_in};
 ghost use Rattle.hlc_columns.specs.Table.{columns_in};
+ghost use Rattle.hlc_routing.specs.Faults.{placing_code};
 ghost use Rattle.hlc_routing.specs.Placing.{ArePlaced, AreAllPlaced, IsFirstOther, IsOther, IsOtherAt};
 ghost use Rattle.hlc_routing.specs.Placing.{IsOtherOf, IsRefusedPlacing};
 
@@ -13,6 +14,8 @@ use hlc_core::Core;
 use hlc_node::Bytes;
 use hlc_values::NoMemory;
 use std::alloc::Global;
+use std::error::Error;
+use std::fmt;
 
 /// Why stores are not those of a division.
 #[derive(Debug, Drop)]
@@ -24,6 +27,36 @@ pub enum PlacingFault {
     /// Memory runs out.
     NoMemory,
 }
+
+impl PlacingFault {
+    /// Returns the number of this refusal in outputs: 123, 121 or 15.
+    pub fn code(&self) -> u32
+        ensures { result ≡ placing_code self.now }
+    {
+        match self {
+            PlacingFault::Number => 123,
+            PlacingFault::Key(_, _) => 121,
+            PlacingFault::NoMemory => 15,
+        }
+    }
+}
+
+impl fmt::Display for PlacingFault {
+    ghost use Rattle.std.specs.Prelude.{Some};
+    ghost use Rattle.hlc_routing.specs.Faults.{placing_text};
+
+    ghost output = { λ fault. Some (placing_text fault) };
+
+    fn fmt<W: fmt::Write>(&self, f: &mut fmt::Formatter<W>) -> fmt::Result {
+        f.write_str(match self {
+            PlacingFault::Number => "the division has more or fewer stores",
+            PlacingFault::Key(_, _) => "a store has a key that belongs to another store",
+            PlacingFault::NoMemory => "out of memory",
+        })
+    }
+}
+
+impl Error for PlacingFault {}
 
 impl Ranges {
     /// Takes the stores of a division as `of` does, after a look at the keys of each. So stores that were restored, and
