@@ -134,3 +134,28 @@ fn stores_with_keys_of_others_are_not_taken(rt: HostRuntime) {
     let one = Ranges::checked(alloc, hashed(&rt, 1), stores_of(&rt, 1, b"a", b"z"));
     assert!(&rt; one.is_ok());
 }
+
+/// Checks the number of a refusal, and how it is printed.
+fn is_printed<H: Abort + AllocGlobal>(rt: &H, fault: &PlacingFault, code: u32, text: &str) {
+    let printed = format!(in rt.alloc(); "{fault}").expect(rt, "memory");
+    assert_eq!(rt; printed.as_str(), text);
+    assert!(rt; fault.code() == code);
+}
+
+#[test]
+fn texts_of_refused_stores(rt: HostRuntime) {
+    let key = PlacingFault::Key(1, bytes(&rt, b"a"));
+    is_printed(
+        &rt,
+        &PlacingFault::Number,
+        123,
+        "the division has more or fewer stores",
+    );
+    is_printed(
+        &rt,
+        &key,
+        121,
+        "a store has a key that belongs to another store",
+    );
+    is_printed(&rt, &PlacingFault::NoMemory, 15, "out of memory");
+}
