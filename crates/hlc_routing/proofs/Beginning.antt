@@ -58,7 +58,7 @@ routed-with kept machine clock s row None are is m = absurd (Contains-none row m
 routed-with kept machine clock s row (Some store) are is m =
     All-contains (λ (r : Row). store_of kept.division r.key ≡ s) store.rows row (are.placed s store is) m
 
-begin-with : (kept : RangesView) (machine : ℕ → ℕ → ℕ) (clock : ℕ → ℕ) → AreStates kept machine clock
+pub begin-with : (kept : RangesView) (machine : ℕ → ℕ → ℕ) (clock : ℕ → ℕ) → AreStates kept machine clock
     → CanBegin (layout_from kept machine clock)
 begin-with kept machine clock are = record {
   legal = λ s. legal-with kept machine clock s (slice_get kept.stores s) are refl;

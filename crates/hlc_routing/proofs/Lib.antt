@@ -16,3 +16,4 @@ pub mod Apart
 pub mod Newcomer
 pub mod Placed
 pub mod Beginning
+pub mod Parts

@@ -2,10 +2,11 @@
 use Rattle.std.specs.Prelude.{◌≡◌, ℕ, ◌<◌, ◌≤◌, List, [], ◌∷◌, length, Option, Some, None, slice_get}
 use Rattle.hlc_node.specs.Node.{NodeView}
 use Rattle.hlc_core.specs.Past.{Step, Started, Began, numbered, count, retired, link_in}
-use Rattle.hlc_core.specs.StoreView.{StoreView}
+use Rattle.hlc_core.specs.StoreView.{StoreView, Represents as CoreRepresents}
 use Rattle.hlc_core.specs.Checkpoint.{IsCheckpoint}
 use Rattle.hlc_ranges.specs.Run.{Layout}
-use Rattle.hlc_routing.specs.Division.{store_of}
+use Rattle.hlc_split.specs.Split.{part_of, is_under, is_from}
+use Rattle.hlc_routing.specs.Division.{ByKeys, store_of}
 use Rattle.hlc_routing.specs.Ranges.{RangesView}
 use Rattle.hlc_routing.specs.Placing.{AreAllPlaced}
 use Rattle.hlc_routing.specs.Machine.{MachineView}
@@ -33,6 +34,20 @@ pub record AreStates (kept : RangesView) (machine : ℕ → ℕ → ℕ) (clock 
   pub placed : AreAllPlaced kept.division kept.stores
   pub reached : (s n : ℕ) (store : StoreView) → slice_get kept.stores s ≡ Some store
       → (link_in store n).head ≤ clock (machine s n)
+
+-- the two parts of a state at a key, as stores of their own: that of the lower keys, and that of the others
+abbrev pub halves_of : StoreView → List ℕ → RangesView
+halves_of kept key = record {
+  division = ByKeys (key ∷ []);
+  stores = part_of (is_under key) kept ∷ part_of (is_from key) kept ∷ [];
+}
+
+-- these stores were restored from the states, so each represents the past that begins with its state
+pub record AreRestored (states kept : RangesView) : Type 0 where
+  pub division : kept.division ≡ states.division
+  pub many : length kept.stores ≡ length states.stores
+  pub pasts : (s : ℕ) (state store : StoreView) → slice_get states.stores s ≡ Some state
+      → slice_get kept.stores s ≡ Some store → CoreRepresents store (Began state ∷ [])
 
 -- the node is one of those that a store begins with: it has the next number of its link there, and has retired if it
 -- has there

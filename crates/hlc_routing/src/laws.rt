@@ -1,14 +1,20 @@
 //! What events at machines leave of the stores, and steps of stores of the machines.
-ghost use Rattle.std.specs.Prelude.{◌≡◌, ◌≢◌, ◌<◌, ◌≤◌, [], ◌∷◌, ℕ, List, Some, length, slice_get};
+ghost use Rattle.std.specs.Prelude.{◌≡◌, ◌≢◌, ◌<◌, ◌≤◌, [], ◌∷◌, ◌++◌, ℕ, Bool, true, not, List, Some};
+ghost use Rattle.std.specs.Prelude.{length, slice_get};
 ghost use Rattle.hlc_node.specs.declared.item.Item.{Item as AnItem};
-ghost use Rattle.hlc_core.specs.Past.{Step, Started};
-ghost use Rattle.hlc_core.specs.StoreView.{StoreView, Represents as CoreRepresents};
+ghost use Rattle.hlc_core.specs.Past.{Step, Started, Began, link_in};
+ghost use Rattle.hlc_core.specs.StoreView.{StoreView, with_rows, Represents as CoreRepresents};
+ghost use Rattle.hlc_core.specs.Checkpoint.{IsCheckpoint};
 ghost use Rattle.hlc_core.specs.Replicas.{begun};
 ghost use Rattle.hlc_ranges.specs.Run.{Layout, Turn, Issued, Sent, Received, Observed, Stepped, IsLegal, start_of};
-ghost use Rattle.hlc_ranges.specs.Run.{last_stamp};
+ghost use Rattle.hlc_ranges.specs.Run.{last_stamp, past_of};
+ghost use Rattle.hlc_ranges.specs.Change.{IsDrained, TakesOver};
+ghost use Rattle.hlc_split.specs.Split.{part_of};
+ghost use Rattle.hlc_split.specs.Merge.{AreJoinable, is_of_left};
 ghost use Rattle.hlc_routing.specs.All.{each_stepped, join_step, next_join, AreJoins};
-ghost use Rattle.hlc_routing.specs.Beginning.{layout_from, AreStates, IsFirstMachine};
-ghost use Rattle.hlc_routing.specs.Division.{store_of};
+ghost use Rattle.hlc_routing.specs.Beginning.{layout_from, halves_of, AreStates, AreRestored, IsFirstMachine};
+ghost use Rattle.hlc_routing.specs.Division.{DivisionView, store_of};
+ghost use Rattle.hlc_routing.specs.Placing.{ArePlaced};
 ghost use Rattle.hlc_routing.specs.Machine.{MachineView, IsMachineOf, IsNewMachine};
 ghost use Rattle.hlc_routing.specs.Ranges.{RangesView, Represents};
 
@@ -79,6 +85,44 @@ pub fn new_stores_begin_a_run()
 pub fn states_begin_a_run()
     ensures { (kept : RangesView) (machine : ℕ → ℕ → ℕ) (clock : ℕ → ℕ) → AreStates kept machine clock
         → Represents (layout_from kept machine clock) kept [] }
+{}
+
+/// Parts of a checkpoint are such states, each of keys of one store, as the halves of a split are; and so is what two
+/// checkpoints with keys of one store are joined into. Stores that were restored from such states represent the run
+/// that begins with them.
+pub fn parts_begin_ranges()
+    ensures part { (kept : StoreView) (is_of : List ℕ → Bool) (division : DivisionView) (s : ℕ) → IsCheckpoint kept
+        → ((key : List ℕ) → is_of key ≡ true → store_of division key ≡ s)
+        → IsCheckpoint (part_of is_of kept) × ArePlaced division s (part_of is_of kept).rows }
+    ensures joined { (left right : StoreView) (division : DivisionView) (s : ℕ) → AreJoinable left right
+        → IsCheckpoint left → IsCheckpoint right → ArePlaced division s left.rows → ArePlaced division s right.rows
+        → IsCheckpoint (with_rows left (left.rows ++ right.rows))
+        × ArePlaced division s (left.rows ++ right.rows) }
+    ensures halves { (kept : StoreView) (key : List ℕ) (machine : ℕ → ℕ → ℕ) (clock : ℕ → ℕ) → IsCheckpoint kept
+        → ((s n : ℕ) → (link_in kept n).head ≤ clock (machine s n))
+        → AreStates (halves_of kept key) machine clock }
+    ensures restored { (states kept : RangesView) (machine : ℕ → ℕ → ℕ) (clock : ℕ → ℕ)
+        → AreStates states machine clock → AreRestored states kept
+        → Represents (layout_from states machine clock) kept [] }
+{}
+
+/// A store that begins with a part of the state of a drained one takes over the keys of that part; one that begins with
+/// all of it takes over any; and one that begins with two states that were joined, those of each (`cuts_go_on`).
+pub fn parts_take_over()
+    ensures part { (old new : Layout) (run : List Turn) (s t : ℕ) (is_of : List ℕ → Bool) (kept : StoreView)
+        → IsDrained old run s → CoreRepresents kept (past_of old s run)
+        → new.begun t ≡ Began (part_of is_of kept) ∷ [] → TakesOver old run new s t is_of }
+    ensures moved { (old new : Layout) (run : List Turn) (s t : ℕ) (is_of : List ℕ → Bool) (kept : StoreView)
+        → IsDrained old run s → CoreRepresents kept (past_of old s run) → new.begun t ≡ Began kept ∷ []
+        → TakesOver old run new s t is_of }
+    ensures left { (old new : Layout) (run : List Turn) (s t : ℕ) (left right : StoreView) → IsDrained old run s
+        → CoreRepresents left (past_of old s run) → AreJoinable left right
+        → new.begun t ≡ Began (with_rows left (left.rows ++ right.rows)) ∷ []
+        → TakesOver old run new s t (is_of_left right.rows) }
+    ensures right { (old new : Layout) (run : List Turn) (s t : ℕ) (left right : StoreView) → IsDrained old run s
+        → CoreRepresents right (past_of old s run) → AreJoinable left right → IsCheckpoint left → IsCheckpoint right
+        → new.begun t ≡ Began (with_rows left (left.rows ++ right.rows)) ∷ []
+        → TakesOver old run new s t (λ key. not (is_of_left right.rows key)) }
 {}
 
 /// A machine of nodes that the stores begin with is the run's, if it is not behind its clock at the beginning.

@@ -18,7 +18,8 @@ pub use fault::RangesFault;
 pub use hlc_core::{Accepted, Checkpoint, Core, CoreFault, Item, Report, Stamp};
 pub use laws::{
     events_keep_machines, events_keep_stores, first_machines_begin_a_run, joins_make_machines,
-    new_stores_begin_a_run, states_begin_a_run, steps_keep_machines,
+    new_stores_begin_a_run, parts_begin_ranges, parts_take_over, states_begin_a_run,
+    steps_keep_machines,
 };
 pub use machine::{Machine, MachineFault, RefusedBatchRouting, RefusedRouting};
 pub use placing::PlacingFault;
