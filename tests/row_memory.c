@@ -1,9 +1,10 @@
 /* The memory of rows, in blocks of malloc: where each key has 1, 2, 4, 5 or 10 rows, and after a vacuum that leaves
  * one. Keys and values have 8 bytes; each round writes every key once, in a random order of its own. After a vacuum
  * that leaves two rows of each key, nothing of the others stays, whose values have an allocation each. Then the peaks
- * of resident memory: a checkpoint takes little more than its bytes, a saving in pieces little beside the store, and a
+ * of the blocks in use: a checkpoint takes little more than its bytes, a saving in pieces little beside the store, and a
  * restore in pieces little more than the store that it makes; an increment that is applied, and the parts of a
- * checkpoint, take a few times the bytes. Prints `all right`. */
+ * checkpoint, take a few times the bytes. It is linked with --wrap for malloc, realloc and free, which count the blocks,
+ * so that no peak depends on the pages of the machine. Prints `all right`. */
 #include "hlcstore.h"
 #include <malloc.h>
 #include <stdio.h>
@@ -24,10 +25,8 @@ static const double MOST_OF_PEAK = 1.2;
 /* The most of the peak of a saving in pieces: what part of the store. */
 static const double MOST_OF_SAVING = 0.05;
 /* The most of the peaks of an increment that is applied, of a checkpoint that is divided, and of parts that are joined:
- * how many times the bytes of the checkpoint. Some 7 % are room for split and merge: the same code was within 4.1 and 3.8
- * on one machine, and is at 4.13 and 3.86 on another, the same to the byte in each run: why is not known. One more copy
- * of the rows would take a whole. */
-static const double MOST_OF_INCREMENT = 3.8, MOST_OF_SPLIT = 4.4, MOST_OF_MERGE = 4.1;
+ * how many times the bytes of the checkpoint. */
+static const double MOST_OF_INCREMENT = 3.8, MOST_OF_SPLIT = 4.1, MOST_OF_MERGE = 3.8;
 
 static int wrong;
 
@@ -122,34 +121,49 @@ static void measure_two_left(unsigned rounds, double most)
     hlc_store_close(&store);
 }
 
-/* The bytes in a line of /proc/self/status. */
-static double status_of(const char *name)
+/* The bytes of the blocks in use, and the most since a peak began. */
+static size_t in_use, most_in_use;
+
+static void *counted(void *block)
 {
-    char line[128];
-    double found = 0, kilobytes;
-    FILE *lines = fopen("/proc/self/status", "r");
-    while (lines != NULL && fgets(line, sizeof line, lines) != NULL)
-        if (strncmp(line, name, strlen(name)) == 0 && sscanf(line + strlen(name), "%lf", &kilobytes) == 1)
-            found = kilobytes * 1024;
-    if (lines != NULL) fclose(lines);
-    return found;
+    in_use += malloc_usable_size(block);
+    if (in_use > most_in_use) most_in_use = in_use;
+    return block;
 }
 
-/* Lets the peak of resident memory begin at what is resident now, without what is free, and returns that. */
+void *__real_malloc(size_t size);
+void *__real_realloc(void *block, size_t size);
+void __real_free(void *block);
+
+void *__wrap_malloc(size_t size) { return counted(__real_malloc(size)); }
+
+/* A block that moves is there twice for a moment. */
+void *__wrap_realloc(void *block, size_t size)
+{
+    size_t before = malloc_usable_size(block);
+    void *moved = __real_realloc(block, size);
+    if (moved == NULL) return NULL;
+    counted(moved);
+    in_use -= before;
+    return moved;
+}
+
+void __wrap_free(void *block)
+{
+    in_use -= malloc_usable_size(block);
+    __real_free(block);
+}
+
+/* Lets the peak begin at what is in use now, and returns that. */
 static double begin_peak(void)
 {
-    malloc_trim(0);
-    FILE *reset = fopen("/proc/self/clear_refs", "w");
-    if (reset == NULL || fputs("5", reset) < 0 || fclose(reset) != 0) {
-        puts("the peak of memory cannot be set back");
-        wrong++;
-    }
-    return status_of("VmRSS:");
+    most_in_use = in_use;
+    return (double)in_use;
 }
 
 static void expect_peak(const char *what, double before, double most)
 {
-    double peak = status_of("VmHWM:") - before;
+    double peak = (double)most_in_use - before;
     if (peak <= most) return;
     printf("%s: a peak of %.0f bytes, more than %.0f\n", what, peak, most);
     wrong++;
