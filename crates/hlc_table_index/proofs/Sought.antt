@@ -101,9 +101,7 @@ module _ {V : Type 0} where
     front_long : length (entries_before ls (count - 1) slot) ≡ length (entries_in (take (count - 1) ls)) + slot
     front_long =
         let m = length-append (entries_in (take (count - 1) ls)) (take slot (get_or ls (count - 1) [])) in
-        let t = length-take slot (get_or ls (count - 1) []) in
-        let le = slot_inside in
-        omega (arith, m, t, le)
+        omega (arith, length-take slot (get_or ls (count - 1) []), slot_inside)
 
     pub leaf_parted : entries_in ls ≡ entries_before ls (count - 1) slot ++ entries_from ls (count - 1) slot
     leaf_parted = parted ls (count - 1) slot (omega (arith, some, inside))

@@ -14,30 +14,21 @@ returns-then-len-lt-MAX_ENTRIES-clause-ok g c =
 pub insert-requires-then-slot-le-HALF-clause-inside : goal.insert-requires-then-slot-le-HALF-clause-inside
 insert-requires-then-slot-le-HALF-clause-inside g c =
     let same = ap length (front_is c.args.self.now c.split.new.self c.args.at 64 c.requires.leaf c.in-Ok.ensures.ok) in
-    let cut = length-take 64 (get_or c.args.self.now c.args.at []) in
-    let few = c.if-slot-le-HALF.true in
-    let inside = c.requires.inside in
-    omega (arith, same, cut, few, inside)
+    omega (arith, length-take 64 (get_or c.args.self.now c.args.at []), c.if-slot-le-HALF.true, c.requires.inside)
 
 pub overflow_add-at : goal.overflow_add-at
 overflow_add-at g c =
-    let lt = c.requires.leaf in
-    let known = c.len-known.ensures in
-    let small = c.len-known.type_inv in
-    omega (arith, lt, known, small)
+    omega (arith, c.requires.leaf, c.len-known.ensures, c.len-known.type_inv)
 
 pub insert-requires-else-slot-le-HALF-clause-leaf : goal.insert-requires-else-slot-le-HALF-clause-leaf
 insert-requires-else-slot-le-HALF-clause-leaf g c =
     let lt = c.requires.leaf in
-    let long = many c.args.self.now c.split.new.self c.args.at 64 c.requires.leaf c.in-Ok.ensures.ok in
-    omega (arith, lt, long)
+    omega (arith, many c.args.self.now c.split.new.self c.args.at 64 c.requires.leaf c.in-Ok.ensures.ok)
 
 pub insert-requires-else-slot-le-HALF-clause-inside : goal.insert-requires-else-slot-le-HALF-clause-inside
 insert-requires-else-slot-le-HALF-clause-inside g c =
     let same = ap length (back_is c.args.self.now c.split.new.self c.args.at 64 c.requires.leaf c.in-Ok.ensures.ok) in
-    let cut = length-drop 64 (get_or c.args.self.now c.args.at []) in
-    let inside = c.requires.inside in
-    omega (arith, same, cut, inside)
+    omega (arith, length-drop 64 (get_or c.args.self.now c.args.at []), c.requires.inside)
 
 pub returns-then-slot-le-HALF-clause-ok : goal.returns-then-slot-le-HALF-clause-ok
 returns-then-slot-le-HALF-clause-ok g c =
