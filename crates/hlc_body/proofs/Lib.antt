@@ -1,4 +1,3 @@
 pub mod ListLemmas
 pub mod PartLemmas
-pub mod SteadyLemmas
 mod Preambles

@@ -1,20 +1,14 @@
 -- Lists are read one after the other, as a loop does, and read back.
 use Rattle.std.proofs.Common.{◌≡◌, ℕ, zero, suc, ◌-◌, ◌+◌, ◌≤◌, ◌<◌, List, [], ◌∷◌, ◌++◌, length, Result, Ok, Err, refl}
-use Rattle.std.proofs.Common.{sym, ap, subst, ◌∙◌, append_assoc, arith, get_or, take}
-use Rattle.std.specs.Prelude.{All}
-use Rattle.std.specs.List.{flat_map}
+use Rattle.std.proofs.Common.{sym, ap, ◌∙◌, append_assoc, arith, get_or, take, All, flat_map, append-nil}
 use Rattle.std.specs.Int.{Width, to_be_bytes}
-use Rattle.std.proofs.lemmas.Grind.{flat_map-append}
-use Rattle.std.proofs.lemmas.List.{append-nil, take_more}
+use Rattle.std.proofs.lemmas.{Grind.flat_map-append, List.take_more, List.nil_from_length, List.Concat.flat_map-cons}
 use Rattle.std.proofs.lemmas.List.Elements.{All-nil, All-cons, All-head, All-tail}
-use Rattle.std.proofs.lemmas.List.Concat.{flat_map-cons}
-use Rattle.hlc_wire.specs.declared.fault.WireFault.{WireFault}
-use Rattle.hlc_wire.specs.declared.fault.DecodeError.{DecodeError}
+use Rattle.hlc_wire.specs.declared.fault.{WireFault.WireFault, DecodeError.DecodeError}
+use Rattle.hlc_wire.specs.Reading.{◌>>=◌, Fails}
+use Rattle.hlc_wire.proofs.FieldLemmas.{IsField, IsWide, number_field, alone, nothing, last, field, via}
+use Rattle.hlc_body.specs.{Spelling.list_bytes, Spelling.ListFits, Reading.times_at, Reading.list_at}
 use Rattle.hlc_wire.specs.declared.fault.DecodeError.TheVariants as errors
-use Rattle.hlc_wire.specs.Reading.{◌>>=◌, Fails, number_at}
-use Rattle.hlc_wire.proofs.FieldLemmas.{IsBytes, bind_ok, ok_is, Takes, Takes-then, IsReader, IsWide, number_reader}
-use Rattle.hlc_body.specs.Spelling.{list_bytes, ListFits}
-use Rattle.hlc_body.specs.Reading.{times_at, list_at}
 
 -- what was read before, and what is still to be read
 abbrev pub with_front : {A : Type 0} → List A → Result (List A × List ℕ) WireFault → Result (List A × List ℕ) WireFault
@@ -57,71 +51,30 @@ is_done read front count i bytes total le so_far =
     rw k (ap (λ xs. Ok (xs, bytes)) (append-nil front)) in
     sym so_far ∙ one
 
-pub times_take : {A : Type 0} (read : List ℕ → Result (A × List ℕ) WireFault) (spell : A → List ℕ) (Fits : A → Type 0)
-    → IsReader read spell Fits → (n : ℕ) (bytes : List ℕ) (x : List A × List ℕ) → IsBytes bytes
-    → times_at read n bytes ≡ Ok x → Takes bytes (flat_map spell x.0) x.1 × (length x.0 ≡ n) × All Fits x.0
+split : {A : Type 0} (Fits : A → Type 0) (n : ℕ) (xs : List A) → (length xs ≡ suc n) × All Fits xs
+    → (t : A × List A) × (Fits t.0 × ((length t.1 ≡ n) × All Fits t.1)) × (t.0 ∷ t.1 ≡ xs)
+split Fits n [] f = absurd (let no = f.0 in cc)
+split Fits n (x ∷ xs) f =
+    ((x, xs), (All-head Fits x xs f.1, (let e = f.0 in omega arith, All-tail Fits x xs f.1)), refl)
+
+pub times_field : {A : Type 0} {read : List ℕ → Result (A × List ℕ) WireFault} {spell : A → List ℕ}
+    {Fits : A → Type 0} → IsField read spell Fits → (n : ℕ)
+    → IsField (times_at read n) (flat_map spell) (λ xs. (length xs ≡ n) × All Fits xs)
 unfolding times_at
-times_take read spell Fits is zero bytes x fits e =
-    subst (λ y. Takes bytes (flat_map spell y.0) y.1 × (length y.0 ≡ 0) × All Fits y.0) (ok_is ([], bytes) x e)
-    (record { parts = refl; rest_fits = fits }, refl, All-nil Fits)
-times_take read spell Fits is (suc n) bytes x fits e =
-    let a = bind_ok (read bytes)
-    (λ first. times_at read n first.1 >>= λ others. Ok (first.0 ∷ others.0, others.1)) x e in
-    let b = bind_ok (times_at read n a.0.1) (λ others. Ok (a.0.0 ∷ others.0, others.1)) x a.2 in
-    let first = is.takes bytes a.0 fits a.1 in
-    let second = times_take read spell Fits is n a.0.1 b.0 first.0.rest_fits b.1 in
-    let both = Takes-then bytes (spell a.0.0) a.0.1 (flat_map spell b.0.0) b.0.1 first.0 second.0 in
-    let all' : Takes bytes (flat_map spell (a.0.0 ∷ b.0.0)) b.0.1 =
-    subst (λ t. Takes bytes t b.0.1) (sym (flat_map-cons spell a.0.0 b.0.0)) both in
-    subst (λ y. Takes bytes (flat_map spell y.0) y.1 × (length y.0 ≡ suc n) × All Fits y.0)
-    (ok_is (a.0.0 ∷ b.0.0, b.0.1) x b.2) (all', ap suc second.1, All-cons Fits a.0.0 b.0.0 first.1 second.2)
+times_field {Fits = Fits} is zero =
+    via (nothing []) (λ t f. ((refl, All-nil Fits), refl)) (λ xs f. (tt, tt, sym (nil_from_length xs f.0)))
+times_field {spell = spell} {Fits = Fits} is (suc n) =
+    via (field _ is (λ first. last (λ others. first ∷ others) (times_field is n)))
+    (λ t f. ((ap suc f.1.0, All-cons Fits t.0 t.1 f.0 f.1.1), flat_map-cons spell t.0 t.1)) (split Fits n)
 
-pub times_again : {A : Type 0} (read : List ℕ → Result (A × List ℕ) WireFault) (spell : A → List ℕ) (Fits : A → Type 0)
-    → IsReader read spell Fits → (xs : List A) (rest : List ℕ) → All Fits xs
-    → times_at read (length xs) (flat_map spell xs ++ rest) ≡ Ok (xs, rest)
-unfolding times_at
-times_again read spell Fits is [] rest fits = refl
-times_again read spell Fits is (x ∷ xs) rest fits =
-    let regrouped : flat_map spell (x ∷ xs) ++ rest ≡ spell x ++ (flat_map spell xs ++ rest) =
-    ap (λ (t : List ℕ). t ++ rest) (flat_map-cons spell x xs) ∙ append_assoc (spell x) (flat_map spell xs) rest in
-    ap (times_at read (suc (length xs))) regrouped
-    ∙ rw (
-      is.again x (flat_map spell xs ++ rest) (All-head Fits x xs fits),
-      times_again read spell Fits is xs rest (All-tail Fits x xs fits),
-    ) refl
-
-pub list_takes : {A : Type 0} (w : Width) (limit : ℕ) (wide : IsWide w limit)
-    (read : List ℕ → Result (A × List ℕ) WireFault) (spell : A → List ℕ) (Fits : A → Type 0) → IsReader read spell Fits
-    → (bytes : List ℕ) (x : List A × List ℕ) → IsBytes bytes → list_at w read bytes ≡ Ok x
-    → Takes bytes (list_bytes w spell x.0) x.1 × ListFits limit Fits x.0
+pub list_field : {A : Type 0} (w : Width) (limit : ℕ) → IsWide w limit
+    → {read : List ℕ → Result (A × List ℕ) WireFault} {spell : A → List ℕ} {Fits : A → Type 0}
+    → IsField read spell Fits → IsField (list_at w read) (list_bytes w spell) (ListFits limit Fits)
 unfolding list_at
-list_takes w limit wide read spell Fits is bytes x fits e =
-    let a = bind_ok (number_at w bytes) (λ n. times_at read n.0 n.1) x e in
-    let first = (number_reader w limit wide).takes bytes a.0 fits a.1 in
-    let second = times_take read spell Fits is a.0.0 a.0.1 x first.0.rest_fits a.2 in
-    let both = Takes-then bytes (to_be_bytes w a.0.0) a.0.1 (flat_map spell x.0) x.1 first.0 second.0 in (
-      subst (λ k. Takes bytes (to_be_bytes w k ++ flat_map spell x.0) x.1) (sym second.1) both,
-      (subst (λ k. k < limit) (sym second.1) first.1, second.2),
-    )
-
-pub list_again : {A : Type 0} (w : Width) (limit : ℕ) (wide : IsWide w limit)
-    (read : List ℕ → Result (A × List ℕ) WireFault) (spell : A → List ℕ) (Fits : A → Type 0) → IsReader read spell Fits
-    → (xs : List A) (rest : List ℕ) → ListFits limit Fits xs
-    → list_at w read (list_bytes w spell xs ++ rest) ≡ Ok (xs, rest)
-unfolding list_at
-list_again w limit wide read spell Fits is xs rest fits =
-    ap (list_at w read) (append_assoc (to_be_bytes w (length xs)) (flat_map spell xs) rest)
-    ∙ rw ((number_reader w limit wide).again (length xs) (flat_map spell xs ++ rest) fits.0)
-    (times_again read spell Fits is xs rest fits.1)
-
-pub list_reader : {A : Type 0} (w : Width) (limit : ℕ) → IsWide w limit
-    → (read : List ℕ → Result (A × List ℕ) WireFault) (spell : A → List ℕ) (Fits : A → Type 0)
-    → IsReader read spell Fits
-    → IsReader (list_at w read) (list_bytes w spell) (ListFits limit Fits)
-list_reader w limit wide read spell Fits is = record {
-  takes = list_takes w limit wide read spell Fits is;
-  again = list_again w limit wide read spell Fits is;
-}
+list_field w limit wide {spell = spell} is =
+    via (field _ (number_field w limit wide) (λ n. alone (times_field is n)))
+    (λ t f. ((rw f.1.0 f.0, f.1.1), ap (λ n. to_be_bytes w n ++ flat_map spell t.1) f.1.0))
+    (λ xs f. ((length xs, xs), (f.0, (refl, f.1)), refl))
 
 -- one more is written
 pub list_on : {A : Type 0} (spell : A → List ℕ) (xs : List A) (i : ℕ) (x : A) (old size now new : List ℕ)

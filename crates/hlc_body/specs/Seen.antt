@@ -1,6 +1,5 @@
 -- The part before the rows, lent.
-use Rattle.hlc_body.specs.declared.preamble.PreambleRef.{PreambleRef}
-use Rattle.hlc_body.specs.Spelling.{Preamble}
+use Rattle.hlc_body.specs.{declared.preamble.PreambleRef.PreambleRef, Spelling.Preamble}
 
 abbrev pub seen : PreambleRef → Preamble
 seen preamble = record {

@@ -1,7 +1,6 @@
 -- The one encoding of each checkpoint. Numbers are big-endian.
 use Rattle.std.specs.Prelude.{◌≡◌, ℕ, ◌<◌, List, ◌++◌, length, All}
-use Rattle.std.specs.List.{flat_map}
-use Rattle.std.specs.Int.{Width, w16, w64, to_be_bytes}
+use Rattle.std.specs.{List.flat_map, Int.Width, Int.w16, Int.w64, Int.to_be_bytes}
 use Rattle.hlc_rows.specs.declared.row.Row.{Row}
 use Rattle.hlc_intake.specs.IntakeView.{IntakeView}
 use Rattle.hlc_snapshot.specs.declared.snapshot.Snapshot.{Snapshot}

@@ -2,8 +2,7 @@
 ghost use Rattle.std.specs.Prelude.{◌≡◌, ◌++◌, ◌<◌, OnOk, MatchOption, length};
 ghost use Rattle.hlc_wire.specs.Reading.{Gives};
 ghost use Rattle.hlc_body.specs.Spelling.{preamble_bytes, preamble_of, kept_of};
-ghost use Rattle.hlc_body.specs.Reading.{preamble_at};
-ghost use Rattle.hlc_body.specs.Seen.{seen};
+ghost use Rattle.hlc_body.specs.{Reading.preamble_at, Seen.seen};
 
 use crate::reading::{links_at, snapshots_at};
 use crate::writing::{put_links, put_snapshots};

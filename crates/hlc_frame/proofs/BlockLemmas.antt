@@ -1,17 +1,12 @@
 -- A block is the rest of the front, and then the bytes after the front.
 use Rattle.std.proofs.Common.{◌≡◌, ℕ, ◌-◌, ◌≤◌, List, [], ◌++◌, length, take, drop, Option, Some, None, true, false}
 use Rattle.std.proofs.Common.{Result, Ok, Err, refl, sym, ap, subst, ◌∙◌, arith, inl, inr}
-use Rattle.std.specs.Option.{is_some}
-use Rattle.std.proofs.lemmas.Bool.{cases_lt}
+use Rattle.std.{specs.Option.is_some, proofs.lemmas.Bool.cases_lt}
 use Rattle.std.proofs.lemmas.List.{take-append-le, take_all, drop_all, append-nil, length-take}
-use Rattle.hlc_wire.specs.declared.fault.WireFault.{WireFault}
-use Rattle.hlc_wire.specs.Reading.{◌>>=◌}
-use Rattle.hlc_frame.specs.declared.front.Front.{Front}
-use Rattle.hlc_frame.specs.declared.rest.RestReader.{RestReader}
-use Rattle.hlc_frame.specs.declared.reader.FrameReader.{FrameReader}
-use Rattle.hlc_frame.specs.Opening.{front_at}
+use Rattle.hlc_wire.specs.{declared.fault.WireFault.WireFault, Reading.◌>>=◌}
+use Rattle.hlc_frame.specs.declared.{front.Front.Front, rest.RestReader.RestReader, reader.FrameReader.FrameReader}
+use Rattle.hlc_frame.{specs.Opening.front_at, proofs.ListLemmas.take_again, proofs.ListLemmas.drop_again}
 use Rattle.hlc_frame.specs.Reading.{HasRead, HasReadRest, GoesOn, body_after, body_so_far}
-use Rattle.hlc_frame.proofs.ListLemmas.{take_again, drop_again}
 use Rattle.hlc_frame.proofs.FrontLemmas.{front_ok, front_cut, with_rest}
 
 -- before a tail of the block the reader is as far as the front; `after` is all that will have come after the front
@@ -22,6 +17,12 @@ Ready (Ok found) (Some rest) front so_far tail after =
 Ready (Err fault) None front so_far tail after = so_far ≡ []
 Ready (Ok found) None front so_far tail after = ⊥
 Ready (Err fault) (Some rest) front so_far tail after = ⊥
+
+-- the same, after this block
+abbrev pub IsReady : Option RestReader → List ℕ → List ℕ → List ℕ → Type 0
+IsReady rest fed block tail =
+    Ready (front_at (take 20 (fed ++ block))) rest (take 20 (fed ++ block)) (body_so_far fed) tail
+    (drop 20 (fed ++ block))
 
 pub body_cut : (fed : List ℕ) → body_so_far fed ≡ body_after (front_at (take 20 fed) >>= with_rest (drop 20 fed))
 unfolding body_so_far
@@ -51,10 +52,8 @@ is_ok_or_err read found fault a b = cc
 
 pub first_block : (old : FrameReader) (fed block tail buffer : List ℕ) (rest : Option RestReader) → HasRead old fed
     → is_some old.rest ≡ false → buffer ≡ take 20 (old.front.items ++ block)
-    → tail ≡ drop (20 - length old.front.items) block
-    → GoesOn (front_at buffer) rest buffer []
-    → Ready (front_at (take 20 (fed ++ block))) rest (take 20 (fed ++ block)) (body_so_far fed) tail (drop 20
-    (fed ++ block))
+    → tail ≡ drop (20 - length old.front.items) block → GoesOn (front_at buffer) rest buffer []
+    → IsReady rest fed block tail
 first_block old fed block tail buffer rest has none buffer_is tail_is goes =
     let was = no_front (front_at (take 20 fed)) old.rest (take 20 fed) (drop 20 fed) has.rest none in
     let whole : buffer ≡ take 20 (fed ++ block) =
@@ -97,9 +96,7 @@ a_front (Ok found) None front bytes goes some = absurd goes
 a_front (Err fault) (Some rest) front bytes goes some = absurd goes
 
 pub later_block : (old : FrameReader) (fed block tail : List ℕ) → HasRead old fed → is_some old.rest ≡ true
-    → tail ≡ drop (20 - length old.front.items) block
-    → Ready (front_at (take 20 (fed ++ block))) old.rest (take 20 (fed ++ block)) (body_so_far fed) tail
-    (drop 20 (fed ++ block))
+    → tail ≡ drop (20 - length old.front.items) block → IsReady old.rest fed block tail
 later_block old fed block tail has some tail_is =
     let was = a_front (front_at (take 20 fed)) old.rest (take 20 fed) (drop 20 fed) has.rest some in
     let full = front_ok (take 20 fed) was.0 was.1 in
@@ -113,11 +110,6 @@ later_block old fed block tail has some tail_is =
     has.rest (λ found e. rest_is) (body_cut fed))
 
 -- ---- after the block
-
-pub none_goes : (read : Result (Front × List ℕ) WireFault) (front so_far tail after : List ℕ)
-    → Ready read None front so_far tail after → GoesOn read None front after
-none_goes (Ok found) front so_far tail after ready = absurd ready
-none_goes (Err fault) front so_far tail after ready = tt
 
 pub none_body : (read : Result (Front × List ℕ) WireFault) (front so_far tail after : List ℕ)
     → Ready read None front so_far tail after → so_far ++ [] ≡ body_after (read >>= with_rest after)

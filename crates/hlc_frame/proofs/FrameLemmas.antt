@@ -1,14 +1,12 @@
 -- A frame that is read is the frame that was written, and a frame that was written is read again, in one block or in
 -- many.
-use Rattle.std.proofs.Common.{◌≡◌, ℕ, ◌<◌, Bool, true, false, cond, eqb, List, ◌++◌, length, take, drop}
-use Rattle.std.proofs.Common.{Result, Ok, Err, refl, sym, ap, subst, ◌∙◌, append_assoc}
-use Rattle.std.proofs.lemmas.List.{take_at}
+use Rattle.std.proofs.Common.{◌≡◌, ℕ, ◌<◌, Bool, true, false, cond, eqb, List, ◌++◌, length, take, drop, Result, Ok}
+use Rattle.std.proofs.Common.{Err, refl, sym, ap, subst, ◌∙◌, append_assoc, take_at}
 use Rattle.sha2.specs.Sha256.{sha256}
-use Rattle.hlc_wire.specs.declared.fault.WireFault.{WireFault}
-use Rattle.hlc_wire.specs.declared.fault.WireFault.TheVariants.{Trailing}
+use Rattle.hlc_wire.specs.declared.fault.WireFault.{WireFault, TheVariants.Trailing}
 use Rattle.hlc_wire.specs.Reading.{◌>>=◌, whole}
-use Rattle.hlc_wire.proofs.FieldLemmas.{bind_ok, guard_ended, IsReader, IsBytes}
-use Rattle.hlc_wire.proofs.FieldLemmas.{Takes, Takes-then, whole_takes, whole_again}
+use Rattle.hlc_wire.proofs.FieldLemmas.{bind_ok, guard_ended, IsReader, IsBytes, Takes, Takes-then, whole_takes}
+use Rattle.hlc_wire.proofs.FieldLemmas.{whole_again}
 use Rattle.hlc_frame.specs.declared.front.Front.{Front}
 use Rattle.hlc_frame.specs.Frame.{front_bytes, sealed, frame_bytes, FrameFits}
 use Rattle.hlc_frame.specs.Opening.{front_at, sealed_at, frame_at, opened}

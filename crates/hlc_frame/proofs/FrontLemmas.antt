@@ -1,19 +1,14 @@
 -- A front is read from its twenty bytes alone: the bytes after it do not count, and fewer are no front.
-use Rattle.std.proofs.Common.{◌≡◌, ℕ, ◌<◌, ◌≤◌, Bool, true, false, cond, eqb, ltb, List, [], ◌++◌, length}
-use Rattle.std.proofs.Common.{take, drop, Result, Ok, Err, refl, sym, ap, subst, ◌∙◌, arith, inl, inr}
-use Rattle.std.specs.Int.{Width, w32, w64, byte_len, from_be_bytes, to_be_bytes}
-use Rattle.std.proofs.lemmas.Bool.{cases_lt, ltb-false, le-ltb, eqb-true}
-use Rattle.std.proofs.lemmas.List.{take-append-drop, take-append-le, drop-append-le}
-use Rattle.std.proofs.lemmas.List.{take_all, append-nil, nil_from_length}
-use Rattle.std.proofs.lemmas.List.{length-take, length-drop, length-append}
-use Rattle.hlc_wire.specs.declared.fault.WireFault.{WireFault}
-use Rattle.hlc_wire.specs.declared.fault.WireFault.TheVariants.{Short, Version}
+use Rattle.std.proofs.Common.{◌≡◌, ℕ, ◌<◌, ◌≤◌, Bool, true, false, cond, eqb, ltb, List, [], ◌++◌, length, take, drop}
+use Rattle.std.proofs.Common.{Result, Ok, Err, refl, sym, ap, subst, ◌∙◌, arith, inl, inr, w32, w64, ltb-false, le-ltb}
+use Rattle.std.proofs.Common.{eqb-true, take-append-drop, take_all, append-nil, length-take, length-drop, length-append}
+use Rattle.std.specs.Int.{Width, byte_len, from_be_bytes, to_be_bytes}
+use Rattle.std.proofs.lemmas.{Bool.cases_lt, List.take-append-le, List.drop-append-le, List.nil_from_length}
+use Rattle.hlc_wire.specs.declared.fault.WireFault.{WireFault, TheVariants.Short, TheVariants.Version}
 use Rattle.hlc_wire.specs.Reading.{◌>>=◌, number_at}
 use Rattle.hlc_wire.proofs.FieldLemmas.{bind_ok, guard_ok, guard_ended, ok_is, IsReader, IsBytes, Takes, Takes-then}
-use Rattle.hlc_wire.proofs.FieldLemmas.{wide32, wide64, number_reader}
-use Rattle.hlc_frame.specs.declared.front.Front.{Front}
-use Rattle.hlc_frame.specs.Frame.{front_bytes}
-use Rattle.hlc_frame.specs.Opening.{front_at}
+use Rattle.hlc_wire.proofs.FieldLemmas.{wide64, four, eight}
+use Rattle.hlc_frame.specs.{declared.front.Front.Front, Frame.front_bytes, Opening.front_at}
 
 -- a number, if there are enough bytes
 number_long : (w : Width) (a b : List ℕ) → byte_len w ≤ length a
@@ -156,17 +151,14 @@ pub length-front : (len tag : ℕ) → length (front_bytes len tag) ≡ 20
 unfolding front_bytes
 length-front len tag = refl
 
-abbrev eight : IsReader (number_at w64) (to_be_bytes w64) (λ n. n < 18446744073709551616)
-eight = number_reader w64 18446744073709551616 wide64
-
 front_takes : (bytes : List ℕ) (found : Front × List ℕ) → IsBytes bytes → front_at bytes ≡ Ok found
     → Takes bytes (front_text found.0) found.1 × FrontFits found.0
 unfolding front_bytes
 front_takes bytes found fits e =
     let p = front_parts bytes found e in
-    let t = (number_reader w32 4294967296 wide32).takes bytes p.version fits p.version_is in
-    let u = eight.takes p.version.1 p.len t.0.rest_fits p.len_is in
-    let v = eight.takes p.len.1 p.tag u.0.rest_fits p.tag_is in
+    let t = four.reads.takes bytes p.version fits p.version_is in
+    let u = eight.reads.takes p.version.1 p.len t.0.rest_fits p.len_is in
+    let v = eight.reads.takes p.len.1 p.tag u.0.rest_fits p.tag_is in
     let uv = Takes-then p.version.1 (to_be_bytes w64 p.len.0) p.len.1 (to_be_bytes w64 p.tag.0) p.tag.1 u.0 v.0 in
     let all' = Takes-then bytes (to_be_bytes w32 p.version.0) p.version.1
     (to_be_bytes w64 p.len.0 ++ to_be_bytes w64 p.tag.0) p.tag.1 t.0 uv in

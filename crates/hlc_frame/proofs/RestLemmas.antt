@@ -1,17 +1,13 @@
 -- After a block the reader has read the bytes before it and the block. At the end its result is that of reading all of
 -- them.
-use Rattle.std.proofs.Common.{◌≡◌, ℕ, ◌-◌, ◌<◌, ◌≤◌, Bool, true, false, cond, eqb, ltb, not, List, ◌++◌, length}
-use Rattle.std.proofs.Common.{take, drop, Result, Ok, Err, refl, sym, ap, subst, ◌∙◌, arith, append_assoc, inl, inr}
-use Rattle.std.specs.Prelude.{bytes_eq}
+use Rattle.std.proofs.Common.{◌≡◌, ℕ, ◌-◌, ◌<◌, ◌≤◌, Bool, true, false, cond, eqb, ltb, not, List, ◌++◌, length, take}
+use Rattle.std.proofs.Common.{drop, Result, Ok, Err, refl, sym, ap, subst, ◌∙◌, arith, append_assoc, inl, inr}
+use Rattle.std.{specs.Prelude.bytes_eq, proofs.lemmas.List.length-append, proofs.lemmas.List.length-take}
 use Rattle.std.proofs.lemmas.Bool.{cases_lt, lt-ltb, le-ltb, ltb-true, ltb-false, eq-eqb, ne_eqb}
-use Rattle.std.proofs.lemmas.List.{length-append, length-take}
-use Rattle.sha2.specs.Sha256.{sha256}
-use Rattle.sha2.specs.Hashers.{Holds256}
-use Rattle.hlc_wire.specs.declared.fault.WireFault.{WireFault}
+use Rattle.sha2.specs.{Sha256.sha256, Hashers.Holds256}
+use Rattle.hlc_wire.specs.{declared.fault.WireFault.WireFault, Reading.◌>>=◌, Reading.whole}
 use Rattle.hlc_wire.specs.declared.fault.WireFault.TheVariants.{Short, Damaged, Trailing}
-use Rattle.hlc_wire.specs.Reading.{◌>>=◌, whole}
-use Rattle.hlc_frame.specs.declared.rest.RestReader.{RestReader}
-use Rattle.hlc_frame.specs.Opening.{sealed_at}
+use Rattle.hlc_frame.specs.{declared.rest.RestReader.RestReader, Opening.sealed_at}
 use Rattle.hlc_frame.specs.Reading.{HasReadRest, tag_after}
 use Rattle.hlc_frame.proofs.ListLemmas.{take_over, drop_over, take_again, drop_again}
 

@@ -1,13 +1,10 @@
 -- A body and its digest, after a front.
-use Rattle.std.proofs.Common.{◌≡◌, ℕ, true, cond, ltb, List, ◌++◌, length}
-use Rattle.std.proofs.Common.{take, drop, Result, Ok, Err, refl, ap, subst, ◌∙◌, append_assoc}
-use Rattle.std.specs.Prelude.{bytes_eq}
-use Rattle.std.proofs.lemmas.Slice.Eq.{bytes_eq-Decides}
-use Rattle.std.proofs.lemmas.Cmp.{nat_list_eq_equiv}
+use Rattle.std.proofs.Common.{◌≡◌, ℕ, true, cond, ltb, List, ◌++◌, length, take, drop, Result, Ok, Err, refl, ap, subst}
+use Rattle.std.proofs.Common.{◌∙◌, append_assoc}
+use Rattle.std.{specs.Prelude.bytes_eq, proofs.lemmas.Slice.Eq.bytes_eq-Decides, proofs.lemmas.Cmp.nat_list_eq_equiv}
 use Rattle.sha2.specs.Sha256.{sha256}
 use Rattle.sha2.proofs.Facts256.{length-sha256}
-use Rattle.hlc_wire.specs.declared.fault.WireFault.{WireFault}
-use Rattle.hlc_wire.specs.declared.fault.WireFault.TheVariants.{Short, Damaged}
+use Rattle.hlc_wire.specs.declared.fault.WireFault.{WireFault, TheVariants.Short, TheVariants.Damaged}
 use Rattle.hlc_wire.specs.Reading.{◌>>=◌, bytes_at}
 use Rattle.hlc_wire.proofs.FieldLemmas.{bind_ok, bytes_reader, guard_ok, guard_ended, IsBytes, Takes, Takes-then}
 use Rattle.hlc_frame.specs.Opening.{sealed_at}

@@ -2,8 +2,7 @@
 use Rattle.std.specs.Prelude.{ℕ, List, ◌++◌, take, Result, Ok, Err, bytes_eq, ◌==◌, if◌then◌else◌}
 use Rattle.std.specs.Int.{w32, w64}
 use Rattle.sha2.specs.Sha256.{sha256}
-use Rattle.hlc_wire.specs.declared.fault.WireFault.{WireFault}
-use Rattle.hlc_wire.specs.declared.fault.WireFault.TheVariants.{Version, Damaged}
+use Rattle.hlc_wire.specs.declared.fault.WireFault.{WireFault, TheVariants.Version, TheVariants.Damaged}
 use Rattle.hlc_wire.specs.Reading.{◌>>=◌, number_at, bytes_at, whole}
 use Rattle.hlc_frame.specs.declared.front.Front.{Front}
 

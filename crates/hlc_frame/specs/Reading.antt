@@ -1,12 +1,9 @@
 -- A frame that is read in blocks of any size.
-use Rattle.std.specs.Prelude.{◌≡◌, ℕ, ◌-◌, List, [], ◌++◌, length, take, drop, nat_lt, Option, Some, None}
-use Rattle.std.specs.Prelude.{Result, Ok, Err}
+use Rattle.std.specs.Prelude.{◌≡◌, ℕ, ◌-◌, List, [], ◌++◌, length, take, drop, nat_lt, Option, Some, None, Result, Ok}
+use Rattle.std.specs.Prelude.{Err}
 use Rattle.sha2.specs.Hashers.{Holds256}
-use Rattle.hlc_wire.specs.declared.fault.WireFault.{WireFault}
-use Rattle.hlc_wire.specs.Reading.{◌>>=◌, whole}
-use Rattle.hlc_frame.specs.declared.front.Front.{Front}
-use Rattle.hlc_frame.specs.declared.rest.RestReader.{RestReader}
-use Rattle.hlc_frame.specs.declared.reader.FrameReader.{FrameReader}
+use Rattle.hlc_wire.specs.{declared.fault.WireFault.WireFault, Reading.◌>>=◌, Reading.whole}
+use Rattle.hlc_frame.specs.declared.{front.Front.Front, rest.RestReader.RestReader, reader.FrameReader.FrameReader}
 use Rattle.hlc_frame.specs.Opening.{front_at, sealed_at, opened}
 
 -- the part of the body that follows a front: nothing if there is no front

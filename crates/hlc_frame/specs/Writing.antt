@@ -1,9 +1,7 @@
 -- A frame that is written in pieces.
 use Rattle.std.specs.Prelude.{ℕ, List, ◌++◌, flat_map}
-use Rattle.sha2.specs.Sha256.{sha256}
-use Rattle.sha2.specs.Hashers.{Holds256}
-use Rattle.hlc_frame.specs.declared.writer.FrameWriter.{FrameWriter}
-use Rattle.hlc_frame.specs.Frame.{front_bytes}
+use Rattle.sha2.specs.{Sha256.sha256, Hashers.Holds256}
+use Rattle.hlc_frame.specs.{declared.writer.FrameWriter.FrameWriter, Frame.front_bytes}
 
 -- the writer has hashed this front, and pieces that make this body
 abbrev pub HasPut : FrameWriter → List ℕ → List ℕ → Type 0

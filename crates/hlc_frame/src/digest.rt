@@ -1,7 +1,6 @@
 //! The digest of a frame.
 ghost use Rattle.std.specs.Prelude.{◌≡◌, ◌++◌, ℕ, List, bytes_eq};
-ghost use Rattle.sha2.specs.Sha256.{sha256};
-ghost use Rattle.sha2.specs.Hashers.{Holds256};
+ghost use Rattle.sha2.specs.{Sha256.sha256, Hashers.Holds256};
 
 use sha2::{Digest, Sha256};
 

@@ -1,8 +1,7 @@
 //! The front of a frame.
 ghost use Rattle.std.specs.Prelude.{◌≡◌};
 ghost use Rattle.hlc_wire.specs.Reading.{Reads};
-ghost use Rattle.hlc_frame.specs.Frame.{front_bytes};
-ghost use Rattle.hlc_frame.specs.Opening.{front_at};
+ghost use Rattle.hlc_frame.specs.{Frame.front_bytes, Opening.front_at};
 
 use hlc_wire::{WireFault, u32_at, u64_at};
 

@@ -1,8 +1,7 @@
 //! What is true of frames, whatever their bodies.
 ghost use Rattle.std.specs.Prelude.{◌≡◌, ◌++◌, ◌<◌, ℕ, List, Ok, length, slice_index};
-ghost use Rattle.hlc_frame.specs.Frame.{frame_bytes, FrameFits};
+ghost use Rattle.hlc_frame.specs.{Frame.frame_bytes, Frame.FrameFits, Writing.joined, Writing.written};
 ghost use Rattle.hlc_frame.specs.Reading.{body_so_far, tag_of};
-ghost use Rattle.hlc_frame.specs.Writing.{joined, written};
 
 /// A front, pieces with the length in the front, and the digest are a frame.
 pub fn pieces_are_the_frame()

@@ -1,8 +1,7 @@
 //! A frame, written in pieces.
 ghost use Rattle.std.specs.Prelude.{◌≡◌, ◌+◌, ◌++◌, List, ℕ, [], IfOk, OnOk, OnErr, length};
 ghost use Rattle.sha2.specs.Sha256.{sha256};
-ghost use Rattle.hlc_frame.specs.Frame.{front_bytes};
-ghost use Rattle.hlc_frame.specs.Writing.{HasPut};
+ghost use Rattle.hlc_frame.specs.{Frame.front_bytes, Writing.HasPut};
 
 use crate::front::front_of;
 use sha2::{Digest, Sha256};

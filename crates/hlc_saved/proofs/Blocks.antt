@@ -1,29 +1,22 @@
 -- A checkpoint that is read in blocks is the one that is read at once.
-use Rattle.std.proofs.Common.{◌≡◌, ℕ, ◌+◌, ◌-◌, ◌<◌, ◌≤◌, cond, List, [], ◌++◌, length, take, drop}
-use Rattle.std.proofs.Common.{Result, Ok, Err, refl, sym, ap, subst, ◌∙◌, arith, append_assoc, inl, inr, length-append}
-use Rattle.std.specs.Prelude.{OnOk, OnErr}
-use Rattle.std.specs.Result.{is_ok}
-use Rattle.std.proofs.lemmas.Bool.{cases_lt}
-use Rattle.std.proofs.lemmas.List.{append-nil, take-append-drop, take-append-le, length-take, length-drop}
-use Rattle.std.proofs.lemmas.List.{get_or_append_left, get_or-append_right}
-use Rattle.hlc_wire.specs.declared.fault.WireFault.{WireFault}
-use Rattle.hlc_wire.specs.Reading.{◌>>=◌, whole}
+use Rattle.std.proofs.Common.{◌≡◌, ℕ, ◌+◌, ◌-◌, ◌<◌, ◌≤◌, cond, List, [], ◌++◌, length, take, drop, Result, Ok, Err}
+use Rattle.std.proofs.Common.{refl, sym, ap, subst, ◌∙◌, arith, append_assoc, inl, inr, length-append, OnOk, OnErr}
+use Rattle.std.proofs.Common.{is_ok, append-nil, take-append-drop, length-take, length-drop}
+use Rattle.std.proofs.lemmas.{Bool.cases_lt, List.take-append-le, List.get_or_append_left, List.get_or-append_right}
+use Rattle.hlc_wire.specs.{declared.fault.WireFault.WireFault, Reading.◌>>=◌, Reading.whole}
 use Rattle.hlc_wire.proofs.FieldLemmas.{IsBytes, bind_ok, ok_is, done}
-use Rattle.hlc_frame.specs.declared.front.Front.{Front}
-use Rattle.hlc_frame.specs.Opening.{front_at, opened}
+use Rattle.hlc_frame.specs.{declared.front.Front.Front, Opening.front_at, Opening.opened}
 use Rattle.hlc_frame.specs.Reading.{body_after, body_so_far, tag_of}
-use Rattle.hlc_frame.specs.Reading as frames
 use Rattle.hlc_frame.proofs.ListLemmas.{drop_over}
 use Rattle.hlc_frame.proofs.FrontLemmas.{with_rest}
 use Rattle.hlc_frame.proofs.BlockLemmas.{body_cut}
 use Rattle.hlc_frame.proofs.FrameLemmas.{opened_body}
-use Rattle.hlc_saved.specs.declared.stage.Stage.{Stage}
-use Rattle.hlc_saved.specs.declared.stage.Stage.TheVariants as stages
-use Rattle.hlc_saved.specs.declared.parts.PartsReader.{PartsReader}
-use Rattle.hlc_saved.specs.declared.reader.CheckpointReader.{CheckpointReader}
+use Rattle.hlc_saved.specs.declared.{stage.Stage.Stage, parts.PartsReader.PartsReader}
+use Rattle.hlc_saved.{specs.declared.reader.CheckpointReader.CheckpointReader, proofs.Stages.dropped_back}
 use Rattle.hlc_body.specs.Reading.{checkpoint_at, saved}
 use Rattle.hlc_saved.specs.Blocks.{Reader, Leaves, PartsLeave, HasRead, rows_after}
-use Rattle.hlc_saved.proofs.Stages.{dropped_back}
+use Rattle.hlc_frame.specs.Reading as frames
+use Rattle.hlc_saved.specs.declared.stage.Stage.TheVariants as stages
 
 -- ---- the pending bytes
 

@@ -1,28 +1,23 @@
 -- What never falls while a store goes on, and what is the same if nothing rose: the links, and the open snapshots if
 -- none was opened; and then there are no more rows, and as many only if the whole state is the same.
-use Rattle.std.proofs.Common.{◌≡◌, ◌≢◌, ℕ, ◌+◌, ◌<◌, ◌≤◌, List, [], ◌∷◌, length, get_or, not, zero, suc}
-use Rattle.std.proofs.Common.{None, refl, ap, sym, ◌∙◌, inl, inr, arith}
-use Rattle.std.proofs.lemmas.Bool.{cond-true, cond-false, eq-eqb, ne_eqb, cases_eq}
-use Rattle.std.proofs.lemmas.List.{ext_get_or, nil_from_length}
-use Rattle.std.proofs.lemmas.List.Sums.{sum_by-cons}
-use Rattle.std.proofs.lemmas.Option.{get_or_from_slice_get}
+use Rattle.std.proofs.Common.{◌≡◌, ◌≢◌, ℕ, ◌+◌, ◌<◌, ◌≤◌, List, [], ◌∷◌, length, get_or, not, zero, suc, None, refl, ap}
+use Rattle.std.proofs.Common.{sym, ◌∙◌, inl, inr, arith, eq-eqb, ne_eqb, ext_get_or}
+use Rattle.std.proofs.lemmas.Bool.{cond-true, cond-false, cases_eq}
+use Rattle.std.proofs.lemmas.{List.nil_from_length, List.Sums.sum_by-cons, Option.get_or_from_slice_get}
 use Rattle.hlc_intake.specs.IntakeView.{IntakeView}
 use Rattle.hlc_heads.specs.Heads.{a_link, no_link}
 use Rattle.hlc_node.specs.declared.item.Item.{Item}
-use Rattle.hlc_snapshot.specs.declared.snapshot.Snapshot.{Snapshot}
-use Rattle.hlc_snapshot.specs.RegistryView.{stamp_in, without}
+use Rattle.hlc_snapshot.specs.{declared.snapshot.Snapshot.Snapshot, RegistryView.stamp_in, RegistryView.without}
 use Rattle.hlc_snapshot.proofs.RegisterLemmas.{stamp_in-miss}
 use Rattle.hlc_vacuum.specs.Representing.{IsWithin}
 use Rattle.hlc_vacuum.proofs.WithinLemmas.{within-fewer, within-all}
-use Rattle.hlc_core.specs.Past.{Step, Took, Joined, Opened, Closed, Vacuumed, PartVacuumed, count, head, retired, numbered}
-use Rattle.hlc_core.specs.Past.{horizon}
-use Rattle.hlc_core.specs.StoreView.{StoreView, AreLinks, Represents, with_rows, with_rows_left}
-use Rattle.hlc_core.specs.StoreView.{without_snapshots}
+use Rattle.hlc_core.specs.Past.{Step, Took, Joined, Opened, Closed, Vacuumed, PartVacuumed, count, head, retired}
+use Rattle.hlc_core.specs.Past.{numbered, horizon}
+use Rattle.hlc_core.specs.StoreView.{StoreView, AreLinks, Represents, with_rows, with_rows_left, without_snapshots}
 use Rattle.hlc_core.proofs.PastLemmas.{inside, vacuum-above}
 use Rattle.hlc_core.specs.GoneOn.{HasGoneOn, unchanged, accepted, joined, opened, closed, all_closed, vacuumed}
 use Rattle.hlc_core.specs.GoneOn.{part_vacuumed, later}
-use Rattle.hlc_saved.specs.Saver.{items_in, mark_of}
-use Rattle.hlc_saved.specs.declared.mark.Mark.{Mark}
+use Rattle.hlc_saved.specs.{Saver.items_in, Saver.mark_of, declared.mark.Mark.Mark}
 
 -- a node's link has the number of its accepted items
 links-next : (past : List Step) (links : List IntakeView) → AreLinks past links → (n : ℕ) → n < length links

@@ -1,16 +1,11 @@
 -- The rows of the next keys follow those of the keys so far.
-use Rattle.std.proofs.Common.{◌≡◌, ℕ, zero, suc, ◌-◌, ◌<◌, List, [], ◌∷◌, ◌++◌, length, cond, Bool}
-use Rattle.std.proofs.Common.{true, false, refl, sym, ap, subst, ◌∙◌, inl, inr, arith, append_assoc, Contains}
-use Rattle.std.proofs.Common.{IsPermutation, nat_cmp, Ordering, Less, Equal, Greater, filter, ◌&&◌, get_or}
-use Rattle.std.specs.Prelude.{All, ◌⊎◌, not, nat_lt, Some, None}
-use Rattle.std.specs.Ordering.{is_le, is_gt, ordering_reverse}
-use Rattle.std.specs.Cmp.Lexicographic.{slice_cmp}
-use Rattle.std.specs.BTreeMap.Comparable.{le_lt_trans}
-use Rattle.std.specs.List.Sorted.{IsStrictlySortedBy}
-use Rattle.std.proofs.lemmas.Cmp.{nat_list_cmp_total}
-use Rattle.std.specs.List.{flat_map}
-use Rattle.std.proofs.lemmas.List.{append-nil, length-map}
-use Rattle.std.proofs.lemmas.List.Elements.{All-head, All-tail}
+use Rattle.std.proofs.Common.{◌≡◌, ℕ, zero, suc, ◌-◌, ◌<◌, List, [], ◌∷◌, ◌++◌, length, cond, Bool, true, false, refl}
+use Rattle.std.proofs.Common.{sym, ap, subst, ◌∙◌, inl, inr, arith, append_assoc, Contains, IsPermutation, nat_cmp}
+use Rattle.std.proofs.Common.{Ordering, Less, Equal, Greater, filter, ◌&&◌, get_or, All, ◌⊎◌, not, nat_lt, Some, None}
+use Rattle.std.proofs.Common.{is_le, is_gt, flat_map, append-nil}
+use Rattle.std.specs.{Ordering.ordering_reverse, Cmp.Lexicographic.slice_cmp}
+use Rattle.std.specs.{BTreeMap.Comparable.le_lt_trans, List.Sorted.IsStrictlySortedBy}
+use Rattle.std.proofs.lemmas.{Cmp.nat_list_cmp_total, List.length-map, List.Elements.All-head, List.Elements.All-tail}
 use Rattle.std.proofs.lemmas.List.Sorted.{IsPermutation-refl, IsPermutation-sym, IsPermutation-trans}
 use Rattle.std.proofs.lemmas.List.Sorted.{IsPermutation-cons, IsPermutation-append, IsPermutation-append_left}
 use Rattle.std.proofs.lemmas.List.Sorted.{IsPermutation-to_front, IsPermutation-filter_both, Contains-permutation}

@@ -1,13 +1,10 @@
 -- The part before the rows, the rows and the digest are all of the bytes.
 use Rattle.std.proofs.Common.{◌≡◌, ℕ, List, [], ◌∷◌, ◌++◌, length, take, get_or, drop, sym, ap, ap₂, subst, ◌∙◌}
-use Rattle.std.proofs.Common.{append_assoc, ◌<◌, ◌+◌}
-use Rattle.std.specs.List.{flat_map}
-use Rattle.std.proofs.lemmas.List.{take_more, drop_at, append-nil}
+use Rattle.std.proofs.Common.{append_assoc, ◌<◌, ◌+◌, flat_map, drop_at, append-nil}
+use Rattle.std.proofs.lemmas.List.{take_more}
 use Rattle.hlc_rows.specs.declared.row.Row.{Row}
 use Rattle.hlc_core.specs.StoreView.{StoreView}
-use Rattle.hlc_frame.specs.Frame.{front_bytes}
-use Rattle.hlc_frame.specs.Writing.{HasPut}
-use Rattle.hlc_frame.specs.declared.writer.FrameWriter.{FrameWriter}
+use Rattle.hlc_frame.specs.{Frame.front_bytes, Writing.HasPut, declared.writer.FrameWriter.FrameWriter}
 use Rattle.hlc_frame.proofs.FrontLemmas.{length-front}
 use Rattle.hlc_body.specs.Spelling.{row_bytes, Preamble, preamble_bytes, preamble_of, checkpoint_bytes, saved_bytes}
 use Rattle.hlc_saved.specs.Writing.{front_of, body_to, begin_bytes, end_bytes}

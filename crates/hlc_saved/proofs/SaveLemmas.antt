@@ -2,26 +2,19 @@
 -- one tag and one checkpoint.
 use Rattle.std.proofs.Common.{◌≡◌, ℕ, ◌+◌, ◌<◌, List, [], ◌++◌, length, take, get_or, Result, Ok, Err, refl, sym, ap}
 use Rattle.std.proofs.Common.{subst, ◌∙◌, arith, inl, inr}
-use Rattle.std.specs.Prelude.{IfOk, IfErr}
-use Rattle.std.proofs.lemmas.Bool.{cases_lt}
+use Rattle.std.{specs.Prelude.IfOk, specs.Prelude.IfErr, proofs.lemmas.Bool.cases_lt}
 use Rattle.std.proofs.lemmas.List.{append-nil, take_at, drop_at, get_or-take, get_or-drop, get_or_past}
 use Rattle.sha2.specs.Sha256.{sha256}
-use Rattle.hlc_core.specs.Past.{Step}
-use Rattle.hlc_core.specs.StoreView.{StoreView, Represents}
+use Rattle.hlc_core.specs.{Past.Step, StoreView.StoreView, StoreView.Represents}
 use Rattle.hlc_checkpoint.specs.Checkpoint.{IsCheckpoint, IsCopyOf}
 use Rattle.hlc_checkpoint.proofs.CheckpointLemmas.{sound-has_no_reason}
 use Rattle.hlc_core.proofs.CheckpointLemmas.{copy-represents}
-use Rattle.hlc_wire.specs.declared.fault.WireFault.{WireFault}
-use Rattle.hlc_wire.specs.declared.fault.DecodeError.{DecodeError}
+use Rattle.hlc_wire.specs.declared.fault.{WireFault.WireFault, DecodeError.DecodeError}
 use Rattle.hlc_wire.specs.Reading.{◌>>=◌, Gives, whole}
 use Rattle.hlc_wire.proofs.FieldLemmas.{IsBytes, bind_ok, ok_is, whole_takes, whole_again}
-use Rattle.hlc_frame.specs.Frame.{front_bytes, frame_bytes, FrameFits}
-use Rattle.hlc_frame.specs.Opening.{opened}
-use Rattle.hlc_frame.specs.Reading.{tag_of}
+use Rattle.hlc_frame.specs.{Frame.front_bytes, Frame.frame_bytes, Frame.FrameFits, Opening.opened, Reading.tag_of}
 use Rattle.hlc_frame.proofs.FrameLemmas.{opened_is_frame, frame_is_opened}
-use Rattle.hlc_saved.specs.declared.decode.Decoded.{Decoded}
-use Rattle.hlc_saved.specs.declared.saving.Resumed.{Resumed}
-use Rattle.hlc_saved.specs.declared.fault.ResumeError.{ResumeError}
+use Rattle.hlc_saved.specs.declared.{decode.Decoded.Decoded, saving.Resumed.Resumed, fault.ResumeError.ResumeError}
 use Rattle.hlc_saved.specs.declared.fault.ResumeError.TheVariants.{NoMemory, Bytes, Parts}
 use Rattle.hlc_body.specs.Spelling.{checkpoint_bytes, saved_bytes, CheckpointFits, SavedFits}
 use Rattle.hlc_body.specs.Reading.{checkpoint_at, saved}

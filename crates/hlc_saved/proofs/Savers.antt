@@ -3,35 +3,25 @@ use Rattle.std.proofs.Common.{◌≡◌, ℕ, zero, suc, ◌+◌, ◌-◌, ◌<�
 use Rattle.std.proofs.Common.{Bool, true, false, refl, sym, ap, ap₂, subst, ◌∙◌, inl, inr, arith, append_assoc}
 use Rattle.std.proofs.Common.{zero-add, length-append, IsPermutation, nat_cmp, filter, min, Option, None}
 use Rattle.std.specs.Prelude.{◌⊎◌, nat_lt, OnOk, Result, Ok, Err, is_err}
-use Rattle.std.specs.List.{flat_map}
-use Rattle.std.specs.List.Sorted.{IsStrictlySortedBy}
-use Rattle.std.specs.Ordering.{is_le}
-use Rattle.std.specs.Cmp.Lexicographic.{slice_cmp}
+use Rattle.std.specs.{List.flat_map, List.Sorted.IsStrictlySortedBy, Ordering.is_le, Cmp.Lexicographic.slice_cmp}
 use Rattle.std.proofs.Math.Seq.{take-append_seam, drop-append_seam, drop-nil}
-use Rattle.std.proofs.lemmas.Bool.{cases_eq, cases_lt}
-use Rattle.std.proofs.lemmas.Grind.{flat_map-append}
+use Rattle.std.proofs.lemmas.{Bool.cases_eq, Bool.cases_lt, Grind.flat_map-append}
 use Rattle.std.proofs.lemmas.List.{append-nil, append_cancel_left, drop_all, length-drop, length-take, take-append-drop}
-use Rattle.std.proofs.lemmas.List.Elements.{All-head, All-tail}
-use Rattle.std.proofs.lemmas.List.Sorted.{IsPermutation-refl}
+use Rattle.std.proofs.lemmas.List.{Elements.All-head, Elements.All-tail, Sorted.IsPermutation-refl}
 use Rattle.sha2.specs.Sha256.{sha256}
 use Rattle.sha2.proofs.Facts256.{length-sha256}
-use Rattle.hlc_rows.specs.declared.row.Row.{Row}
-use Rattle.hlc_rows.specs.Limits.{write_refusal}
+use Rattle.hlc_rows.specs.{declared.row.Row.Row, Limits.write_refusal}
 use Rattle.hlc_table_column.specs.Rows.{KeyCells}
 use Rattle.hlc_columns.specs.Answers.{AreNext, last_key}
 use Rattle.hlc_witness.specs.Cost.{IsInLimits, AreInLimits}
 use Rattle.hlc_core.specs.StoreView.{StoreView}
-use Rattle.hlc_frame.specs.Frame.{front_bytes}
-use Rattle.hlc_frame.specs.Writing.{HasPut}
+use Rattle.hlc_frame.specs.{Frame.front_bytes, Writing.HasPut}
 use Rattle.hlc_frame.proofs.FrontLemmas.{length-front}
 use Rattle.hlc_body.specs.Spelling.{row_bytes, preamble_bytes, preamble_of, checkpoint_bytes, saved_bytes}
-use Rattle.hlc_saved.specs.declared.savings.Saver.{Saver}
-use Rattle.hlc_saved.specs.declared.store_writer.StoreWriter.{StoreWriter}
-use Rattle.hlc_saved.specs.Saved.{AreOfStore}
-use Rattle.hlc_saved.specs.Saver.{HasMade, mark_of, rows_upto, bytes_upto}
+use Rattle.hlc_saved.specs.declared.{savings.Saver.Saver, store_writer.StoreWriter.StoreWriter}
+use Rattle.hlc_saved.specs.{Saved.AreOfStore, Saver.HasMade, Saver.mark_of, Saver.rows_upto, Saver.bytes_upto}
 use Rattle.hlc_saved.specs.Writing.{front_of, body_to, begin_bytes, HasColumns, HasSaved}
-use Rattle.hlc_saved.proofs.Makes.{rows_follow, rows_all}
-use Rattle.hlc_saved.proofs.StorePieces.{sorted_whole}
+use Rattle.hlc_saved.proofs.{Makes.rows_follow, Makes.rows_all, StorePieces.sorted_whole}
 
 -- ---- the start
 

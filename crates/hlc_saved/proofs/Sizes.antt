@@ -1,15 +1,10 @@
 -- The number of bytes of the parts of a checkpoint.
-use Rattle.std.proofs.Common.{◌≡◌, ℕ, ◌+◌, ◌*◌, ◌<◌, ◌≤◌, Bool, true, false, List, [], ◌∷◌, ◌++◌, length, take}
-use Rattle.std.proofs.Common.{get_or, refl, ap₂, slice_get, Some}
-use Rattle.std.proofs.Common.{sym, ap, subst, ◌∙◌, arith, length-append}
-use Rattle.std.specs.List.{flat_map}
-use Rattle.std.specs.Prelude.{Option, SomeIff}
-use Rattle.std.specs.Int.{w16, w64, to_be_bytes}
+use Rattle.std.proofs.Common.{◌≡◌, ℕ, ◌+◌, ◌*◌, ◌<◌, ◌≤◌, Bool, true, false, List, [], ◌∷◌, ◌++◌, length, take, get_or}
+use Rattle.std.proofs.Common.{refl, ap₂, slice_get, Some, sym, ap, subst, ◌∙◌, arith, length-append}
+use Rattle.std.specs.{List.flat_map, Prelude.Option, Prelude.SomeIff, Int.w16, Int.w64, Int.to_be_bytes}
 use Rattle.std.proofs.lemmas.Grind.{flat_map-append}
-use Rattle.std.proofs.lemmas.List.{append-nil, take_more}
-use Rattle.std.proofs.lemmas.List.Concat.{flat_map-cons}
+use Rattle.std.proofs.lemmas.List.{append-nil, Concat.flat_map-cons, Folds.length-flat_map-take}
 use Rattle.std.proofs.lemmas.List.Elements.{All-nil, All-cons, All-append}
-use Rattle.std.proofs.lemmas.List.Folds.{length-flat_map-take}
 use Rattle.hlc_rows.specs.declared.row.Row.{Row}
 use Rattle.hlc_table_column.specs.Rows.{KeyCells, rows_in, rows_in_one}
 use Rattle.hlc_columns.specs.Table.{columns_in}
@@ -79,9 +74,6 @@ all_take kept rows before a b =
 
 -- ---- the rows of a store
 
-pub sized_none : AreOfSize [] 0
-sized_none = record { bytes = refl; fits = All-nil RowFits }
-
 sized_append : (rows more : List Row) (a b : ℕ) → AreOfSize rows a → AreOfSize more b → AreOfSize (rows ++ more) (a + b)
 sized_append rows more a b so also = record {
   bytes = ap₂ (λ (m n : ℕ). m + n) so.bytes also.bytes
@@ -124,16 +116,6 @@ sized_leaf leaves i leaf a b at so also =
 pub some_iff : (r : Option ℕ) (n m : ℕ) → n ≡ m → SomeIff r (n < 18446744073709551616) n
     → SomeIff r (m < 18446744073709551616) m
 some_iff r n m e h = subst (λ (k : ℕ). SomeIff r (k < 18446744073709551616) k) e h
-
--- one more
-pub size_on : {A : Type 0} (spell : A → List ℕ) (xs : List A) (i : ℕ) (x : A) → i < length xs → x ≡ get_or xs i x
-    → length (flat_map spell (take i xs)) + length (spell x) ≡ length (flat_map spell (take (i + 1) xs))
-size_on spell xs i x lt is =
-    let more : flat_map spell (take i xs) ++ spell x ≡ flat_map spell (take (i + 1) xs) =
-    ap (λ t. flat_map spell (take i xs) ++ t) (sym (append-nil (spell x)))
-    ∙ sym (flat_map-append spell (take i xs) (x ∷ []))
-    ∙ ap (flat_map spell) (sym (take_more xs i x lt ∙ ap (λ y. take i xs ++ y ∷ []) (sym is))) in
-    sym (length-append (flat_map spell (take i xs)) (spell x)) ∙ ap length more
 
 pub size_within : {A : Type 0} (spell : A → List ℕ) (xs : List A) (i : ℕ) (x : A) → i < length xs → x ≡ get_or xs i x
     → length (flat_map spell (take i xs)) + length (spell x) ≤ length (flat_map spell xs)

@@ -1,23 +1,20 @@
 -- What is left to read does not change when a row is read, and when no more is.
-use Rattle.std.proofs.Common.{◌≡◌, ◌≢◌, ℕ, suc, ◌-◌, ◌+◌, ◌<◌, List, [], ◌∷◌, ◌++◌, length, Result, Ok, Err, refl}
-use Rattle.std.proofs.Common.{eqb, true, false, subst, sym, ap, ◌∙◌, append_assoc, arith, length-append, drop}
+use Rattle.std.proofs.Common.{◌≡◌, ◌≢◌, ℕ, suc, ◌-◌, ◌+◌, ◌<◌, List, [], ◌∷◌, ◌++◌, length, Result, Ok, Err, refl, eqb}
+use Rattle.std.proofs.Common.{true, false, subst, sym, ap, ◌∙◌, append_assoc, arith, length-append, drop}
 use Rattle.std.proofs.lemmas.List.{append-nil, drop_at, get_or-drop}
 use Rattle.hlc_rows.specs.declared.row.Row.{Row}
 use Rattle.hlc_core.specs.StoreView.{StoreView}
-use Rattle.hlc_wire.specs.declared.fault.WireFault.{WireFault}
-use Rattle.hlc_wire.specs.declared.fault.WireFault.TheVariants.{Short, Trailing}
-use Rattle.hlc_checkpoint.specs.Growing.{GrowingView, HasGrown, with_row}
-use Rattle.hlc_checkpoint.specs.StoreView.{with_rows}
-use Rattle.hlc_wire.specs.declared.fault.DecodeError.TheVariants as errors
+use Rattle.hlc_wire.specs.declared.fault.WireFault.{WireFault, TheVariants.Short, TheVariants.Trailing}
+use Rattle.hlc_checkpoint.specs.{Growing.GrowingView, Growing.HasGrown, Growing.with_row, StoreView.with_rows}
 use Rattle.hlc_wire.specs.Reading.{◌>>=◌, whole}
 use Rattle.hlc_wire.proofs.FieldLemmas.{IsBytes}
 use Rattle.hlc_body.specs.Spelling.{Preamble, kept_of, row_bytes, preamble_bytes}
 use Rattle.hlc_body.specs.Reading.{row_at, times_at, preamble_at, checkpoint_at}
 use Rattle.hlc_saved.specs.declared.stage.Stage.{Stage}
+use Rattle.hlc_saved.specs.Blocks.{Reader, RowsLeave, Leaves, NextFails, rows_after}
+use Rattle.hlc_body.proofs.PartLemmas.{row_field, preamble_field}
+use Rattle.hlc_wire.specs.declared.fault.DecodeError.TheVariants as errors
 use Rattle.hlc_saved.specs.declared.stage.Stage.TheVariants as stages
-use Rattle.hlc_saved.specs.Blocks.{Reader, RowsLeave, Leaves, NextFails, IsStuck, rows_after}
-use Rattle.hlc_body.proofs.PartLemmas.{row_reader, preamble_reader}
-use Rattle.hlc_body.proofs.SteadyLemmas.{row_steady, preamble_steady}
 
 abbrev rows_read : StoreView → Result (List Row × List ℕ) WireFault → Result (StoreView × List ℕ) WireFault
 rows_read kept read = read >>= λ others. Ok (with_rows kept (kept.rows ++ others.0), others.1)
@@ -34,7 +31,7 @@ pub rows_on : (kept : StoreView) (left : ℕ) (row : Row) (rest after more : Lis
     → rows_after kept left (rest ++ more) ≡ rows_after (with_row kept row) (left - 1) (after ++ more)
 unfolding rows_after times_at
 rows_on kept left row rest after more lt read =
-    let longer = row_steady.more rest more (row, after) read in
+    let longer = row_field.steady.more rest more (row, after) read in
     let k : left ≡ suc (left - 1) = omega arith in
     ap (λ (n : ℕ). rows_read kept (times_at row_at n (rest ++ more))) k
     ∙ rw longer (one_more kept row (times_at row_at (left - 1) (after ++ more)))
@@ -57,7 +54,7 @@ pub begun : (preamble : Preamble) (bytes rest more : List ℕ) → preamble_at b
     → rows_after (kept_of preamble []) preamble.count (rest ++ more) ≡ checkpoint_at (bytes ++ more)
 unfolding rows_after checkpoint_at
 begun preamble bytes rest more read =
-    let longer = preamble_steady.more bytes more (preamble, rest) read in rw longer refl
+    let longer = preamble_field.steady.more bytes more (preamble, rest) read in rw longer refl
 
 -- it was not read
 pub not_begun : (bytes : List ℕ) (fault : WireFault) → preamble_at bytes ≡ Err fault → checkpoint_at bytes ≡ Err fault
@@ -86,27 +83,21 @@ pub stays_wrong : (stage : Stage) (bytes : List ℕ) (fault : WireFault) (read :
     → NextFails stage (errors.Fault fault) bytes → fault ≢ Short → Leaves stage bytes read
     → Leaves (stages.Wrong fault) bytes read
 stays_wrong stages.Start bytes fault read fails not has = λ more.
-    sym (not_begun (bytes ++ more) fault (preamble_steady.wrong bytes more fault fails not)) ∙ has more
+    sym (not_begun (bytes ++ more) fault (preamble_field.steady.wrong bytes more fault fails not)) ∙ has more
 stays_wrong (stages.Rows growing left) bytes fault read fails not has = λ more.
-    sym (rows_fail has.0 left (bytes ++ more) fault fails.0 (row_steady.wrong bytes more fault fails.1 not))
+    sym (rows_fail has.0 left (bytes ++ more) fault fails.0 (row_field.steady.wrong bytes more fault fails.1 not))
     ∙ has.2 more
 stays_wrong (stages.Wrong wrong) bytes fault read fails not has = absurd fails
-
--- with Short, nothing more is read
-pub stays_short : (stage : Stage) (bytes : List ℕ) → NextFails stage (errors.Fault Short) bytes → IsStuck stage bytes
-stays_short stages.Start bytes fails = fails
-stays_short (stages.Rows growing left) bytes fails = λ lt. fails.1
-stays_short (stages.Wrong wrong) bytes fails = tt
 
 -- the bytes after a row, and after the part before the rows, are the last ones
 pub row_back : (bytes : List ℕ) (row : Row) (rest : List ℕ) → IsBytes bytes → row_at bytes ≡ Ok (row, rest)
     → (front : List ℕ) × (bytes ≡ front ++ rest)
-row_back bytes row rest fits read = (row_bytes row, (row_reader.takes bytes (row, rest) fits read).0.parts)
+row_back bytes row rest fits read = (row_bytes row, (row_field.reads.takes bytes (row, rest) fits read).0.parts)
 
 pub preamble_back : (bytes : List ℕ) (preamble : Preamble) (rest : List ℕ) → IsBytes bytes
     → preamble_at bytes ≡ Ok (preamble, rest) → (front : List ℕ) × (bytes ≡ front ++ rest)
 preamble_back bytes preamble rest fits read =
-    (preamble_bytes preamble, (preamble_reader.takes bytes (preamble, rest) fits read).0.parts)
+    (preamble_bytes preamble, (preamble_field.reads.takes bytes (preamble, rest) fits read).0.parts)
 
 pub back_again : (bytes rest after : List ℕ) → (front : List ℕ) × (bytes ≡ front ++ rest)
     → (front : List ℕ) × (rest ≡ front ++ after) → (front : List ℕ) × (bytes ≡ front ++ after)

@@ -1,33 +1,24 @@
 -- The rows of the leaves of a store, one leaf after another, are those of a checkpoint of it.
-use Rattle.std.proofs.Common.{◌≡◌, ℕ, ◌+◌, ◌<◌, List, [], ◌∷◌, ◌++◌, length, take, drop, Some, slice_get}
-use Rattle.std.proofs.Common.{refl, sym, ap, ap₂, subst, ◌∙◌, arith, append_assoc, length-append, IsPermutation}
-use Rattle.std.specs.Prelude.{All, OnErr, Result, Ok, Err}
-use Rattle.std.specs.List.{flat_map}
-use Rattle.std.proofs.lemmas.Grind.{flat_map-append}
-use Rattle.std.proofs.lemmas.Option.{slice_get_within, get_or_from_slice_get}
-use Rattle.std.proofs.lemmas.List.{append-nil, drop_at, take_all, take_more}
-use Rattle.std.proofs.lemmas.List.Concat.{length-flat_map}
-use Rattle.std.proofs.lemmas.List.Elements.{All-get_or}
+use Rattle.std.proofs.Common.{◌≡◌, ℕ, ◌+◌, ◌<◌, List, [], ◌∷◌, ◌++◌, length, take, drop, Some, slice_get, refl, sym, ap}
+use Rattle.std.proofs.Common.{ap₂, subst, ◌∙◌, arith, append_assoc, length-append, IsPermutation, All, OnErr, Result}
+use Rattle.std.proofs.Common.{Ok, Err, flat_map, append-nil, drop_at, take_all}
+use Rattle.std.proofs.lemmas.{Grind.flat_map-append, Option.slice_get_within, Option.get_or_from_slice_get}
+use Rattle.std.proofs.lemmas.List.{take_more, Elements.All-get_or, Concat.length-flat_map}
 use Rattle.std.proofs.lemmas.List.Sorted.{All-permutation, length_permutation, sum_by-IsPermutation}
 use Rattle.sha2.specs.Sha256.{sha256}
 use Rattle.hlc_rows.specs.declared.row.Row.{Row}
 use Rattle.hlc_table_column.specs.Rows.{KeyCells}
 use Rattle.hlc_columns.specs.Table.{columns_in}
 use Rattle.hlc_witness.specs.Certificate.{RowsAscend}
-use Rattle.hlc_core.specs.Past.{Step}
-use Rattle.hlc_core.specs.StoreView.{StoreView, Represents, with_rows}
+use Rattle.hlc_core.specs.{Past.Step, StoreView.StoreView, StoreView.Represents, StoreView.with_rows}
 use Rattle.hlc_core.proofs.CheckpointLemmas.{copy-represents}
-use Rattle.hlc_checkpoint.specs.Checkpoint.{IsCheckpointOf, IsStore}
-use Rattle.hlc_checkpoint.specs.Lent.{IsWritable, AreListOf}
+use Rattle.hlc_checkpoint.specs.{Checkpoint.IsCheckpointOf, Checkpoint.IsStore, Lent.IsWritable, Lent.AreListOf}
 use Rattle.hlc_checkpoint.proofs.CheckpointLemmas.{store-checkpoint}
 use Rattle.hlc_checkpoint.proofs.LentLemmas.{list-append, list-same, list-ascend}
-use Rattle.hlc_frame.specs.Frame.{front_bytes}
-use Rattle.hlc_frame.specs.Writing.{HasPut}
-use Rattle.hlc_frame.specs.declared.writer.FrameWriter.{FrameWriter}
-use Rattle.hlc_saved.specs.declared.store_writer.StoreWriter.{StoreWriter}
+use Rattle.hlc_frame.specs.{Frame.front_bytes, Writing.HasPut, declared.writer.FrameWriter.FrameWriter}
+use Rattle.hlc_saved.specs.{declared.store_writer.StoreWriter.StoreWriter, Saved.AreOfStore, Saved.BytesRepresent}
 use Rattle.hlc_body.specs.Spelling.{row_bytes, Preamble, preamble_bytes, preamble_of, checkpoint_bytes, saved_bytes}
 use Rattle.hlc_body.specs.Spelling.{RowFits, SavedFits}
-use Rattle.hlc_saved.specs.Saved.{AreOfStore, BytesRepresent}
 use Rattle.hlc_saved.specs.Writing.{front_of, body_to, begin_bytes, end_bytes, HasColumns, AreLeavesOf, HasSaved}
 use Rattle.hlc_saved.specs.Writing.{leaves_left}
 use Rattle.hlc_saved.proofs.Pieces.{pieces}
@@ -155,14 +146,7 @@ sorted_whole tag kept rows store fits moved ascend =
       ascend = ascend;
     } in
     let count : length kept.rows ≡ length rows = sym (length_permutation kept.rows rows moved) in
-    let same : preamble_of kept ≡ preamble_of made = ap (λ (n : ℕ). record {
-      initial_nodes = kept.initial_nodes;
-      links = kept.links;
-      snapshots = kept.snapshots;
-      last_id = kept.last_id;
-      horizon = kept.horizon;
-      count = n;
-    }) count in
+    let same : preamble_of kept ≡ preamble_of made = rw count refl in
     let a : length (checkpoint_bytes kept)
     ≡ length (preamble_bytes (preamble_of kept)) + length (flat_map row_bytes kept.rows) =
     length-append (preamble_bytes (preamble_of kept)) (flat_map row_bytes kept.rows) in

@@ -1,19 +1,14 @@
 -- A checkpoint that is read in blocks of any size.
 use Rattle.std.specs.Prelude.{◌≡◌, ℕ, ◌<◌, List, ◌++◌, drop, Result, Ok, Err, slice_index}
 use Rattle.hlc_core.specs.StoreView.{StoreView}
-use Rattle.hlc_wire.specs.declared.fault.WireFault.{WireFault}
-use Rattle.hlc_wire.specs.declared.fault.WireFault.TheVariants.{Short}
-use Rattle.hlc_checkpoint.specs.Growing.{GrowingView, HasGrown}
-use Rattle.hlc_checkpoint.specs.StoreView.{with_rows}
-use Rattle.hlc_wire.specs.declared.fault.DecodeError.{DecodeError}
+use Rattle.hlc_wire.specs.declared.fault.{WireFault.WireFault, WireFault.TheVariants.Short, DecodeError.DecodeError}
+use Rattle.hlc_checkpoint.specs.{Growing.GrowingView, Growing.HasGrown, StoreView.with_rows}
 use Rattle.hlc_wire.specs.Reading.{◌>>=◌, Fails}
 use Rattle.hlc_frame.specs.Reading.{body_so_far}
-use Rattle.hlc_frame.specs.Reading as frames
-use Rattle.hlc_saved.specs.declared.stage.Stage.{Stage}
-use Rattle.hlc_saved.specs.declared.stage.Stage.TheVariants.{Start, Rows, Wrong}
-use Rattle.hlc_saved.specs.declared.parts.PartsReader.{PartsReader}
-use Rattle.hlc_saved.specs.declared.reader.CheckpointReader.{CheckpointReader}
+use Rattle.hlc_saved.specs.declared.stage.Stage.{Stage, TheVariants.Start, TheVariants.Rows, TheVariants.Wrong}
+use Rattle.hlc_saved.specs.declared.{parts.PartsReader.PartsReader, reader.CheckpointReader.CheckpointReader}
 use Rattle.hlc_body.specs.Reading.{row_at, times_at, preamble_at, checkpoint_at}
+use Rattle.hlc_frame.specs.Reading as frames
 
 -- what is read of these next bytes: a checkpoint and the bytes after it, or a fault
 abbrev pub Reader : Type 0

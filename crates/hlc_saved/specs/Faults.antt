@@ -1,11 +1,10 @@
 -- The text of each fault, and its number.
 use Rattle.std.specs.Prelude.{ℕ, List, codes}
-use Rattle.hlc_checkpoint.specs.RestoreFaults as reasons
 use Rattle.hlc_wire.specs.Faults.{fault_text}
-use Rattle.hlc_saved.specs.declared.fault.ResumeError.{ResumeError}
+use Rattle.hlc_saved.specs.declared.fault.{ResumeError.ResumeError, SaverError.SaverError}
 use Rattle.hlc_saved.specs.declared.fault.ResumeError.TheVariants.{NoMemory, Bytes, Parts}
-use Rattle.hlc_saved.specs.declared.fault.SaverError.{SaverError}
 use Rattle.hlc_saved.specs.declared.fault.SaverError.TheVariants.{NoMemory as ShortOfMemory, Changed}
+use Rattle.hlc_checkpoint.specs.RestoreFaults as reasons
 
 abbrev pub resume_text : ResumeError → List ℕ
 resume_text NoMemory = codes "out of memory"

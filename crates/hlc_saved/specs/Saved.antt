@@ -1,15 +1,12 @@
 -- Bytes that represent a past.
 use Rattle.std.specs.Prelude.{◌≡◌, ℕ, List, Result, Ok, Err}
-use Rattle.hlc_core.specs.Past.{Step}
-use Rattle.hlc_core.specs.StoreView.{StoreView, Represents}
+use Rattle.hlc_core.specs.{Past.Step, StoreView.StoreView, StoreView.Represents}
 use Rattle.hlc_checkpoint.specs.Checkpoint.{IsCheckpoint, IsCheckpointOf, IsCopyOf, IsFirstReason}
 use Rattle.hlc_wire.specs.declared.fault.WireFault.{WireFault}
 use Rattle.hlc_frame.specs.Opening.{opened}
-use Rattle.hlc_saved.specs.declared.fault.ResumeError.{ResumeError}
+use Rattle.hlc_saved.specs.declared.{fault.ResumeError.ResumeError, saving.Resumed.Resumed}
 use Rattle.hlc_saved.specs.declared.fault.ResumeError.TheVariants.{NoMemory, Bytes, Parts}
-use Rattle.hlc_saved.specs.declared.saving.Resumed.{Resumed}
-use Rattle.hlc_body.specs.Spelling.{saved_bytes, SavedFits}
-use Rattle.hlc_body.specs.Reading.{saved}
+use Rattle.hlc_body.specs.{Spelling.saved_bytes, Spelling.SavedFits, Reading.saved}
 
 -- the bytes are the encoding of a tag and a checkpoint
 pub record AreOf (bytes : List ℕ) (tag : ℕ) (kept : StoreView) : Type 0 where

@@ -1,9 +1,7 @@
 -- The bytes of a store, made as they are read.
 use Rattle.std.specs.Prelude.{◌≡◌, ◌≢◌, ◌≤◌, ℕ, List, ◌++◌, Bool, true, false, length, drop, filter, sum_by}
-use Rattle.std.specs.List.{flat_map}
-use Rattle.std.specs.List.Sorted.{IsPermutation}
-use Rattle.std.specs.Cmp.Lexicographic.{slice_cmp}
-use Rattle.std.specs.Ordering.{nat_cmp, is_le}
+use Rattle.std.specs.List.{flat_map, Sorted.IsPermutation}
+use Rattle.std.specs.{Cmp.Lexicographic.slice_cmp, Ordering.nat_cmp, Ordering.is_le}
 use Rattle.hlc_intake.specs.IntakeView.{IntakeView}
 use Rattle.hlc_rows.specs.declared.row.Row.{Row}
 use Rattle.hlc_witness.specs.Certificate.{RowsAscend}
@@ -11,10 +9,8 @@ use Rattle.hlc_checkpoint.specs.Checkpoint.{IsStore}
 use Rattle.hlc_core.specs.StoreView.{StoreView}
 use Rattle.hlc_frame.specs.Writing.{HasPut}
 use Rattle.hlc_body.specs.Spelling.{row_bytes, SavedFits}
-use Rattle.hlc_saved.specs.declared.fault.SaverError.{SaverError}
-use Rattle.hlc_saved.specs.declared.fault.SaverError.TheVariants.{Changed, NoMemory}
-use Rattle.hlc_saved.specs.declared.mark.Mark.{Mark}
-use Rattle.hlc_saved.specs.declared.savings.Saver.{Saver}
+use Rattle.hlc_saved.specs.declared.fault.SaverError.{SaverError, TheVariants.Changed, TheVariants.NoMemory}
+use Rattle.hlc_saved.specs.declared.{mark.Mark.Mark, savings.Saver.Saver}
 use Rattle.hlc_saved.specs.Writing.{front_of, body_to, begin_bytes, end_bytes}
 
 -- how many items were accepted

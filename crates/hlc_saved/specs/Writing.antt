@@ -1,17 +1,13 @@
 -- A checkpoint that is written in pieces, and one that is written from the rows of a store.
-use Rattle.std.specs.Prelude.{◌≡◌, ℕ, ◌-◌, List, ◌++◌, length, take}
-use Rattle.std.specs.List.{flat_map}
+use Rattle.std.specs.Prelude.{◌≡◌, ℕ, ◌-◌, List, ◌++◌, length, take, flat_map}
 use Rattle.sha2.specs.Sha256.{sha256}
 use Rattle.hlc_rows.specs.declared.row.Row.{Row}
 use Rattle.hlc_table_column.specs.Rows.{KeyCells, KeysAscend, rows_in}
 use Rattle.hlc_columns.specs.Table.{columns_in}
 use Rattle.hlc_core.specs.StoreView.{StoreView}
-use Rattle.hlc_checkpoint.specs.Checkpoint.{IsStore}
-use Rattle.hlc_checkpoint.specs.Lent.{AreListOf}
-use Rattle.hlc_frame.specs.Frame.{front_bytes}
-use Rattle.hlc_frame.specs.Writing.{HasPut}
-use Rattle.hlc_saved.specs.declared.writer.CheckpointWriter.{CheckpointWriter}
-use Rattle.hlc_saved.specs.declared.store_writer.StoreWriter.{StoreWriter}
+use Rattle.hlc_checkpoint.specs.{Checkpoint.IsStore, Lent.AreListOf}
+use Rattle.hlc_frame.specs.{Frame.front_bytes, Writing.HasPut}
+use Rattle.hlc_saved.specs.declared.{writer.CheckpointWriter.CheckpointWriter, store_writer.StoreWriter.StoreWriter}
 use Rattle.hlc_body.specs.Spelling.{preamble_bytes, preamble_of, checkpoint_bytes, row_bytes, SavedFits}
 
 -- the front of the frame

@@ -2,8 +2,7 @@
 ghost use Rattle.std.specs.Prelude.{◌≡◌, ℕ, IfOk, IsErrOf, Ok};
 ghost use Rattle.hlc_core.specs.StoreView.{StoreView};
 ghost use Rattle.hlc_wire.specs.Reading.{Gives, whole};
-ghost use Rattle.hlc_body.specs.Spelling.{saved_bytes, SavedFits};
-ghost use Rattle.hlc_body.specs.Reading.{checkpoint_at, saved};
+ghost use Rattle.hlc_body.specs.{Spelling.saved_bytes, Spelling.SavedFits, Reading.checkpoint_at, Reading.saved};
 ghost use Rattle.hlc_saved.specs.Saved.{AreFrame};
 
 use hlc_body::{preamble_at, rows_at};

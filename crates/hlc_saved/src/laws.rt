@@ -1,12 +1,9 @@
 //! What is true of checkpoints that are written in pieces.
-ghost use Rattle.std.specs.Prelude.{◌≡◌, ◌++◌, ℕ, List};
-ghost use Rattle.std.specs.List.{flat_map};
+ghost use Rattle.std.specs.{Prelude.◌≡◌, Prelude.◌++◌, Prelude.ℕ, Prelude.List, List.flat_map};
 ghost use Rattle.hlc_rows.specs.declared.row.Row.{Row as ARow};
-ghost use Rattle.hlc_core.specs.StoreView.{StoreView};
+ghost use Rattle.hlc_core.specs.{StoreView.StoreView, GoneOn.HasGoneOn};
 ghost use Rattle.hlc_body.specs.Spelling.{row_bytes, saved_bytes};
-ghost use Rattle.hlc_core.specs.GoneOn.{HasGoneOn};
-ghost use Rattle.hlc_saved.specs.Saver.{mark_of, HasMade};
-ghost use Rattle.hlc_saved.specs.Writing.{begin_bytes, end_bytes};
+ghost use Rattle.hlc_saved.specs.{Saver.mark_of, Saver.HasMade, Writing.begin_bytes, Writing.end_bytes};
 ghost use Rattle.hlc_saved.specs.declared.savings.Saver.{Saver as ASaver};
 
 /// All that a `CheckpointWriter` appends, for the rows of the checkpoint in turn, are the bytes of the checkpoint.

@@ -1,7 +1,6 @@
 //! The rows of a leaf, written at the end of some bytes, column by column, each column by stamp and node. The only
 //! error is out of memory; then nothing before the end of the bytes is changed, but some rows may be there.
-ghost use Rattle.std.specs.Prelude.{◌≡◌, ◌++◌, ◌∷◌, [], All, OnOk, OnErr};
-ghost use Rattle.std.specs.List.{flat_map};
+ghost use Rattle.std.specs.Prelude.{◌≡◌, ◌++◌, ◌∷◌, [], All, OnOk, OnErr, flat_map};
 ghost use Rattle.hlc_witness.specs.Cost.{AreInLimits};
 ghost use Rattle.hlc_checkpoint.specs.Lent.{IsWritable};
 ghost use Rattle.hlc_body.specs.Spelling.{row_bytes};

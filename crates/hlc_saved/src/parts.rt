@@ -1,10 +1,8 @@
 //! The body of a checkpoint, read in blocks.
-ghost use Rattle.std.specs.Prelude.{◌≡◌, ◌<◌, ◌≤◌, ◌+◌, ◌++◌, [], OnOk, OnErr, length, drop};
-ghost use Rattle.std.specs.Vec.{vec_len, vec_capacity};
+ghost use Rattle.std.specs.Prelude.{◌≡◌, ◌<◌, ◌≤◌, ◌+◌, ◌++◌, [], OnOk, OnErr, length, drop, vec_len, vec_capacity};
 ghost use Rattle.hlc_wire.specs.Reading.{whole};
 ghost use Rattle.hlc_body.specs.Reading.{checkpoint_at};
-ghost use Rattle.hlc_saved.specs.Saved.{Ends};
-ghost use Rattle.hlc_saved.specs.Blocks.{Reader, PartsLeave, IsStuck};
+ghost use Rattle.hlc_saved.specs.{Saved.Ends, Blocks.Reader, Blocks.PartsLeave, Blocks.IsStuck};
 
 use crate::bytes::bytes_from;
 use crate::fault::ResumeError;

@@ -1,7 +1,6 @@
 //! A checkpoint that is read in blocks of any size.
 ghost use Rattle.std.specs.Prelude.{◌++◌, [], List, ℕ, OnOk, OnErr};
-ghost use Rattle.hlc_saved.specs.Saved.{Resumes};
-ghost use Rattle.hlc_saved.specs.Blocks.{HasRead};
+ghost use Rattle.hlc_saved.specs.{Saved.Resumes, Blocks.HasRead};
 
 use crate::fault::ResumeError;
 use crate::parts::PartsReader;

@@ -1,7 +1,6 @@
 //! A store to bytes and back.
 ghost use Rattle.std.specs.Prelude.{◌≡◌, List, ℕ, IfOk, IfErr, Result};
-ghost use Rattle.hlc_core.specs.Past.{Step};
-ghost use Rattle.hlc_core.specs.StoreView.{StoreView, Represents};
+ghost use Rattle.hlc_core.specs.{Past.Step, StoreView.StoreView, StoreView.Represents};
 ghost use Rattle.hlc_saved.specs.declared.fault.ResumeError.TheVariants.{NoMemory as no_memory};
 ghost use Rattle.hlc_wire.specs.declared.fault.WireFault.{WireFault as AFault};
 ghost use Rattle.hlc_saved.specs.Saved.{AreOf, AreOfStore, BytesRepresent, Ends, EndsWith, Resumes};

@@ -1,13 +1,11 @@
 //! The bytes of a store, made as they are read, without a borrow of the store between two calls.
-ghost use Rattle.std.specs.Prelude.{◌≡◌, ◌↔◌, ◌<◌, ◌≤◌, ◌+◌, ◌++◌, ◌⊎◌, ℕ, List, [], false, true, IsTrue};
-ghost use Rattle.std.specs.Prelude.{All, IfOk, IfErr, OnOk, OnErr, length, take, drop, min, ◌-◌};
+ghost use Rattle.std.specs.Prelude.{◌≡◌, ◌↔◌, ◌<◌, ◌≤◌, ◌+◌, ◌++◌, ◌⊎◌, ℕ, List, [], false, true, IsTrue, All, IfOk};
+ghost use Rattle.std.specs.Prelude.{IfErr, OnOk, OnErr, length, take, drop, min, ◌-◌};
 ghost use Rattle.hlc_columns.specs.Answers.{AreNext};
 ghost use Rattle.hlc_body.specs.Spelling.{saved_bytes};
-ghost use Rattle.hlc_checkpoint.specs.Checkpoint.{IsStore};
-ghost use Rattle.hlc_checkpoint.specs.Lent.{IsWritable};
+ghost use Rattle.hlc_checkpoint.specs.{Checkpoint.IsStore, Lent.IsWritable};
 ghost use Rattle.hlc_core.specs.StoreView.{StoreView};
-ghost use Rattle.hlc_saved.specs.Saved.{AreOfStore};
-ghost use Rattle.hlc_saved.specs.Saver.{HasMade, IsRead, IsRefused, mark_of};
+ghost use Rattle.hlc_saved.specs.{Saved.AreOfStore, Saver.HasMade, Saver.IsRead, Saver.IsRefused, Saver.mark_of};
 
 use crate::bytes::{bytes_from, copy_front};
 use crate::fault::SaverError;

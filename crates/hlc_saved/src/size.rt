@@ -1,11 +1,9 @@
 //! The number of bytes of a checkpoint.
-ghost use Rattle.std.specs.Prelude.{◌≡◌, ◌<◌, ◌+◌, ◌*◌, All, IfSome, OnSome, SomeIff, length, option_copied};
-ghost use Rattle.std.specs.List.{flat_map};
+ghost use Rattle.std.specs.Prelude.{◌≡◌, ◌<◌, ◌+◌, ◌*◌, All, IfSome, OnSome, SomeIff, length, option_copied, flat_map};
 ghost use Rattle.hlc_table_column.specs.Rows.{rows_in, rows_in_one};
 ghost use Rattle.hlc_columns.specs.Table.{columns_in};
 ghost use Rattle.hlc_witness.specs.Cost.{IsInLimits, AreInLimits};
-ghost use Rattle.hlc_checkpoint.specs.Checkpoint.{IsCheckpoint, IsStore};
-ghost use Rattle.hlc_checkpoint.specs.Lent.{IsWritable};
+ghost use Rattle.hlc_checkpoint.specs.{Checkpoint.IsCheckpoint, Checkpoint.IsStore, Lent.IsWritable};
 ghost use Rattle.hlc_body.specs.Seen.{seen};
 ghost use Rattle.hlc_body.specs.Spelling.{row_bytes, preamble_bytes, preamble_of, checkpoint_bytes, LinkFits};
 ghost use Rattle.hlc_body.specs.Spelling.{SnapshotFits, RowFits, PreambleFits, CheckpointFits, AreOfSize};

@@ -2,8 +2,7 @@
 ghost use Rattle.std.specs.Prelude.{◌≡◌, ◌<◌, ◌-◌, ◌↔◌, ◌++◌, ℕ, List, IsTrue, IfOk, OnOk, OnErr, length};
 ghost use Rattle.hlc_core.specs.StoreView.{StoreView};
 ghost use Rattle.hlc_body.specs.Spelling.{checkpoint_bytes};
-ghost use Rattle.hlc_saved.specs.Saved.{AreOfStore};
-ghost use Rattle.hlc_saved.specs.Writing.{HasSaved, begin_bytes, leaves_left};
+ghost use Rattle.hlc_saved.specs.{Saved.AreOfStore, Writing.HasSaved, Writing.begin_bytes, Writing.leaves_left};
 
 use crate::bytes::bytes_from;
 use crate::leaf::append_leaf;

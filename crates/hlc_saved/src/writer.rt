@@ -1,13 +1,11 @@
 //! A checkpoint that is written whole, or in pieces.
-ghost use Rattle.std.specs.Prelude.{◌≡◌, ◌<◌, ◌≤◌, ◌+◌, ◌^◌, ◌++◌, ◌∷◌, [], ℕ, List};
-ghost use Rattle.std.specs.Prelude.{IfOk, IfErr, OnOk, OnErr, MatchResult, length};
-ghost use Rattle.std.specs.List.{flat_map};
+ghost use Rattle.std.specs.Prelude.{◌≡◌, ◌<◌, ◌≤◌, ◌+◌, ◌^◌, ◌++◌, ◌∷◌, [], ℕ, List, IfOk, IfErr, OnOk, OnErr};
+ghost use Rattle.std.specs.Prelude.{MatchResult, length, flat_map};
 ghost use Rattle.hlc_rows.specs.declared.row.Row.{Row as ARow};
 ghost use Rattle.hlc_witness.specs.Cost.{IsInLimits, AreInLimits};
 ghost use Rattle.hlc_core.specs.StoreView.{StoreView};
 ghost use Rattle.hlc_checkpoint.specs.Checkpoint.{IsCheckpoint, IsFirstReason};
-ghost use Rattle.hlc_frame.specs.Frame.{front_bytes};
-ghost use Rattle.hlc_frame.specs.Writing.{HasPut};
+ghost use Rattle.hlc_frame.specs.{Frame.front_bytes, Writing.HasPut};
 ghost use Rattle.hlc_body.specs.Spelling.{row_bytes, preamble_bytes, saved_bytes, SavedFits};
 ghost use Rattle.hlc_body.specs.Seen.{seen};
 ghost use Rattle.hlc_saved.specs.Writing.{HasWritten, begin_bytes, end_bytes};

@@ -1,90 +1,47 @@
 -- A batch that is read is the batch that was written, and what was written is read again.
-use Rattle.std.proofs.Common.{◌≡◌, ℕ, zero, suc, ◌<◌, ◌≤◌, ◌*◌, ◌-◌, List, [], ◌∷◌, ◌++◌, length}
-use Rattle.std.proofs.Common.{Some, None, Ok, Err, Result}
-use Rattle.std.proofs.Common.{refl, sym, ap, subst, ◌∙◌, append_assoc, arith, length-append}
-use Rattle.std.proofs.Common.{rules, ltb, take, drop}
-use Rattle.std.proofs.lemmas.Grind.{common_steps}
-use Rattle.std.specs.Int.{w16, to_be_bytes, from_be_bytes}
-use Rattle.hlc_rows.specs.Limits.{write_refusal}
+use Rattle.std.proofs.Common.{◌≡◌, ℕ, zero, suc, ◌≤◌, ◌*◌, ◌-◌, List, [], ◌∷◌, ◌++◌, length, Some, None, Ok, Err}
+use Rattle.std.proofs.Common.{Result, refl, sym, ap, ◌∙◌, arith, length-append, rules, ltb, take, drop}
+use Rattle.std.proofs.lemmas.{Grind.common_steps, List.nil_from_length}
+use Rattle.std.specs.{Int.w16, Int.to_be_bytes, Int.from_be_bytes, Prelude.Option}
+use Rattle.hlc_rows.specs.{Limits.write_refusal, declared.write.Write.Write}
 use Rattle.hlc_rows.specs.Writes.{writes_refusal, batch_refusal}
-use Rattle.std.specs.Prelude.{Option}
-use Rattle.hlc_rows.specs.declared.write.Write.{Write}
 use Rattle.hlc_rows.specs.Spelled.{a_write, value_of, key_in, value_in, long_in, writes_in}
 use Rattle.hlc_rows.proofs.SpelledLemmas.{front}
 use Rattle.hlc_rows.proofs.WritesLemmas.{first-none, good}
-use Rattle.hlc_wire.specs.declared.fault.WireFault.TheVariants.{Short}
-use Rattle.hlc_wire.specs.Spelling.{key_bytes, value_bytes, write_bytes, writes_bytes, batch_bytes}
-use Rattle.hlc_wire.specs.Spelling.{KeyFits, ValueFits, WritesFit, BatchFits}
+use Rattle.hlc_wire.specs.declared.fault.WireFault.{TheVariants.Short, WireFault}
+use Rattle.hlc_wire.specs.Spelling.{key_bytes, value_bytes, write_bytes, writes_bytes, batch_bytes, KeyFits, ValueFits}
+use Rattle.hlc_wire.specs.Spelling.{WritesFit, BatchFits}
 use Rattle.hlc_wire.specs.Reading.{◌>>=◌, Reads, number_at, bytes_at, key_at, value_at, write_at, writes_at, batch_at}
-use Rattle.hlc_wire.specs.declared.fault.WireFault.{WireFault}
-use Rattle.hlc_wire.proofs.FieldLemmas.{guard_ok}
-use Rattle.hlc_wire.proofs.FieldLemmas.{IsBytes, IsBytes-rest, bind_ok, ok_is, Takes, Takes-then, Takes-cons, IsReader}
-use Rattle.hlc_wire.proofs.FieldLemmas.{key_reader, value_reader}
+use Rattle.hlc_wire.proofs.FieldLemmas.{guard_ok, bind_ok, ok_is, IsField, alone, nothing, last, field, via, IsCase}
+use Rattle.hlc_wire.proofs.FieldLemmas.{a_case, choice, key_field, value_field}
 
 abbrev WriteFits : Write → Type 0
 WriteFits write = KeyFits write.key × ValueFits write.value
 
-write_takes : (bytes : List ℕ) (x : Write × List ℕ) → IsBytes bytes → write_at bytes ≡ Ok x
-    → Takes bytes (write_bytes x.0) x.1 × WriteFits x.0
-write_takes bytes x fits e =
-    let a = bind_ok (key_at bytes) (λ key. value_at key.1 >>= λ value. Ok (a_write key.0 value.0, value.1)) x e in
-    let b = bind_ok (value_at a.0.1) (λ value. Ok (a_write a.0.0 value.0, value.1)) x a.2 in
-    let t = key_reader.takes bytes a.0 fits a.1 in
-    let u = value_reader.takes a.0.1 b.0 t.0.rest_fits b.1 in
-    let both = Takes-then bytes (key_bytes a.0.0) a.0.1 (value_bytes b.0.0) b.0.1 t.0 u.0 in
-    subst (λ (y : Write × List ℕ). Takes bytes (write_bytes y.0) y.1 × WriteFits y.0)
-    (ok_is (a_write a.0.0 b.0.0, b.0.1) x b.2) (both, (t.1, u.1))
+pub write_field : IsField write_at write_bytes WriteFits
+write_field =
+    via (field _ key_field (λ key. last (a_write key) value_field)) (λ t f. (f, refl))
+    (λ w f. ((w.key, w.value), f, refl))
 
-write_again : (write : Write) (rest : List ℕ) → WriteFits write
-    → write_at (write_bytes write ++ rest) ≡ Ok (write, rest)
-write_again write rest h =
-    ap write_at (append_assoc (key_bytes write.key) (value_bytes write.value) rest)
-    ∙ rw (
-      key_reader.again write.key (value_bytes write.value ++ rest) h.0,
-      value_reader.again write.value rest h.1,
-    ) refl
+two_parts : (count : ℕ) (writes : List Write) → (length writes ≡ suc count) × WritesFit writes
+    → (t : Write × List Write) × (WriteFits t.0 × ((length t.1 ≡ count) × WritesFit t.1)) × (t.0 ∷ t.1 ≡ writes)
+two_parts count [] f = absurd (omega (arith, f.0))
+two_parts count (w ∷ ws) f = ((w, ws), (f.1.0, (omega (arith, f.0), f.1.1)), refl)
 
-pub write_reader : IsReader write_at write_bytes WriteFits
-write_reader = record { takes = write_takes; again = write_again }
-
-writes_take : (count : ℕ) (bytes : List ℕ) (x : List Write × List ℕ) → IsBytes bytes → writes_at count bytes ≡ Ok x
-    → Takes bytes (writes_bytes x.0) x.1 × ((length x.0 ≡ count) × WritesFit x.0)
+writes_field : (count : ℕ) → IsField (writes_at count) writes_bytes (λ ws. (length ws ≡ count) × WritesFit ws)
 unfolding writes_at
-writes_take zero bytes x fits e =
-    subst (λ (y : List Write × List ℕ). Takes bytes (writes_bytes y.0) y.1 × ((length y.0 ≡ 0) × WritesFit y.0))
-    {x = ([], bytes)} (ok_is ([], bytes) x e) (record { parts = refl; rest_fits = fits }, (refl, tt))
-writes_take (suc count) bytes x fits e =
-    let a = bind_ok (write_at bytes) (λ write. writes_at count write.1
-    >>= λ writes. Ok (write.0 ∷ writes.0, writes.1)) x e in
-    let b = bind_ok (writes_at count a.0.1) (λ writes. Ok (a.0.0 ∷ writes.0, writes.1)) x a.2 in
-    let t = write_takes bytes a.0 fits a.1 in
-    let u = writes_take count a.0.1 b.0 t.0.rest_fits b.1 in
-    subst (λ (y : List Write × List ℕ). Takes bytes (writes_bytes y.0) y.1
-    × ((length y.0 ≡ suc count) × WritesFit y.0)) {x = (a.0.0 ∷ b.0.0, b.0.1)}
-    (ok_is (a.0.0 ∷ b.0.0, b.0.1) x b.2) (
-      Takes-then bytes (write_bytes a.0.0) a.0.1 (writes_bytes b.0.0) b.0.1 t.0 u.0,
-      (ap suc u.1.0, (t.1, u.1.1)),
-    )
+writes_field zero = via (nothing []) (λ t f. ((refl, tt), refl)) (λ ws f. (tt, tt, sym (nil_from_length ws f.0)))
+writes_field (suc count) =
+    via (field _ write_field (λ w. last (λ ws. w ∷ ws) (writes_field count)))
+    (λ t f. ((ap suc f.1.0, (f.0, f.1.1)), refl)) (two_parts count)
 
-writes_again : (writes : List Write) (rest : List ℕ) → WritesFit writes
-    → writes_at (length writes) (writes_bytes writes ++ rest) ≡ Ok (writes, rest)
-unfolding writes_at
-writes_again [] rest h = refl
-writes_again (write ∷ writes) rest h =
-    ap (writes_at (suc (length writes))) (append_assoc (write_bytes write) (writes_bytes writes) rest)
-    ∙ rw (write_again write (writes_bytes writes ++ rest) h.0, writes_again writes rest h.1) refl
-
-batch_takes : (bytes : List ℕ) (x : List Write × List ℕ) → IsBytes bytes → batch_at bytes ≡ Ok x
-    → Takes bytes (batch_bytes x.0) x.1 × BatchFits x.0
+batch_each : (b : ℕ) → IsCase batch_at batch_bytes BatchFits b
 unfolding batch_at
-batch_takes [] x fits e = absurd cc
-batch_takes (count ∷ bytes) x fits e =
-    let t = writes_take (suc count) bytes x (IsBytes-rest count bytes fits) e in
-    let small : count < 256 = fits 0 in
-    let less : length x.0 - 1 ≡ count = omega (arith, t.1.0) in (
-      rw less (Takes-cons count bytes (writes_bytes x.0) x.1 t.0),
-      (omega (arith, t.1.0), omega (arith, t.1.0, small), t.1.1),
-    )
+batch_each b =
+    a_case (alone (writes_field (suc b)))
+    (λ t few f.
+    let less : length t - 1 ≡ b = omega (arith, f.0) in
+    ((omega (arith, f.0), omega (arith, f.0), f.1), ap (λ (n : ℕ). n ∷ writes_bytes t) less))
 
 batch_again : (writes : List Write) (rest : List ℕ) → BatchFits writes
     → batch_at (batch_bytes writes ++ rest) ≡ Ok (writes, rest)
@@ -92,10 +49,11 @@ unfolding batch_at
 batch_again [] rest h = absurd (omega (arith, h.0))
 batch_again (write ∷ writes) rest h =
     let less : suc (length writes) - 1 ≡ length writes = omega arith in
-    rw less (writes_again (write ∷ writes) rest h.2)
+    rw less ((writes_field (length (write ∷ writes))).reads.again (write ∷ writes) rest (refl, h.2))
 
-pub batch_reader : IsReader batch_at batch_bytes BatchFits
-batch_reader = record { takes = batch_takes; again = batch_again }
+pub batch_field : IsField batch_at batch_bytes BatchFits
+unfolding batch_at
+batch_field = choice refl batch_each batch_again
 
 -- ---- the number of bytes
 

@@ -1,72 +1,39 @@
 -- An item that is read is the item that was written, and what was written is read again; so are messages.
-use Rattle.std.proofs.Common.{◌≡◌, ℕ, zero, suc, ◌+◌, ◌<◌, ◌≤◌, List, [], ◌∷◌, ◌++◌, length, Some, None, Result}
-use Rattle.std.proofs.Common.{Ok, Err, refl, sym, ap, subst, ◌∙◌, append_assoc, arith}
-use Rattle.std.proofs.Common.{length-append}
-use Rattle.std.specs.Prelude.{IfOk, IsOk}
-use Rattle.std.specs.Int.{w16, w64, to_be_bytes}
+use Rattle.std.proofs.Common.{◌≡◌, ℕ, zero, suc, ◌+◌, ◌<◌, ◌≤◌, List, [], ◌∷◌, ◌++◌, length, Some, None, Result, Ok}
+use Rattle.std.proofs.Common.{Err, refl, sym, ap, subst, ◌∙◌, append_assoc, arith, length-append}
+use Rattle.std.specs.{Prelude.IfOk, Prelude.IsOk, Int.w16, Int.w64, Int.to_be_bytes}
 use Rattle.hlc_node.specs.Items.{an_item, body_refusal}
-use Rattle.hlc_node.specs.declared.item.Item.{Item}
-use Rattle.hlc_node.specs.declared.item.Message.{Message}
-use Rattle.hlc_node.specs.declared.item.Body.{Body}
+use Rattle.hlc_node.specs.declared.item.{Item.Item, Body.Body, Message.Message}
 use Rattle.hlc_node.specs.declared.item.Body.TheVariants.{Write, Batch, Report, Retire}
-use Rattle.hlc_wire.specs.declared.fault.WireFault.{WireFault}
+use Rattle.hlc_wire.specs.declared.fault.WireFault.{WireFault, TheVariants.Version, TheVariants.Kind}
 use Rattle.hlc_wire.specs.declared.fault.DecodeError.{DecodeError}
-use Rattle.hlc_wire.specs.Spelling.{key_bytes, value_bytes, body_bytes, item_bytes, message_bytes}
-use Rattle.hlc_wire.specs.Spelling.{BodyFits, ItemFits, MessageFits, batch_bytes, most_bytes}
-use Rattle.hlc_wire.proofs.BatchLemmas.{batch_reader, batch_fits, write_fits, writes_length}
-use Rattle.hlc_wire.specs.Reading.{◌>>=◌, Gives, Reads, number_at, key_at, value_at, batch_at, body_at}
-use Rattle.hlc_wire.specs.Reading.{item_rest_at, item_at}
-use Rattle.hlc_wire.specs.Reading.{message_rest_at, message_at, whole}
-use Rattle.hlc_wire.proofs.FieldLemmas.{IsBytes, IsBytes-rest, bind_ok, done, ok_is, Takes, Takes-then, Takes-cons}
-use Rattle.hlc_wire.proofs.FieldLemmas.{IsReader}
-use Rattle.hlc_wire.proofs.FieldLemmas.{wide16, wide64, number_reader, key_reader, value_reader, whole_takes}
+use Rattle.hlc_wire.specs.Spelling.{key_bytes, value_bytes, body_bytes, item_bytes, message_bytes, BodyFits, ItemFits}
+use Rattle.hlc_wire.specs.Spelling.{MessageFits, most_bytes}
+use Rattle.hlc_wire.proofs.BatchLemmas.{batch_field, batch_fits, write_fits, writes_length}
+use Rattle.hlc_wire.specs.Reading.{Gives, Reads, body_at, item_rest_at, item_at, message_rest_at, message_at, whole}
+use Rattle.hlc_wire.proofs.FieldLemmas.{IsBytes, done, IsReader, whole_takes, IsField, alone, nothing, last, field, via}
+use Rattle.hlc_wire.proofs.FieldLemmas.{IsCase, a_case, no_case, choice, two, eight, key_field, value_field}
 
-abbrev two : IsReader (number_at w16) (to_be_bytes w16) (λ n. n < 65536)
-two = number_reader w16 65536 wide16
-
-abbrev eight : IsReader (number_at w64) (to_be_bytes w64) (λ n. n < 18446744073709551616)
-eight = number_reader w64 18446744073709551616 wide64
-
-body_takes : (bytes : List ℕ) (x : Body × List ℕ) → IsBytes bytes → body_at bytes ≡ Ok x
-    → Takes bytes (body_bytes x.0) x.1 × BodyFits x.0
+body_each : (b : ℕ) → IsCase body_at body_bytes BodyFits b
 unfolding body_at
-body_takes [] x fits e = absurd cc
-body_takes (zero ∷ bytes) x fits e =
-    let a = bind_ok (key_at bytes) (λ key. value_at key.1 >>= λ value. Ok (Write key.0 value.0, value.1)) x e in
-    let b = bind_ok (value_at a.0.1) (λ value. Ok (Write a.0.0 value.0, value.1)) x a.2 in
-    let t = key_reader.takes bytes a.0 (IsBytes-rest 0 bytes fits) a.1 in
-    let u = value_reader.takes a.0.1 b.0 t.0.rest_fits b.1 in
-    let both = Takes-then bytes (key_bytes a.0.0) a.0.1 (value_bytes b.0.0) b.0.1 t.0 u.0 in
-    subst (λ (y : Body × List ℕ). Takes (0 ∷ bytes) (body_bytes y.0) y.1 × BodyFits y.0)
-    (ok_is (Write a.0.0 b.0.0, b.0.1) x b.2)
-    (Takes-cons 0 bytes (key_bytes a.0.0 ++ value_bytes b.0.0) b.0.1 both, (t.1, u.1))
-body_takes (suc zero ∷ bytes) x fits e =
-    subst (λ (y : Body × List ℕ). Takes (1 ∷ bytes) (body_bytes y.0) y.1 × BodyFits y.0) (ok_is (Report, bytes) x e)
-    (record { parts = refl; rest_fits = IsBytes-rest 1 bytes fits }, tt)
-body_takes (suc (suc zero) ∷ bytes) x fits e =
-    subst (λ (y : Body × List ℕ). Takes (2 ∷ bytes) (body_bytes y.0) y.1 × BodyFits y.0) (ok_is (Retire, bytes) x e)
-    (record { parts = refl; rest_fits = IsBytes-rest 2 bytes fits }, tt)
-body_takes (suc (suc (suc zero)) ∷ bytes) x fits e =
-    let a = bind_ok (batch_at bytes) (λ writes. Ok (Batch writes.0, writes.1)) x e in
-    let t = batch_reader.takes bytes a.0 (IsBytes-rest 3 bytes fits) a.1 in
-    subst (λ (y : Body × List ℕ). Takes (3 ∷ bytes) (body_bytes y.0) y.1 × BodyFits y.0)
-    (ok_is (Batch a.0.0, a.0.1) x a.2)
-    (Takes-cons 3 bytes (batch_bytes a.0.0) a.0.1 t.0, t.1)
-body_takes (suc (suc (suc (suc b))) ∷ bytes) x fits e = absurd cc
+body_each zero = a_case (field _ key_field (λ key. last (Write key) value_field)) (λ t few f. (f, refl))
+body_each (suc zero) = a_case (nothing Report) (λ t few f. (tt, refl))
+body_each (suc (suc zero)) = a_case (nothing Retire) (λ t few f. (tt, refl))
+body_each (suc (suc (suc zero))) = a_case (last Batch batch_field) (λ t few f. (f, refl))
+body_each (suc (suc (suc (suc b)))) = no_case Kind (λ rest. refl)
 
 body_again : (body : Body) (rest : List ℕ) → BodyFits body → body_at (body_bytes body ++ rest) ≡ Ok (body, rest)
 unfolding body_at
 body_again Report rest h = refl
 body_again Retire rest h = refl
-body_again (Batch writes) rest h = rw (batch_reader.again writes rest h) refl
+body_again (Batch writes) rest h = rw (batch_field.reads.again writes rest h) refl
 body_again (Write key value) rest h =
-    let regrouped : (key_bytes key ++ value_bytes value) ++ rest ≡ key_bytes key ++ (value_bytes value ++ rest) =
-    append_assoc (key_bytes key) (value_bytes value) rest in
-    ap (λ (bs : List ℕ). body_at (0 ∷ bs)) regrouped
-    ∙ rw (key_reader.again key (value_bytes value ++ rest) h.0, value_reader.again value rest h.1) refl
+    ap (λ (bs : List ℕ). body_at (0 ∷ bs)) (append_assoc (key_bytes key) (value_bytes value) rest)
+    ∙ rw (key_field.reads.again key (value_bytes value ++ rest) h.0, value_field.reads.again value rest h.1) refl
 
-pub body_reader : IsReader body_at body_bytes BodyFits
-body_reader = record { takes = body_takes; again = body_again }
+pub body_field : IsField body_at body_bytes BodyFits
+unfolding body_at
+body_field = choice refl body_each body_again
 
 -- a body that is not refused has an encoding
 pub body_fits : (body : Body) → body_refusal body ≡ None → BodyFits body
@@ -78,68 +45,29 @@ body_fits Retire h = tt
 -- an item after its version
 abbrev item_rest : Item → List ℕ
 item_rest item =
-    to_be_bytes w16 item.node ++ to_be_bytes w64 item.number ++ to_be_bytes w64 item.stamp ++ body_bytes item.body
+    to_be_bytes w16 item.node ++ (to_be_bytes w64 item.number ++ (to_be_bytes w64 item.stamp ++ body_bytes item.body))
 
-item_rest_takes : (bytes : List ℕ) (x : Item × List ℕ) → IsBytes bytes → item_rest_at bytes ≡ Ok x
-    → Takes bytes (item_rest x.0) x.1 × ItemFits x.0
+item_rest_field : IsField item_rest_at item_rest ItemFits
 unfolding item_rest_at
-item_rest_takes bytes x fits e =
-    let a = bind_ok (number_at w16 bytes) (λ node. number_at w64 node.1 >>= λ number. number_at w64 number.1
-    >>= λ stamp. body_at stamp.1 >>= λ body. Ok (an_item node.0 number.0 stamp.0 body.0, body.1)) x e in
-    let b = bind_ok (number_at w64 a.0.1) (λ number. number_at w64 number.1
-    >>= λ stamp. body_at stamp.1 >>= λ body. Ok (an_item a.0.0 number.0 stamp.0 body.0, body.1)) x a.2 in
-    let c = bind_ok (number_at w64 b.0.1)
-    (λ stamp. body_at stamp.1 >>= λ body. Ok (an_item a.0.0 b.0.0 stamp.0 body.0, body.1)) x b.2 in
-    let d = bind_ok (body_at c.0.1) (λ body. Ok (an_item a.0.0 b.0.0 c.0.0 body.0, body.1)) x c.2 in
-    let t = two.takes bytes a.0 fits a.1 in
-    let u = eight.takes a.0.1 b.0 t.0.rest_fits b.1 in
-    let v = eight.takes b.0.1 c.0 u.0.rest_fits c.1 in
-    let w = body_takes c.0.1 d.0 v.0.rest_fits d.1 in
-    let vw = Takes-then b.0.1 (to_be_bytes w64 c.0.0) c.0.1 (body_bytes d.0.0) d.0.1 v.0 w.0 in
-    let uw = Takes-then a.0.1 (to_be_bytes w64 b.0.0) b.0.1 (to_be_bytes w64 c.0.0 ++ body_bytes d.0.0) d.0.1 u.0 vw in
-    let tw = Takes-then bytes (to_be_bytes w16 a.0.0) a.0.1
-    (to_be_bytes w64 b.0.0 ++ to_be_bytes w64 c.0.0 ++ body_bytes d.0.0) d.0.1 t.0 uw in
-    subst (λ (y : Item × List ℕ). Takes bytes (item_rest y.0) y.1 × ItemFits y.0)
-    {x = (an_item a.0.0 b.0.0 c.0.0 d.0.0, d.0.1)}
-    (ok_is (an_item a.0.0 b.0.0 c.0.0 d.0.0, d.0.1) x d.2)
-    (tw, record { node = t.1; number = u.1; stamp = v.1; body = w.1 })
+item_rest_field =
+    via
+    (field _ two (λ node. field _ eight (λ number. field _ eight (λ stamp.
+    last (an_item node number stamp) body_field))))
+    (λ t f. (record { node = f.0; number = f.1.0; stamp = f.1.1.0; body = f.1.1.1 }, refl))
+    (λ i f. ((i.node, (i.number, (i.stamp, i.body))), (f.node, (f.number, (f.stamp, f.body))), refl))
 
-item_rest_again : (item : Item) (rest : List ℕ) → ItemFits item
-    → item_rest_at (item_rest item ++ rest) ≡ Ok (item, rest)
-unfolding item_rest_at
-item_rest_again item rest fits =
-    let a : List ℕ = to_be_bytes w16 item.node in
-    let b : List ℕ = to_be_bytes w64 item.number in
-    let c : List ℕ = to_be_bytes w64 item.stamp in
-    let d : List ℕ = body_bytes item.body in
-    let regrouped : item_rest item ++ rest ≡ a ++ (b ++ (c ++ (d ++ rest))) =
-    append_assoc a (b ++ c ++ d) rest
-    ∙ ap (λ (x : List ℕ). a ++ x) (append_assoc b (c ++ d) rest
-    ∙ ap (λ (x : List ℕ). b ++ x) (append_assoc c d rest)) in
-    ap item_rest_at regrouped
-    ∙ rw (
-      two.again item.node (b ++ (c ++ (d ++ rest))) fits.node,
-      eight.again item.number (c ++ (d ++ rest)) fits.number,
-      eight.again item.stamp (d ++ rest) fits.stamp,
-      body_again item.body rest fits.body,
-    ) refl
-
-item_takes : (bytes : List ℕ) (x : Item × List ℕ) → IsBytes bytes → item_at bytes ≡ Ok x
-    → Takes bytes (item_bytes x.0) x.1 × ItemFits x.0
+item_each : (b : ℕ) → IsCase item_at item_bytes ItemFits b
 unfolding item_at
-item_takes [] x fits e = absurd cc
-item_takes (zero ∷ bytes) x fits e = absurd cc
-item_takes (suc zero ∷ bytes) x fits e =
-    let t = item_rest_takes bytes x (IsBytes-rest 1 bytes fits) e in
-    (Takes-cons 1 bytes (item_rest x.0) x.1 t.0, t.1)
-item_takes (suc (suc b) ∷ bytes) x fits e = absurd cc
+item_each zero = no_case Version (λ rest. refl)
+item_each (suc zero) = a_case (alone item_rest_field) (λ t few f. (f, refl))
+item_each (suc (suc b)) = no_case Version (λ rest. refl)
 
-item_again : (item : Item) (rest : List ℕ) → ItemFits item → item_at (item_bytes item ++ rest) ≡ Ok (item, rest)
+pub item_field : IsField item_at item_bytes ItemFits
 unfolding item_at
-item_again item rest fits = item_rest_again item rest fits
+item_field = choice refl item_each item_rest_field.reads.again
 
 pub item_reader : IsReader item_at item_bytes ItemFits
-item_reader = record { takes = item_takes; again = item_again }
+item_reader = item_field.reads
 
 -- messages
 abbrev message_rest : Message → List ℕ
@@ -148,47 +76,21 @@ message_rest message = to_be_bytes w16 message.from ++ to_be_bytes w64 message.s
 abbrev pub a_message : ℕ → ℕ → Message
 a_message from stamp = record { from = from; stamp = stamp }
 
-message_rest_takes : (bytes : List ℕ) (x : Message × List ℕ) → IsBytes bytes → message_rest_at bytes ≡ Ok x
-    → Takes bytes (message_rest x.0) x.1 × MessageFits x.0
+message_rest_field : IsField message_rest_at message_rest MessageFits
 unfolding message_rest_at
-message_rest_takes bytes x fits e =
-    let a = bind_ok (number_at w16 bytes)
-    (λ from. number_at w64 from.1 >>= λ stamp. Ok (a_message from.0 stamp.0, stamp.1)) x e in
-    let b = bind_ok (number_at w64 a.0.1) (λ stamp. Ok (a_message a.0.0 stamp.0, stamp.1)) x a.2 in
-    let t = two.takes bytes a.0 fits a.1 in
-    let u = eight.takes a.0.1 b.0 t.0.rest_fits b.1 in
-    subst (λ (y : Message × List ℕ). Takes bytes (message_rest y.0) y.1 × MessageFits y.0)
-    (ok_is (a_message a.0.0 b.0.0, b.0.1) x b.2) (
-      Takes-then bytes (to_be_bytes w16 a.0.0) a.0.1 (to_be_bytes w64 b.0.0) b.0.1 t.0 u.0,
-      record { node = t.1; stamp = u.1 },
-    )
+message_rest_field =
+    via (field _ two (λ from. last (a_message from) eight)) (λ t f. (record { node = f.0; stamp = f.1 }, refl))
+    (λ m f. ((m.from, m.stamp), (f.node, f.stamp), refl))
 
-message_rest_again : (message : Message) (rest : List ℕ) → MessageFits message
-    → message_rest_at (message_rest message ++ rest) ≡ Ok (message, rest)
-unfolding message_rest_at
-message_rest_again message rest fits =
-    let a : List ℕ = to_be_bytes w16 message.from in
-    let b : List ℕ = to_be_bytes w64 message.stamp in
-    ap message_rest_at (append_assoc a b rest)
-    ∙ rw (two.again message.from (b ++ rest) fits.node, eight.again message.stamp rest fits.stamp) refl
-
-message_takes : (bytes : List ℕ) (x : Message × List ℕ) → IsBytes bytes → message_at bytes ≡ Ok x
-    → Takes bytes (message_bytes x.0) x.1 × MessageFits x.0
+message_each : (b : ℕ) → IsCase message_at message_bytes MessageFits b
 unfolding message_at
-message_takes [] x fits e = absurd cc
-message_takes (zero ∷ bytes) x fits e = absurd cc
-message_takes (suc zero ∷ bytes) x fits e =
-    let t = message_rest_takes bytes x (IsBytes-rest 1 bytes fits) e in
-    (Takes-cons 1 bytes (message_rest x.0) x.1 t.0, t.1)
-message_takes (suc (suc b) ∷ bytes) x fits e = absurd cc
+message_each zero = no_case Version (λ rest. refl)
+message_each (suc zero) = a_case (alone message_rest_field) (λ t few f. (f, refl))
+message_each (suc (suc b)) = no_case Version (λ rest. refl)
 
-message_again : (message : Message) (rest : List ℕ) → MessageFits message
-    → message_at (message_bytes message ++ rest) ≡ Ok (message, rest)
+pub message_field : IsField message_at message_bytes MessageFits
 unfolding message_at
-message_again message rest fits = message_rest_again message rest fits
-
-pub message_reader : IsReader message_at message_bytes MessageFits
-message_reader = record { takes = message_takes; again = message_again }
+message_field = choice refl message_each message_rest_field.reads.again
 
 -- what was read from the front is read of all the bytes, if none follows
 pub whole_is_ok : {A : Type 0} (read : Result (A × List ℕ) WireFault) (x : A × List ℕ) → read ≡ Ok x → x.1 ≡ []

@@ -1,13 +1,9 @@
 -- The byte for the kind of an item.
 use Rattle.std.proofs.Common.{◌≡◌, ℕ, ◌++◌, List, refl, sym, subst, Ok, inl, inr}
-use Rattle.hlc_node.specs.Items.{an_item, IsShort}
-use Rattle.hlc_node.specs.declared.item.Item.{Item}
-use Rattle.hlc_node.specs.declared.item.Body.{Body}
+use Rattle.hlc_node.specs.{Items.an_item, Items.IsShort, declared.item.Item.Item, declared.item.Body.Body}
 use Rattle.hlc_node.specs.declared.item.Body.TheVariants.{Write, Batch, Report, Retire}
-use Rattle.hlc_wire.specs.Spelling.{item_bytes}
-use Rattle.hlc_wire.specs.Reading.{item_at, NeedsMemory}
-use Rattle.hlc_wire.proofs.FieldLemmas.{IsBytes}
-use Rattle.hlc_wire.proofs.ItemLemmas.{item_reader}
+use Rattle.hlc_wire.specs.{Spelling.item_bytes, Reading.item_at, Reading.NeedsMemory}
+use Rattle.hlc_wire.proofs.{FieldLemmas.IsBytes, ItemLemmas.item_reader}
 
 kind_of : (node number stamp : ℕ) (body : Body) (rest : List ℕ) → (IsShort body → ⊥)
     → NeedsMemory (item_bytes (an_item node number stamp body) ++ rest)

@@ -1,11 +1,8 @@
 -- What is written to a buffer part by part is written to it at once.
-use Rattle.std.proofs.Common.{◌≡◌, ℕ, ◌+◌, ◌≤◌, ◌∙◌, sym, ap, ap₂, refl, List, [], ◌∷◌, ◌++◌, take, drop, length}
-use Rattle.std.proofs.Common.{arith, length-append, Option, Some, None}
-use Rattle.std.specs.Prelude.{IsSome}
-use Rattle.std.proofs.lemmas.List.{append_assoc, append-nil, length-take, length-drop, take-append-le, take_all}
-use Rattle.std.proofs.lemmas.List.{take_at}
-use Rattle.std.proofs.lemmas.List.{drop-drop, nil_from_length}
-use Rattle.std.proofs.Math.Seq.{drop-append-add}
+use Rattle.std.proofs.Common.{◌≡◌, ℕ, ◌+◌, ◌≤◌, ◌∙◌, sym, ap, ap₂, refl, List, [], ◌∷◌, ◌++◌, take, drop, length, arith}
+use Rattle.std.proofs.Common.{length-append, Option, Some, None, IsSome, append_assoc, append-nil, length-take}
+use Rattle.std.proofs.Common.{length-drop, take_all, take_at, drop-drop}
+use Rattle.std.proofs.{lemmas.List.take-append-le, lemmas.List.nil_from_length, Math.Seq.drop-append-add}
 use Rattle.hlc_node.specs.declared.item.Item.{Item}
 use Rattle.hlc_wire.specs.Spelling.{numbers_bytes, body_bytes, item_bytes}
 use Rattle.hlc_wire.specs.Placing.{with_bytes, PutsFront}

@@ -1,11 +1,9 @@
 -- The number and the text of each fault.
 use Rattle.std.specs.Prelude.{ℕ, List, codes}
 use Rattle.hlc_rows.specs.Faults.{body_text}
-use Rattle.hlc_wire.specs.declared.fault.WireFault.{WireFault}
+use Rattle.hlc_wire.specs.declared.fault.{WireFault.WireFault, DecodeError.DecodeError, EncodeError.EncodeError}
 use Rattle.hlc_wire.specs.declared.fault.WireFault.TheVariants.{Short, Version, Kind, EmptyKey, Flag, Trailing, Damaged}
-use Rattle.hlc_wire.specs.declared.fault.DecodeError.{DecodeError}
 use Rattle.hlc_wire.specs.declared.fault.DecodeError.TheVariants as decoding
-use Rattle.hlc_wire.specs.declared.fault.EncodeError.{EncodeError}
 use Rattle.hlc_wire.specs.declared.fault.EncodeError.TheVariants as encoding
 
 -- the number of a fault in outputs

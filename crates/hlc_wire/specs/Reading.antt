@@ -1,16 +1,12 @@
 -- Reading from left to right, up to the first fault.
-use Rattle.std.specs.Prelude.{◌≡◌, ◌⊎◌, ℕ, zero, suc, slice_get, Bool, true, false, List, [], ◌∷◌}
-use Rattle.std.specs.Prelude.{length, take, drop}
+use Rattle.std.specs.Prelude.{◌≡◌, ◌⊎◌, ℕ, zero, suc, slice_get, Bool, true, false, List, [], ◌∷◌, length, take, drop}
 use Rattle.std.specs.Prelude.{Option, Some, None, Result, Ok, Err, nat_lt, ◌==◌, if◌then◌else◌}
 use Rattle.std.specs.Int.{Width, w16, w64, byte_len, from_be_bytes}
-use Rattle.hlc_node.specs.declared.item.Item.{Item}
-use Rattle.hlc_node.specs.declared.item.Message.{Message}
-use Rattle.hlc_node.specs.declared.item.Body.{Body}
+use Rattle.hlc_node.specs.declared.item.{Item.Item, Body.Body, Message.Message}
 use Rattle.hlc_node.specs.declared.item.Body.TheVariants.{Write as a_write, Batch, Report, Retire}
 use Rattle.hlc_rows.specs.declared.write.Write.{Write}
-use Rattle.hlc_wire.specs.declared.fault.WireFault.{WireFault}
+use Rattle.hlc_wire.specs.declared.fault.{WireFault.WireFault, DecodeError.DecodeError}
 use Rattle.hlc_wire.specs.declared.fault.WireFault.TheVariants.{Short, Version, Kind, EmptyKey, Flag, Trailing}
-use Rattle.hlc_wire.specs.declared.fault.DecodeError.{DecodeError}
 use Rattle.hlc_wire.specs.declared.fault.DecodeError.TheVariants as errors
 
 infixl 10 ◌>>=◌

@@ -1,11 +1,10 @@
 //! The writes of a batch as bytes: one less than their number in a byte, and for each its key and its value.
-ghost use Rattle.std.specs.Prelude.{◌≡◌, ◌≤◌, ◌<◌, ◌+◌, ◌++◌, ◌*◌, length, option_copied, IfOk};
-ghost use Rattle.std.specs.Prelude.{MatchResult, Ok, Err, IsTrue, []};
+ghost use Rattle.std.specs.Prelude.{◌≡◌, ◌≤◌, ◌<◌, ◌+◌, ◌++◌, ◌*◌, length, option_copied, IfOk, MatchResult, Ok, Err};
+ghost use Rattle.std.specs.Prelude.{IsTrue, []};
 ghost use Rattle.hlc_rows.specs.Spelled.{writes_in, write_seen};
-ghost use Rattle.hlc_wire.specs.Spelling.{key_bytes, value_bytes, write_bytes, writes_bytes, batch_bytes};
-ghost use Rattle.hlc_wire.specs.Spelling.{KeyFits, ValueFits, WritesFit, BatchFits};
-ghost use Rattle.hlc_wire.specs.Placing.{with_bytes};
-ghost use Rattle.hlc_wire.specs.Reading.{Reads, writes_at, batch_at, whole};
+ghost use Rattle.hlc_wire.specs.Spelling.{key_bytes, value_bytes, write_bytes, writes_bytes, batch_bytes, KeyFits};
+ghost use Rattle.hlc_wire.specs.Spelling.{ValueFits, WritesFit, BatchFits};
+ghost use Rattle.hlc_wire.specs.{Placing.with_bytes, Reading.Reads, Reading.writes_at, Reading.batch_at, Reading.whole};
 
 use crate::fault::WireFault;
 use crate::fields::{copy_value, key_slice_at, value_slice_at};

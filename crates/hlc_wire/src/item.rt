@@ -1,12 +1,9 @@
 //! Items as bytes.
-ghost use Rattle.std.specs.Prelude.{◌≡◌, ◌≤◌, length, IfOk, IfErr, IsOk, IsErrOf};
-ghost use Rattle.std.specs.Prelude.{Ok, None, Some, IsSome, MatchResult};
-ghost use Rattle.hlc_node.specs.Items.{body_refusal, IsShort};
-ghost use Rattle.hlc_node.specs.declared.item.Item.{Item as AnItem};
+ghost use Rattle.std.specs.Prelude.{◌≡◌, ◌≤◌, length, IfOk, IfErr, IsOk, IsErrOf, Ok, None, Some, IsSome, MatchResult};
+ghost use Rattle.hlc_node.specs.{Items.body_refusal, Items.IsShort, declared.item.Item.Item as AnItem};
 ghost use Rattle.hlc_wire.specs.Spelling.{item_bytes, most_bytes, ItemFits};
-ghost use Rattle.hlc_wire.specs.Placing.{PutsFront};
+ghost use Rattle.hlc_wire.specs.{Placing.PutsFront, Refusal.IsRefusal};
 ghost use Rattle.hlc_wire.specs.Reading.{Gives, Reads, item_at, item_rest_at, numbered_at, whole, NeedsMemory};
-ghost use Rattle.hlc_wire.specs.Refusal.{IsRefusal};
 
 use crate::batch::{batch_at, copy_batch, write_size, writes_size};
 use crate::fault::{DecodeError, EncodeError, WireFault};

@@ -2,9 +2,8 @@
 //! part, and leaves the other bytes unchanged.
 ghost use Rattle.std.specs.Prelude.{◌≡◌, ◌≤◌, ◌+◌, length, option_copied};
 ghost use Rattle.hlc_node.specs.declared.item.Body.TheVariants.{Write as a_write};
-ghost use Rattle.hlc_wire.specs.Spelling.{body_bytes, value_bytes, numbers_bytes, BodyFits, KeyFits, ValueFits};
-ghost use Rattle.hlc_wire.specs.Spelling.{NumbersFit};
-ghost use Rattle.hlc_wire.specs.Placing.{with_bytes};
+ghost use Rattle.hlc_wire.specs.{Spelling.body_bytes, Spelling.value_bytes, Spelling.numbers_bytes, Spelling.BodyFits};
+ghost use Rattle.hlc_wire.specs.{Spelling.KeyFits, Spelling.ValueFits, Spelling.NumbersFit, Placing.with_bytes};
 
 use crate::batch::put_batch;
 use hlc_node::{Content, ItemRef};

@@ -1,6 +1,5 @@
 -- All parts except the rows, one after the other.
-use Rattle.hlc_body.specs.Seen.{seen}
-use Rattle.hlc_body.proofs.Preambles.{preamble_spelled}
+use Rattle.hlc_body.{specs.Seen.seen, proofs.Preambles.preamble_spelled}
 use Rattle.hlc_body.proofs.preamble.put_preamble.Goals as goal
 
 pub returns : goal.returns

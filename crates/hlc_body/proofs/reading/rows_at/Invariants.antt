@@ -1,7 +1,6 @@
 -- Those so far, and those that are left, are all of them.
 use Rattle.std.proofs.Common.{◌≡◌, ◌-◌}
-use Rattle.hlc_body.specs.Reading.{times_at, row_at}
-use Rattle.hlc_body.proofs.ListLemmas.{with_front}
+use Rattle.hlc_body.{specs.Reading.times_at, specs.Reading.row_at, proofs.ListLemmas.with_front}
 use Rattle.hlc_body.proofs.reading.rows_at.Given as goal
 
 abbrev pub invariant-loop : goal.invariant-loop

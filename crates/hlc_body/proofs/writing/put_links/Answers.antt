@@ -1,8 +1,6 @@
 -- One more is written.
-use Rattle.std.proofs.Common.{length}
-use Rattle.std.specs.Int.{w16, to_be_bytes}
-use Rattle.hlc_body.specs.Spelling.{link_bytes}
-use Rattle.hlc_body.proofs.ListLemmas.{list_on}
+use Rattle.std.{proofs.Common.length, specs.Int.w16, specs.Int.to_be_bytes}
+use Rattle.hlc_body.{specs.Spelling.link_bytes, proofs.ListLemmas.list_on}
 use Rattle.hlc_body.proofs.writing.put_links.Goals as goal
 
 pub loop-link-preserved : goal.loop-link-preserved

@@ -1,7 +1,6 @@
 -- Those so far are written.
 use Rattle.std.proofs.Common.{◌≡◌, ◌++◌, length, take}
-use Rattle.std.specs.List.{flat_map}
-use Rattle.std.specs.Int.{w16, to_be_bytes}
+use Rattle.std.specs.{List.flat_map, Int.w16, Int.to_be_bytes}
 use Rattle.hlc_body.specs.Spelling.{link_bytes}
 use Rattle.hlc_body.proofs.writing.put_links.Given as goal
 

@@ -1,9 +1,8 @@
 -- All of the bytes are read back.
 use Rattle.std.proofs.Common.{ap, subst, ◌∙◌, arith}
 use Rattle.hlc_wire.specs.Reading.{Gives}
-use Rattle.hlc_saved.specs.declared.decode.Decoded.{Decoded}
+use Rattle.hlc_saved.{specs.declared.decode.Decoded.Decoded, proofs.SaveLemmas.found, proofs.SaveLemmas.saved_again}
 use Rattle.hlc_body.specs.Reading.{saved}
-use Rattle.hlc_saved.proofs.SaveLemmas.{found, saved_again}
 use Rattle.hlc_saved.proofs.decode.decode_checkpoint.Goals as goal
 
 pub returns-clause-found : goal.returns-clause-found

@@ -1,6 +1,5 @@
 -- An item may write each of the listed rows.
-use Rattle.std.proofs.Common.{subst, sym}
-use Rattle.std.proofs.lemmas.List.Sorted.{All-permutation}
+use Rattle.std.proofs.{Common.subst, Common.sym, lemmas.List.Sorted.All-permutation}
 use Rattle.hlc_table_column.specs.Rows.{rows_in_one}
 use Rattle.hlc_witness.specs.Cost.{IsInLimits, AreInLimits}
 use Rattle.hlc_saved.proofs.leaf.append_column.Goals as goal

@@ -1,10 +1,8 @@
 -- Each column is written after those before it.
 use Rattle.std.proofs.Common.{◌∙◌, ◌++◌, ℕ, List, ap, refl, append_assoc}
-use Rattle.std.specs.List.{flat_map}
-use Rattle.std.proofs.lemmas.Option.{slice_get_read}
+use Rattle.std.{specs.List.flat_map, proofs.lemmas.Option.slice_get_read}
 use Rattle.hlc_body.specs.Spelling.{row_bytes}
-use Rattle.hlc_saved.specs.Writing.{HasMore}
-use Rattle.hlc_saved.proofs.StorePieces.{on_err, column_on}
+use Rattle.hlc_saved.{specs.Writing.HasMore, proofs.StorePieces.on_err, proofs.StorePieces.column_on}
 use Rattle.hlc_saved.proofs.leaf.append_columns.Goals as goal
 
 pub returns-in_err-append_column-clause-err : goal.returns-in_err-append_column-clause-err

@@ -1,9 +1,7 @@
 -- What was there is unchanged.
-use Rattle.std.proofs.Common.{take, ◌∙◌}
-use Rattle.std.specs.List.{flat_map}
+use Rattle.std.{proofs.Common.take, proofs.Common.◌∙◌, specs.List.flat_map}
 use Rattle.hlc_body.specs.Spelling.{row_bytes}
-use Rattle.hlc_saved.specs.Writing.{HasMore}
-use Rattle.hlc_saved.proofs.StorePieces.{on_err}
+use Rattle.hlc_saved.{specs.Writing.HasMore, proofs.StorePieces.on_err}
 use Rattle.hlc_saved.proofs.leaf.append_rows.Goals as goal
 
 pub returns-in_err-append_row-clause-err : goal.returns-in_err-append_row-clause-err

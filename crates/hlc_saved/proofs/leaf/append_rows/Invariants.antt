@@ -1,6 +1,5 @@
 -- Those so far are written.
-use Rattle.std.proofs.Common.{◌≡◌, ◌++◌, take}
-use Rattle.std.specs.List.{flat_map}
+use Rattle.std.{proofs.Common.◌≡◌, proofs.Common.◌++◌, proofs.Common.take, specs.List.flat_map}
 use Rattle.hlc_body.specs.Spelling.{row_bytes}
 use Rattle.hlc_saved.proofs.leaf.append_rows.Given as goal
 

@@ -1,10 +1,9 @@
 -- Each leaf is written after those before it; all pieces are the bytes.
 use Rattle.std.proofs.Common.{◌≡◌, ◌∙◌, ◌++◌, [], ap, sym, subst, refl, arith, ℕ, List}
-use Rattle.hlc_saved.specs.Saved.{AreOfStore}
-use Rattle.hlc_saved.specs.Writing.{begin_bytes, leaves_left}
+use Rattle.hlc_saved.specs.{Saved.AreOfStore, Writing.begin_bytes, Writing.leaves_left}
 use Rattle.hlc_saved.proofs.StorePieces.{SavesMore, saves_none, saves_then, all_saved, bytes_represent}
-use Rattle.hlc_saved.proofs.saving.save.Goals as goal
 use Rattle.hlc_saved.proofs.saving.save.Goals.{In_ok-end}
+use Rattle.hlc_saved.proofs.saving.save.Goals as goal
 
 pub loop-init : goal.loop-init
 loop-init c =

@@ -1,7 +1,6 @@
 -- As many leaves as there were turns are written.
 use Rattle.std.proofs.Common.{◌≡◌, ◌-◌}
-use Rattle.hlc_saved.specs.Writing.{begin_bytes, leaves_left}
-use Rattle.hlc_saved.proofs.StorePieces.{SavesMore}
+use Rattle.hlc_saved.{specs.Writing.begin_bytes, specs.Writing.leaves_left, proofs.StorePieces.SavesMore}
 use Rattle.hlc_saved.proofs.saving.save.Given as goal
 
 abbrev pub invariant-loop : goal.invariant-loop

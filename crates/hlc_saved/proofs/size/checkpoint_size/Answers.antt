@@ -1,6 +1,5 @@
 -- The parts add up to the whole.
-use Rattle.std.proofs.Common.{ap, ◌∙◌, length, List}
-use Rattle.std.specs.List.{flat_map}
+use Rattle.std.{proofs.Common.ap, proofs.Common.◌∙◌, proofs.Common.length, proofs.Common.List, specs.List.flat_map}
 use Rattle.hlc_rows.specs.declared.row.Row.{Row}
 use Rattle.hlc_body.specs.Spelling.{Preamble, row_bytes, preamble_bytes}
 use Rattle.hlc_saved.proofs.Sizes.{all_take, some_iff}

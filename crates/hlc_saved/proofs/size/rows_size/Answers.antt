@@ -1,7 +1,5 @@
 -- The size of all is that of those so far, or more.
-use Rattle.std.proofs.Common.{◌≡◌, length, arith, ap, ◌∙◌}
-use Rattle.std.specs.List.{flat_map}
-use Rattle.std.proofs.lemmas.List.{take_all}
+use Rattle.std.proofs.Common.{◌≡◌, length, arith, ap, ◌∙◌, flat_map, take_all}
 use Rattle.hlc_rows.specs.declared.row.Row.{Row}
 use Rattle.hlc_body.specs.Spelling.{row_bytes}
 use Rattle.hlc_saved.proofs.Sizes.{size_within}

@@ -1,6 +1,5 @@
 -- The size of those so far, which fit.
-use Rattle.std.proofs.Common.{◌≡◌, ℕ, ◌<◌, length, take, get_or}
-use Rattle.std.specs.List.{flat_map}
+use Rattle.std.proofs.Common.{◌≡◌, ℕ, ◌<◌, length, take, get_or, flat_map}
 use Rattle.hlc_rows.specs.declared.row.Row.{Row}
 use Rattle.hlc_body.specs.Spelling.{row_bytes, RowFits}
 use Rattle.hlc_saved.proofs.size.rows_size.Given as goal

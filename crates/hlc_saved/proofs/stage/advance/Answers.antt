@@ -1,7 +1,6 @@
 -- The part before the rows is read, or is not; then the rows are.
 use Rattle.std.proofs.Common.{[], ℕ, arith, sym, subst}
-use Rattle.hlc_checkpoint.specs.Growing.{HasGrown}
-use Rattle.hlc_checkpoint.specs.StoreView.{with_rows}
+use Rattle.hlc_checkpoint.specs.{Growing.HasGrown, StoreView.with_rows}
 use Rattle.hlc_saved.specs.Blocks.{RowsLeave, Leaves}
 use Rattle.hlc_saved.proofs.Stages.{begun_rows, preamble_back, back_again}
 use Rattle.hlc_saved.proofs.stage.advance.Goals as goal

@@ -1,7 +1,6 @@
 -- The bytes end within a part, or all rows were read: bytes follow, or none do.
 use Rattle.std.proofs.Common.{◌≡◌, ◌<◌, arith, sym, subst, ◌∙◌}
-use Rattle.hlc_saved.specs.Saved.{Ends}
-use Rattle.hlc_saved.specs.Blocks.{RowsLeave, Leaves, IsStuck}
+use Rattle.hlc_saved.specs.{Saved.Ends, Blocks.RowsLeave, Blocks.Leaves, Blocks.IsStuck}
 use Rattle.hlc_saved.proofs.Stages.{ended_start, ended_short, ended_more, ended_all}
 use Rattle.hlc_saved.proofs.stage.finished.Goals as goal
 

@@ -1,8 +1,7 @@
 -- A fault other than Short stays, whatever follows.
 use Rattle.std.proofs.Common.{◌≢◌, refl, rules, subst}
 use Rattle.hlc_wire.specs.declared.fault.WireFault.TheVariants.{Short}
-use Rattle.hlc_saved.specs.Blocks.{NextFails}
-use Rattle.hlc_saved.proofs.Stages.{stays_wrong}
+use Rattle.hlc_saved.{specs.Blocks.NextFails, proofs.Stages.stays_wrong}
 use Rattle.hlc_saved.proofs.stage.halted.Goals as goal
 
 pub returns-in-Fault : goal.returns-in-Fault

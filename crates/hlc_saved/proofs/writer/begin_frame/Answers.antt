@@ -1,7 +1,6 @@
 -- The part after the front is hashed.
 use Rattle.std.proofs.Common.{[], drop, ap, ◌∙◌, subst, List, ℕ}
-use Rattle.hlc_frame.specs.Frame.{front_bytes}
-use Rattle.hlc_frame.specs.Writing.{HasPut}
+use Rattle.hlc_frame.specs.{Frame.front_bytes, Writing.HasPut}
 use Rattle.hlc_body.specs.Seen.{seen}
 use Rattle.hlc_saved.proofs.Pieces.{after_front}
 use Rattle.hlc_saved.proofs.writer.begin_frame.Goals as goal

@@ -1,8 +1,6 @@
 -- The pieces, one after the other.
-use Rattle.std.proofs.Common.{◌≡◌, ◌<◌, ap, subst, length}
-use Rattle.std.specs.Prelude.{SomeIff}
-use Rattle.hlc_body.specs.Spelling.{preamble_bytes, checkpoint_bytes}
-use Rattle.hlc_body.specs.Seen.{seen}
+use Rattle.std.proofs.Common.{◌≡◌, ◌<◌, ap, subst, length, SomeIff}
+use Rattle.hlc_body.specs.{Spelling.preamble_bytes, Spelling.checkpoint_bytes, Seen.seen}
 use Rattle.hlc_saved.proofs.Pieces.{first_piece, noted, written}
 use Rattle.hlc_saved.proofs.writer.encode_checkpoint.Goals as goal
 

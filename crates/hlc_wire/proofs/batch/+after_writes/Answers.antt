@@ -1,6 +1,5 @@
 -- A write is read, and then the others.
-use Rattle.std.proofs.Common.{option_copied, List, ℕ}
-use Rattle.std.proofs.Common.{Bor}
+use Rattle.std.proofs.Common.{option_copied, List, ℕ, Bor}
 use Rattle.hlc_wire.proofs.BatchLemmas.{writes_more, writes_zero}
 use Rattle.hlc_wire.proofs.batch.+after_writes.Goals as goal
 

@@ -1,8 +1,7 @@
 -- A write is put, and then the others.
 use Rattle.std.proofs.Common.{◌≡◌, ◌∷◌, rules}
 use Rattle.hlc_rows.specs.Spelled.{write_seen}
-use Rattle.hlc_wire.specs.Spelling.{write_bytes, writes_bytes}
-use Rattle.hlc_wire.proofs.PlacingLemmas.{put_both}
+use Rattle.hlc_wire.{specs.Spelling.write_bytes, specs.Spelling.writes_bytes, proofs.PlacingLemmas.put_both}
 use Rattle.hlc_wire.proofs.batch.+put_writes.Goals as goal
 
 pub returns-clause-put : goal.returns-clause-put

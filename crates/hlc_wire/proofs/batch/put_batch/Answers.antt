@@ -1,7 +1,6 @@
 -- The number of writes less one, and the writes.
 use Rattle.std.proofs.Common.{◌-◌, [], ◌∷◌, length}
-use Rattle.hlc_wire.specs.Spelling.{writes_bytes}
-use Rattle.hlc_wire.proofs.PlacingLemmas.{put_both}
+use Rattle.hlc_wire.{specs.Spelling.writes_bytes, proofs.PlacingLemmas.put_both}
 use Rattle.hlc_wire.proofs.batch.put_batch.Goals as goal
 
 pub returns-clause-put : goal.returns-clause-put

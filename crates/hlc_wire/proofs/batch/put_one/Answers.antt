@@ -1,7 +1,6 @@
 -- The length of the key, the key and the value, one after another.
 use Rattle.std.proofs.Common.{[], ◌∷◌, length, option_copied}
-use Rattle.hlc_wire.specs.Spelling.{value_bytes}
-use Rattle.hlc_wire.proofs.PlacingLemmas.{put_three}
+use Rattle.hlc_wire.{specs.Spelling.value_bytes, proofs.PlacingLemmas.put_three}
 use Rattle.hlc_wire.proofs.batch.put_one.Goals as goal
 
 pub returns-clause-put : goal.returns-clause-put

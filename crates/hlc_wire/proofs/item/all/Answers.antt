@@ -1,10 +1,6 @@
 -- Where the copy of an item needs memory, it is a write or a batch.
-use Rattle.std.proofs.Common.{sym, arith}
-use Rattle.std.proofs.lemmas.Bool.{eqb-true, false≢true}
-use Rattle.std.proofs.lemmas.List.{nil_from_length}
-use Rattle.hlc_wire.proofs.ItemLemmas.{whole_is_ok}
-use Rattle.hlc_wire.proofs.KindLemmas.{kind_at}
-use Rattle.hlc_wire.specs.Reading.{item_at}
+use Rattle.std.proofs.{Common.sym, Common.arith, Common.eqb-true, lemmas.Bool.false≢true, lemmas.List.nil_from_length}
+use Rattle.hlc_wire.{proofs.ItemLemmas.whole_is_ok, proofs.KindLemmas.kind_at, specs.Reading.item_at}
 use Rattle.hlc_wire.proofs.item.all.Goals as goal
 
 pub returns-in_err-copy-clause-memory : goal.returns-in_err-copy-clause-memory

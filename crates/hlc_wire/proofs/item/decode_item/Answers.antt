@@ -1,10 +1,8 @@
 -- All of the bytes are read back.
 use Rattle.std.proofs.Common.{ap, subst, ◌∙◌, arith}
 use Rattle.hlc_node.specs.declared.item.Item.{Item}
-use Rattle.hlc_wire.specs.Spelling.{item_bytes, ItemFits}
-use Rattle.hlc_wire.specs.Reading.{Gives, item_at, whole}
-use Rattle.hlc_wire.proofs.FieldLemmas.{whole_again}
-use Rattle.hlc_wire.proofs.ItemLemmas.{is_found, item_reader}
+use Rattle.hlc_wire.specs.{Spelling.item_bytes, Spelling.ItemFits, Reading.Gives, Reading.item_at, Reading.whole}
+use Rattle.hlc_wire.proofs.{FieldLemmas.whole_again, ItemLemmas.is_found, ItemLemmas.item_reader}
 use Rattle.hlc_wire.proofs.item.decode_item.Goals as goal
 
 pub returns-clause-found : goal.returns-clause-found

@@ -1,8 +1,7 @@
 -- The parts of an item, one after another.
-use Rattle.hlc_wire.proofs.ItemLemmas.{body_fits}
-use Rattle.hlc_wire.proofs.PlacingLemmas.{item_put}
-use Rattle.hlc_wire.proofs.item.put_item.Goals as goal
+use Rattle.hlc_wire.proofs.{ItemLemmas.body_fits, PlacingLemmas.item_put}
 use Rattle.std.proofs.Common.{arith}
+use Rattle.hlc_wire.proofs.item.put_item.Goals as goal
 
 pub returns-clause-put : goal.returns-clause-put
 returns-clause-put c =

@@ -1,7 +1,6 @@
 -- The kind and the batch.
 use Rattle.std.proofs.Common.{[], ◌∷◌}
-use Rattle.hlc_wire.specs.Spelling.{batch_bytes}
-use Rattle.hlc_wire.proofs.PlacingLemmas.{put_both}
+use Rattle.hlc_wire.{specs.Spelling.batch_bytes, proofs.PlacingLemmas.put_both}
 use Rattle.hlc_wire.proofs.placing.put_body.Goals as goal
 
 pub returns-in-Many-clause-put : goal.returns-in-Many-clause-put

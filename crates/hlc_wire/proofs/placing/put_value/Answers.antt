@@ -1,6 +1,5 @@
 -- The flag, the length and the value, one after another.
-use Rattle.std.proofs.Common.{[], ◌∷◌, length}
-use Rattle.std.specs.Int.{w16, to_be_bytes}
+use Rattle.std.{proofs.Common.[], proofs.Common.◌∷◌, proofs.Common.length, specs.Int.w16, specs.Int.to_be_bytes}
 use Rattle.hlc_wire.proofs.PlacingLemmas.{put_three}
 use Rattle.hlc_wire.proofs.placing.put_value.Goals as goal
 

@@ -2,8 +2,7 @@
 use Rattle.std.proofs.Common.{◌≡◌, take, drop, Ok, Err, ap, sym, ◌∙◌}
 use Rattle.std.proofs.lemmas.Result.{err_from_is_err_and}
 use Rattle.hlc_frame.specs.Opening.{front_at}
-use Rattle.hlc_frame.proofs.FrameLemmas.{tag_found, tag_fault, failed}
-use Rattle.hlc_frame.proofs.BlockLemmas.{goes_some}
+use Rattle.hlc_frame.proofs.{FrameLemmas.tag_found, FrameLemmas.tag_fault, FrameLemmas.failed, BlockLemmas.goes_some}
 use Rattle.hlc_frame.proofs.reader.FrameReader.finish.Goals as goal
 
 pub returns-in_err-found : goal.returns-in_err-found

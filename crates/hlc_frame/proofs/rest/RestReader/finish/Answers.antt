@@ -1,11 +1,10 @@
 -- Each exit is the result of reading all of the bytes.
-use Rattle.std.proofs.Common.{◌++◌, ℕ, Bool, List, length, take, ap, sym, ◌∙◌, true, false, arith}
-use Rattle.std.specs.Prelude.{bytes_eq}
+use Rattle.std.proofs.Common.{◌++◌, ℕ, Bool, List, length, take, ap, sym, ◌∙◌, true, false, arith, bytes_eq}
 use Rattle.sha2.specs.Sha256.{sha256}
 use Rattle.hlc_frame.proofs.RestLemmas.{says, no_body, no_digest, with_digest}
-use Rattle.hlc_frame.proofs.rest.RestReader.finish.Goals as goal
 use Rattle.hlc_frame.proofs.rest.RestReader.finish.Goals.{then-left-gt0-via-then-left-gt0}
 use Rattle.hlc_frame.proofs.rest.RestReader.finish.Goals.{then-left-gt0-via-else-left-gt0+then-found-lt-DIGEST_BYTES}
+use Rattle.hlc_frame.proofs.rest.RestReader.finish.Goals as goal
 
 pub returns-then-left-gt0 : goal.returns-then-left-gt0
 returns-then-left-gt0 c = λ front len bytes has.

@@ -1,8 +1,6 @@
 -- The bytes that were read are no longer pending.
-use Rattle.std.proofs.Common.{◌++◌, ◌-◌, arith, ℕ, List, drop, length, ap, sym, subst, ◌∙◌, ◌≡◌}
-use Rattle.std.specs.Prelude.{OnOk}
-use Rattle.hlc_saved.specs.Blocks.{Leaves, IsStuck}
-use Rattle.hlc_saved.proofs.Blocks.{pending_back}
+use Rattle.std.proofs.Common.{◌++◌, ◌-◌, arith, ℕ, List, drop, length, ap, sym, subst, ◌∙◌, ◌≡◌, OnOk}
+use Rattle.hlc_saved.{specs.Blocks.Leaves, specs.Blocks.IsStuck, proofs.Blocks.pending_back}
 use Rattle.hlc_saved.proofs.parts.PartsReader.advance.Goals as goal
 
 pub returns-clause-same : goal.returns-clause-same

@@ -3,8 +3,7 @@ use Rattle.std.proofs.Common.{[], ◌++◌, sym, ◌∙◌}
 use Rattle.hlc_frame.specs.Reading.{body_so_far}
 use Rattle.hlc_wire.specs.Reading.{whole}
 use Rattle.hlc_body.specs.Reading.{checkpoint_at}
-use Rattle.hlc_saved.proofs.Blocks.{saved_fed}
-use Rattle.hlc_saved.proofs.SaveLemmas.{resumes, framed}
+use Rattle.hlc_saved.proofs.{Blocks.saved_fed, SaveLemmas.resumes, SaveLemmas.framed}
 use Rattle.hlc_saved.proofs.reader.CheckpointReader.finish.Goals as goal
 
 pub returns : goal.returns

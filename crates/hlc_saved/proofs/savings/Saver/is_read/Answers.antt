@@ -1,6 +1,5 @@
 -- The digest was made and read.
-use Rattle.std.proofs.Common.{arith}
-use Rattle.std.proofs.lemmas.Bool.{leb-true}
+use Rattle.std.proofs.{Common.arith, lemmas.Bool.leb-true}
 use Rattle.hlc_saved.proofs.Savers.{whole_read}
 use Rattle.hlc_saved.proofs.savings.Saver.is_read.Goals as goal
 

@@ -1,7 +1,6 @@
 -- The next keys are those above the last one.
 use Rattle.std.proofs.Common.{◌≡◌, subst, sym, [], arith}
-use Rattle.std.proofs.lemmas.List.{nil_from_length}
-use Rattle.std.proofs.lemmas.Bool.{eqb-true}
+use Rattle.std.proofs.lemmas.{List.nil_from_length, Bool.eqb-true}
 use Rattle.hlc_columns.specs.Answers.{AreNext}
 use Rattle.hlc_saved.proofs.Savers.{on_ok}
 use Rattle.hlc_saved.proofs.savings.Saver.make.Goals as goal

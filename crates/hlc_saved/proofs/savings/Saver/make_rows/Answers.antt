@@ -1,12 +1,9 @@
 -- The rows of the columns follow those that were made.
-use Rattle.std.proofs.Common.{refl, ◌∙◌, ◌++◌, ap, subst, List, ℕ, length, length-append, arith}
-use Rattle.std.specs.List.{flat_map}
+use Rattle.std.proofs.Common.{refl, ◌∙◌, ◌++◌, ap, subst, List, ℕ, length, length-append, arith, flat_map}
 use Rattle.hlc_body.specs.Spelling.{row_bytes}
 use Rattle.hlc_table_column.specs.Rows.{KeyCells}
 use Rattle.hlc_frame.specs.Writing.{HasPut}
-use Rattle.hlc_saved.specs.Writing.{HasColumns}
-use Rattle.hlc_saved.proofs.Makes.{some_bytes, last_at}
-use Rattle.hlc_saved.proofs.Savers.{rows_made}
+use Rattle.hlc_saved.{specs.Writing.HasColumns, proofs.Makes.some_bytes, proofs.Makes.last_at, proofs.Savers.rows_made}
 use Rattle.hlc_saved.proofs.savings.Saver.make_rows.Goals as goal
 
 pub returns-clause-made : goal.returns-clause-made

@@ -1,8 +1,7 @@
 -- Each turn reads the bytes that it made.
 use Rattle.std.proofs.Common.{subst, ℕ, List}
 use Rattle.hlc_core.specs.StoreView.{StoreView}
-use Rattle.hlc_saved.specs.Saver.{HasMade}
-use Rattle.hlc_saved.proofs.Savers.{takes_first, takes_more, of_ok}
+use Rattle.hlc_saved.{specs.Saver.HasMade, proofs.Savers.takes_first, proofs.Savers.takes_more, proofs.Savers.of_ok}
 use Rattle.hlc_saved.proofs.savings.Saver.read.Goals as goal
 
 pub loop-init : goal.loop-init

@@ -1,8 +1,6 @@
 -- The first piece was made.
 use Rattle.std.proofs.Common.{◌∙◌, ◌++◌, ◌+◌, ap, sym, refl, ℕ, List}
-use Rattle.hlc_saved.specs.Writing.{begin_bytes}
-use Rattle.hlc_saved.specs.Saver.{mark_of}
-use Rattle.hlc_saved.proofs.Savers.{started, saved_length}
+use Rattle.hlc_saved.{specs.Writing.begin_bytes, specs.Saver.mark_of, proofs.Savers.started, proofs.Savers.saved_length}
 use Rattle.hlc_saved.proofs.savings.Saver.start.Goals as goal
 
 pub returns-clause-made : goal.returns-clause-made

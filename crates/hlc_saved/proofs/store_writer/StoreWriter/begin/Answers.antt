@@ -1,13 +1,10 @@
 -- The front and the part before the rows are written, and no leaf is.
-use Rattle.std.proofs.Common.{refl, ◌≡◌, ◌∙◌, ◌<◌, ap, length, subst, ℕ}
-use Rattle.std.specs.Prelude.{IfSome, OnSome}
+use Rattle.std.proofs.Common.{refl, ◌≡◌, ◌∙◌, ◌<◌, ap, length, subst, ℕ, IfSome, OnSome}
 use Rattle.hlc_core.specs.StoreView.{StoreView}
-use Rattle.hlc_body.specs.Spelling.{checkpoint_bytes, preamble_of, CheckpointFits}
-use Rattle.hlc_body.specs.Seen.{seen}
-use Rattle.hlc_saved.proofs.Pieces.{first_piece}
-use Rattle.hlc_saved.proofs.StorePieces.{begun, front_put}
-use Rattle.hlc_saved.proofs.store_writer.StoreWriter.begin.Goals as goal
+use Rattle.hlc_body.specs.{Spelling.checkpoint_bytes, Spelling.preamble_of, Spelling.CheckpointFits, Seen.seen}
+use Rattle.hlc_saved.proofs.{Pieces.first_piece, StorePieces.begun, StorePieces.front_put}
 use Rattle.hlc_saved.proofs.store_writer.StoreWriter.begin.Goals.{In_ok-size}
+use Rattle.hlc_saved.proofs.store_writer.StoreWriter.begin.Goals as goal
 
 is_sized : (c : In_ok-size) → c.in_ok-size.size ≡ length (checkpoint_bytes c.args.core.now)
 is_sized c =

@@ -1,7 +1,6 @@
 -- All pieces together are those of a checkpoint of the store.
 use Rattle.std.proofs.Common.{subst, sym}
-use Rattle.hlc_frame.specs.Writing.{HasPut}
-use Rattle.hlc_frame.specs.declared.writer.FrameWriter.{FrameWriter}
+use Rattle.hlc_frame.specs.{Writing.HasPut, declared.writer.FrameWriter.FrameWriter}
 use Rattle.hlc_saved.specs.Writing.{front_of, body_to, end_bytes}
 use Rattle.hlc_saved.proofs.StorePieces.{saved_whole}
 use Rattle.hlc_saved.proofs.store_writer.StoreWriter.end.Goals as goal

@@ -1,10 +1,8 @@
 -- One more row is written.
-use Rattle.std.proofs.Common.{[], take, subst}
-use Rattle.std.proofs.lemmas.List.{take_all}
+use Rattle.std.proofs.{Common.[], Common.take, Common.subst, lemmas.List.take_all}
 use Rattle.hlc_body.specs.Spelling.{row_bytes}
-use Rattle.hlc_saved.specs.Writing.{HasWritten}
+use Rattle.hlc_saved.{specs.Writing.HasWritten, proofs.Pieces.row_more}
 use Rattle.hlc_body.proofs.ListLemmas.{list_on}
-use Rattle.hlc_saved.proofs.Pieces.{row_more}
 use Rattle.hlc_saved.proofs.writer.CheckpointWriter.rows.Goals as goal
 
 pub loop-row-preserved : goal.loop-row-preserved

@@ -1,6 +1,5 @@
 -- Those so far are written.
-use Rattle.std.proofs.Common.{◌≡◌, ◌++◌, ℕ, take, []}
-use Rattle.std.specs.List.{flat_map}
+use Rattle.std.proofs.Common.{◌≡◌, ◌++◌, ℕ, take, [], flat_map}
 use Rattle.hlc_core.specs.StoreView.{StoreView}
 use Rattle.hlc_body.specs.Spelling.{row_bytes}
 use Rattle.hlc_saved.specs.Writing.{HasWritten}
