@@ -1,7 +1,8 @@
 -- What a handle contains before and after a call.
-use Rattle.std.specs.Prelude.{◌≡◌, ℕ, List, Option, None, IsSome, MatchOption}
+use Rattle.std.specs.Prelude.{◌≡◌, ℕ, List, ◌++◌, Option, None, IsSome, MatchOption}
+use Rattle.std.specs.List.Sorted.{IsPermutation}
 use Rattle.hlc_core.specs.StoreView.{StoreView, Represents}
-use Rattle.hlc_core.specs.Past.{Step}
+use Rattle.hlc_core.specs.Past.{Step, item_rows}
 use Rattle.hlc_node.specs.declared.item.Item.{Item}
 use Rattle.hlc_handle.specs.contracts.reader.LentRoom.{the_row}
 use Rattle.hlc_calls.specs.Answers.{ReturnsAccepted, ReturnsChecked}
@@ -38,11 +39,12 @@ abbrev pub OnLoanPast : Loan → Type 0 → (ℕ → List Step → Type 0) → T
 OnLoanPast kept Closed Open =
     MatchOption kept Closed (λ lent. (past : List Step) → Represents lent.1 past → Open lent.0 past)
 
--- an item was accepted, or refused
+-- an item was accepted, and its rows were added alone; or it was refused
 abbrev pub IsAccepting : Option StoreView → Option StoreView → Item → ℕ → ℕ → Type 0
 IsAccepting old new item code word =
     OnStorePast old new ((code ≡ 100) × (word ≡ 0))
-    (λ before after past. ReturnsAccepted after item past code word)
+    (λ before after past. ReturnsAccepted after item past code word
+    × (code ≡ 0 → IsPermutation (before.rows ++ item_rows item) after.rows))
 
 -- why an item would be refused, if it would
 abbrev pub IsChecking : Loan → Item → ℕ → ℕ → Type 0

@@ -18,7 +18,7 @@ pub extern "C" fn hlc_store_join(
     start: &mut u64,
 ) -> u32
     ensures answer { OnStorePast store.old.value store.new.value ((result ≡ 100) × (node.new ≡ 0) × (start.new ≡ 0))
-        (λ old new past. ReturnsJoined new past result node.new start.new) }
+        (λ old new past. ReturnsJoined new past result node.new start.new × (new.rows ≡ old.rows)) }
     ensures nothing { result ≢ 0 → (node.new ≡ 0) × (start.new ≡ 0) }
     ensures unchanged { result ≢ 0 → store.new.value ≡ store.old.value }
 {
@@ -35,7 +35,7 @@ pub extern "C" fn hlc_store_join_at(
     word: &mut u64,
 ) -> u32
     ensures answer { OnStorePast store.old.value store.new.value ((result ≡ 100) × (node.new ≡ 0) × (word.new ≡ 0))
-        (λ old new past. ReturnsJoinedAt new start past result node.new word.new) }
+        (λ old new past. ReturnsJoinedAt new start past result node.new word.new × (new.rows ≡ old.rows)) }
     ensures nothing { result ≢ 0 → node.new ≡ 0 }
     ensures unchanged { result ≢ 0 → store.new.value ≡ store.old.value }
 {

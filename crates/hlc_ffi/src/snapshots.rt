@@ -21,7 +21,7 @@ pub extern "C" fn hlc_snapshot_open(
     id: &mut u64,
 ) -> u32
     ensures answer { OnStorePast store.old.value store.new.value ((result ≡ 100) × (id.new ≡ 0))
-        (λ old new past. ReturnsOpened new stamp past result id.new) }
+        (λ old new past. ReturnsOpened new stamp past result id.new × (new.rows ≡ old.rows)) }
     ensures unchanged { result ≢ 0 → store.new.value ≡ store.old.value }
 {
     on_core!(alloc, store, [id], |core| {
@@ -38,7 +38,7 @@ pub extern "C" fn hlc_snapshot_open_at_floor(
     stamp: &mut u64,
 ) -> u32
     ensures answer { OnStorePast store.old.value store.new.value ((result ≡ 100) × (id.new ≡ 0) × (stamp.new ≡ 0))
-        (λ old new past. ReturnsOpenedAtFloor new past result id.new stamp.new) }
+        (λ old new past. ReturnsOpenedAtFloor new past result id.new stamp.new × (new.rows ≡ old.rows)) }
     ensures nothing { result ≢ 0 → stamp.new ≡ 0 }
     ensures unchanged { result ≢ 0 → store.new.value ≡ store.old.value }
 {
@@ -56,7 +56,7 @@ pub extern "C" fn hlc_snapshot_close(
     stamp: &mut u64,
 ) -> u32
     ensures answer { OnStorePast store.old.value store.new.value ((result ≡ 100) × (stamp.new ≡ 0))
-        (λ old new past. ReturnsClosed new id past result stamp.new) }
+        (λ old new past. ReturnsClosed new id past result stamp.new × (new.rows ≡ old.rows)) }
     ensures unchanged { result ≢ 0 → store.new.value ≡ store.old.value }
 {
     on_core!(alloc, store, [stamp], |core| close(core, id, stamp))

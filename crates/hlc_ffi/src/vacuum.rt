@@ -1,5 +1,6 @@
 //! The calls that drop what no reader needs.
 ghost use Rattle.std.specs.Prelude.{◌≡◌, ◌≢◌, List, false};
+ghost use Rattle.hlc_vacuum.specs.Representing.{IsWithin};
 ghost use Rattle.hlc_core.specs.Past.{Step};
 ghost use Rattle.hlc_core.specs.StoreView.{Represents};
 ghost use Rattle.hlc_calls.specs.Answers.{ReturnsVacuumedAtFloor, ReturnsVacuumedTo, ReturnsVacuumChecked};
@@ -24,6 +25,8 @@ pub extern "C" fn hlc_store_vacuum(
 ) -> u32
     ensures answer { OnStore store.old.value store.new.value (result ≡ 100) (λ old new. result ≡ 0 → (past : List Step)
         → Represents old past → ReturnsVacuumedAtFloor new past floor.new kept.new bytes.new dropped.new) }
+    ensures within { OnStore store.old.value store.new.value (result ≡ 100)
+        (λ old new. result ≡ 0 → IsWithin old.rows new.rows) }
     ensures shortage { OnStore store.old.value store.new.value (result ≡ 100) (λ old new. result ≢ 0 → result ≡ 15) }
     ensures nothing { result ≢ 0 → (floor.new ≡ 0) × (kept.new ≡ 0) × (bytes.new ≡ 0) × (dropped.new ≡ 0) }
     ensures unchanged { result ≢ 0 → store.new.value ≡ store.old.value }
@@ -48,6 +51,8 @@ pub extern "C" fn hlc_store_vacuum_to(
     ensures answer { OnStore store.old.value store.new.value
         ((result ≡ 100) × (word.new ≡ 0)) (λ old new. (past : List Step) → Represents old past
         → ReturnsVacuumedTo new at past result word.new kept.new bytes.new dropped.new) }
+    ensures within { OnStore store.old.value store.new.value (result ≡ 100)
+        (λ old new. result ≡ 0 → IsWithin old.rows new.rows) }
     ensures nothing { result ≢ 0 → (kept.new ≡ 0) × (bytes.new ≡ 0) × (dropped.new ≡ 0) }
     ensures unchanged { result ≢ 0 → store.new.value ≡ store.old.value }
 {
@@ -79,6 +84,8 @@ pub extern "C" fn hlc_store_vacuum_part(
         ((result ≡ 100) × (word.new ≡ 0)) (λ old new. (past : List Step) → Represents old past
         → ReturnsVacuumedPart old new at after.now limit past result word.new kept.new bytes.new
         dropped.new len.new more.new out.old out.new) }
+    ensures within { OnStore store.old.value store.new.value (result ≡ 100)
+        (λ old new. result ≡ 0 → IsWithin old.rows new.rows) }
     ensures nothing { result ≢ 0 → (kept.new ≡ 0) × (bytes.new ≡ 0) × (dropped.new ≡ 0)
         × (len.new ≡ 0) × (more.new ≡ false) × (out.new ≡ out.old) }
     ensures unchanged { result ≢ 0 → store.new.value ≡ store.old.value }
