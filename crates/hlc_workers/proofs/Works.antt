@@ -3,9 +3,9 @@
 use Rattle.std.proofs.Common.{◌≡◌, ℕ, List, [], ◌∷◌, ◌++◌, map, Bool, Option, Some}
 use Rattle.std.proofs.Common.{None, sym, ap, ◌∙◌, arith}
 use Rattle.std.proofs.Common.{length-append, append_assoc, refl, subst, All, length, take, get_or, ◌+◌, ◌<◌}
-use Rattle.std.proofs.Common.{zero-add, replicate}
+use Rattle.std.proofs.Common.{zero-add, replicate, drop}
 use Rattle.std.specs.Prelude.{Result, Ok, Err, MatchResult}
-use Rattle.std.proofs.lemmas.List.{append-nil, map-append, take_more, replicate-append-replicate}
+use Rattle.std.proofs.lemmas.List.{append-nil, map-append, take_more, take-append-drop, replicate-append-replicate}
 use Rattle.std.proofs.lemmas.List.Elements.{All-append, All-nil}
 use mathlib.Core.Logic.{dite}
 use native.Mathlib.Decide.{dec_lt}
@@ -18,10 +18,12 @@ use Rattle.hlc_workers.specs.declared.session.Work.{Work}
 use Rattle.hlc_workers.specs.Paid.{event_of, IsPaid, Passed, HasCalled, HasStayed, IsStopped, MadeSome}
 use Rattle.hlc_workers.specs.Feeding.{accept_of, TookAll, raised_by, highest, fed_by, fed_all}
 use Rattle.hlc_events.specs.declared.event.CoreEvent.{CoreEvent}
-use Rattle.hlc_events.specs.declared.event.CoreEvent.TheVariants.{Read, Vacuum}
+use Rattle.hlc_events.specs.declared.event.CoreEvent.TheVariants.{Read, Close, Vacuum}
+use Rattle.hlc_core.specs.declared.reply.CoreReply.TheVariants.{Closed}
 use Rattle.hlc_server.specs.declared.end.WorkEnd.{WorkEnd}
 use Rattle.hlc_workers.specs.declared.session.Opening.{Opening}
-use Rattle.hlc_workers.specs.Rounds.{opening_of, IsOpening, IsRound, AreRounds}
+use Rattle.hlc_floor.specs.Views.{FloorPassView}
+use Rattle.hlc_workers.specs.Rounds.{opening_of, reads_of, IsOpening, IsRound, AreRounds, HasServed, HasBegun}
 
 -- before the first call
 pub paid-none : (seat : CallerView) → IsPaid seat seat []
@@ -70,6 +72,14 @@ called-append may old mid new xs ys p q = record {
   passed = passed-append may (length old.receipts.items) xs ys p.passed
       (subst (λ (n : ℕ). Passed may n ys) (ap length p.receipts ∙ length-append old.receipts.items xs) q.passed);
 }
+
+-- calls, and then none
+pub called_stay : {S L : Type 0} (may : S → ℕ → Bool → Type 0) (gate gate' : S) (old mid new : Work L)
+    (xs : List Receipt) → gate' ≡ gate → HasCalled (may gate) old mid xs → HasStayed mid new
+    → HasCalled (may gate) old new xs
+called_stay may gate gate' old mid new xs same p stayed =
+    subst (HasCalled (may gate) old new) (append-nil xs)
+    (called-append (may gate) old mid new xs [] p (called-none (may gate) mid new stayed))
 
 -- the same, where the second calls were made with a gate that equals the first one
 pub called_on : {S L : Type 0} (may : S → ℕ → Bool → Type 0) (gate gate' : S) (old mid new : Work L)
@@ -180,6 +190,54 @@ read_more keys id i item key more r lt is copy event had =
     ∙ sym (map-append (Read id) (take i keys) (get_or keys i item ∷ []))
     ∙ sym (ap (map (Read id)) (take_more keys i item lt))
 
+-- the receipt of a call that was not made, if it were
+abbrev pub missing : CoreEvent → Receipt
+missing event = record { caller = 0; number = 0; event = event; reply = Closed 0 }
+
+all_missing : (events : List CoreEvent) → map event_of (map missing events) ≡ events
+all_missing [] = refl
+all_missing (event ∷ events) = ap (λ l. event ∷ l) (all_missing events)
+
+-- the receipts of the first calls, and those of the calls that are missing
+pub some_missing : (made events : List CoreEvent) (more : List Receipt) → map event_of more ≡ made
+    → map event_of (more ++ map missing events) ≡ made ++ events
+some_missing made events more had =
+    map-append event_of more (map missing events)
+    ∙ ap (λ l. l ++ map event_of (map missing events)) had
+    ∙ ap (λ l. made ++ l) (all_missing events)
+
+-- the keys from this one on were not read
+pub keys_missing : (keys : List (List ℕ)) (id i : ℕ) (more : List Receipt)
+    → map event_of more ≡ map (Read id) (take i keys)
+    → (rest : List Receipt) × (map event_of (more ++ rest) ≡ map (Read id) keys)
+keys_missing keys id i more had = (
+  map missing (map (Read id) (drop i keys)),
+  some_missing (map (Read id) (take i keys)) (map (Read id) (drop i keys)) more had
+      ∙ sym (map-append (Read id) (take i keys) (drop i keys))
+      ∙ ap (map (Read id)) (take-append-drop i keys),
+)
+
+-- the snapshot was not closed
+pub close_missing : (keys : List (List ℕ)) (id : ℕ) (more rest : List Receipt)
+    → map event_of (more ++ rest) ≡ map (Read id) keys
+    → (all : List Receipt) × (map event_of (more ++ all) ≡ reads_of id keys)
+close_missing keys id more rest had = (
+  rest ++ missing (Close id) ∷ [],
+  ap (map event_of) (sym (append_assoc more rest (missing (Close id) ∷ [])))
+      ∙ some_missing (map (Read id) keys) (Close id ∷ []) (more ++ rest) had,
+)
+
+-- rounds that were served were begun
+pub begun_all : {A : Type 0} (keys : List (List ℕ)) (rounds : ℕ) (before after : FloorPassView)
+    (receipts more : List Receipt) (made : Result A WorkEnd) (Stopped : WorkEnd → Type 0) → receipts ≡ more
+    → MatchResult made (λ _. HasServed keys rounds before after more)
+    (λ end. Stopped end × HasBegun keys rounds before after more)
+    → HasBegun keys rounds before after receipts
+begun_all keys rounds before after receipts more (Ok a) Stopped same s = subst (HasBegun keys rounds before after) (sym same)
+    (s.0, [], omega (arith, s.1), subst (AreRounds keys s.0) (sym (append-nil more)) s.2, s.3)
+begun_all keys rounds before after receipts more (Err end) Stopped same s =
+    subst (HasBegun keys rounds before after) (sym same) s.1
+
 -- an opening, and then what follows it
 pub opening_then : {S L A : Type 0} (may : S → ℕ → Bool → Type 0) (gate gate' : S)
     (Goes : Opening → List Receipt → Type 0) (Wanted : List Receipt → Type 0) (event : CoreEvent) (opening : Opening)
@@ -195,7 +253,14 @@ opening_then {S} {L} {A} may gate gate' Goes Wanted event opening old mid new ma
   went made e.2,
 )
   where
-    went : (made : Result A WorkEnd) → MatchResult made (λ _. Goes opening e.0) (λ end. IsStopped (may gate') new end)
-        → MatchResult made (λ _. Wanted (t.0 ∷ e.0)) (λ end. IsStopped (may gate) new end)
-    went (Ok a) goes = all t.0 e.0 (t.2.0, subst (λ (o : Opening). Goes o e.0) t.2.1 goes)
-    went (Err end) is = stopped_on may gate gate' new end same is
+    wanted : (more : List Receipt) → Goes opening more → Wanted (t.0 ∷ more)
+    wanted more goes = all t.0 more (t.2.0, subst (λ (o : Opening). Goes o more) t.2.1 goes)
+
+    went : (made : Result A WorkEnd)
+        → MatchResult made (λ _. Goes opening e.0)
+        (λ end. IsStopped (may gate') new end × ((rest : List Receipt) × Goes opening (e.0 ++ rest)))
+        → MatchResult made (λ _. Wanted (t.0 ∷ e.0))
+        (λ end. IsStopped (may gate) new end × ((rest : List Receipt) × Wanted (t.0 ∷ e.0 ++ rest)))
+    went (Ok a) goes = wanted e.0 goes
+    went (Err end) is =
+        (stopped_on may gate gate' new end same is.0, (is.1.0, wanted (e.0 ++ is.1.0) is.1.1))

@@ -56,9 +56,10 @@ MadeOne may old new made Wanted =
     MatchResult made (λ a. (receipt : Receipt) × HasCalled may old new (receipt ∷ []) × Wanted a receipt)
     (λ end. HasStayed old new × IsStopped may new end)
 
--- some more calls were made; where the work goes on, they are the wanted ones
+-- some more calls were made; where the work goes on, they are the wanted ones, and else the first of such
 abbrev pub MadeSome : {L A : Type 0} → (ℕ → Bool → Type 0) → Work L → Work L → Result A WorkEnd
     → (List Receipt → Type 0) → Type 0
 MadeSome may old new made Wanted =
     (more : List Receipt) × HasCalled may old new more
-    × MatchResult made (λ _. Wanted more) (λ end. IsStopped may new end)
+    × MatchResult made (λ _. Wanted more)
+    (λ end. IsStopped may new end × ((rest : List Receipt) × Wanted (more ++ rest)))

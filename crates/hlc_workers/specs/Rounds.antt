@@ -91,3 +91,10 @@ pub record AreLeastFound (before after : FloorPassView) (stamps : List ℕ) : Ty
 abbrev pub HasServed : List (List ℕ) → ℕ → FloorPassView → FloorPassView → List Receipt → Type 0
 HasServed keys rounds before after receipts =
     (stamps : List ℕ) × (length stamps ≡ rounds) × AreRounds keys stamps receipts × AreLeastFound before after stamps
+
+-- at most this many rounds were begun, each at a stamp for which the pass has looked, and the receipts are the first of
+-- theirs: more may be missing
+abbrev pub HasBegun : List (List ℕ) → ℕ → FloorPassView → FloorPassView → List Receipt → Type 0
+HasBegun keys rounds before after receipts =
+    (stamps : List ℕ) × (rest : List Receipt) × (length stamps ≤ rounds) × AreRounds keys stamps (receipts ++ rest)
+    × AreLeastFound before after stamps

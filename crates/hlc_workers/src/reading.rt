@@ -1,8 +1,9 @@
 //! The worker of a reader.
-ghost use Rattle.std.specs.Prelude.{◌≡◌, ◌≢◌, ◌<◌, ℕ, map, false, true, length, vec_len};
+ghost use Rattle.std.specs.Prelude.{◌≡◌, ◌≢◌, ◌<◌, ℕ, List, map, false, true, length, vec_len, MatchResult};
 ghost use Rattle.hlc_events.specs.declared.event.CoreEvent.TheVariants.{Read as ARead};
-ghost use Rattle.hlc_workers.specs.Paid.{IsPaid, MadeSome, event_of};
-ghost use Rattle.hlc_workers.specs.Rounds.{reads_of, IsRound, AtFloor, HasServed};
+ghost use Rattle.hlc_server.specs.declared.entry.Receipt.{Receipt as AReceipt};
+ghost use Rattle.hlc_workers.specs.Paid.{IsPaid, HasCalled, IsStopped, MadeSome, event_of};
+ghost use Rattle.hlc_workers.specs.Rounds.{reads_of, IsRound, AtFloor, HasServed, HasBegun};
 
 use crate::end::end_of;
 use crate::gate::Gate;
@@ -87,8 +88,11 @@ impl<L: Ledger, G: Gate, R: Wait> Session<'_, L, G, R> {
     ) -> Result<(), WorkEnd>
         requires { pass.old.board ≡ board.now }
         ensures board { pass.new.board ≡ pass.old.board }
-        ensures made { MadeSome (G.may_answer self.old.gate.now) self.old.work self.new.work result
-            (HasServed keys.now rounds pass.old pass.new) }
+        ensures made { (more : List AReceipt)
+            × HasCalled (G.may_answer self.old.gate.now) self.old.work self.new.work more
+            × MatchResult result (λ _. HasServed keys.now rounds pass.old pass.new more)
+            (λ end. IsStopped (G.may_answer self.old.gate.now) self.new.work end
+            × HasBegun keys.now rounds pass.old pass.new more) }
     {
         for _round in 0..rounds {
             let stamp = board.floor(pass);
@@ -104,7 +108,8 @@ impl<L: Ledger, G: Gate, R: Wait> Session<'_, L, G, R> {
 /// opening is refused for another reason ends there. The pass must be of this board.
 ///
 /// It ends `Done` after the last round, `Held` where the gate answered false, and `Spent` where a call was not made, or
-/// it ran out of memory for the copy of a key or for a receipt. It returns the receipts so far.
+/// it ran out of memory for the copy of a key or for a receipt. It returns the receipts so far, of the rounds that it
+/// began.
 pub fn serve_reader<L: Ledger, G: Gate, R: Wait>(
     rt: &R,
     alloc: Global,
@@ -121,6 +126,7 @@ pub fn serve_reader<L: Ledger, G: Gate, R: Wait>(
     ensures board { result.pass.board ≡ pass.board }
     ensures done { result.end ≡ WorkEnd.Done
         → HasServed keys.now rounds pass result.pass result.receipts.items }
+    ensures begun { HasBegun keys.now rounds pass result.pass result.receipts.items }
     ensures stopped { result.end ≡ WorkEnd.Held
         → G.may_answer gate.now (vec_len result.receipts) false }
     ensures open { result.end ≢ WorkEnd.Closed }

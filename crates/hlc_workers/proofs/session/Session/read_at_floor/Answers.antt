@@ -1,17 +1,17 @@
 -- An opening at the floor, and then the reads: the receipts of the reads come after that of the opening.
-use Rattle.std.proofs.Common.{[]}
+use Rattle.std.proofs.Common.{[], ◌∷◌, refl}
 use Rattle.std.proofs.lemmas.Result.{err_from_is_err_and}
 use Rattle.hlc_events.specs.declared.event.CoreEvent.TheVariants.{OpenFloor}
 use Rattle.hlc_workers.specs.declared.session.Opening.TheVariants.{Opened as opened}
 use Rattle.hlc_workers.specs.Rounds.{GoesOn, AtFloor}
-use Rattle.hlc_workers.proofs.Works.{called-none, opening_then}
+use Rattle.hlc_workers.proofs.Works.{called-none, missing, opening_then}
 use Rattle.hlc_workers.proofs.session.Session.read_at_floor.Goals as goal
 
 pub returns-in_err-id-clause-made : goal.returns-in_err-id-clause-made
 returns-in_err-id-clause-made g c =
     let p = err_from_is_err_and c.from_residual.result c.from_residual.ensures.1 in
     let none = c.in_err-id.ensures.made in
-    rw (p.1, p.2) ([], called-none _ _ _ none.0, none.1)
+    rw (p.1, p.2) ([], called-none _ _ _ none.0, (none.1, (missing OpenFloor ∷ [], (refl, refl))))
 
 pub returns-in-Opened-clause-made : goal.returns-in-Opened-clause-made
 returns-in-Opened-clause-made g c =
