@@ -16,7 +16,7 @@ use Rattle.hlc_rows.proofs.NewestLemmas.{answer_none, answer_some, answer_stays}
 use Rattle.hlc_node.specs.declared.item.Item.{Item}
 use Rattle.hlc_snapshot.specs.declared.snapshot.Snapshot.{Snapshot}
 use Rattle.hlc_snapshot.specs.RegistryView.{stamps}
-use Rattle.hlc_core.specs.Past.{Step, Started, Began, Took, Opened, Closed, Vacuumed, PartVacuumed, Joined, floor}
+use Rattle.hlc_core.specs.Past.{Step, Began, Took, Opened, Closed, Vacuumed, PartVacuumed, floor}
 use Rattle.hlc_core.specs.Past.{horizon, open_snapshots, last_id, writes, item_rows, IsLegal as IsLegalPast}
 use Rattle.hlc_core.specs.Replicas.{begun}
 use Rattle.hlc_core.specs.Parts.{rows_of_keys}
@@ -52,10 +52,7 @@ fewer-open keep (x ∷ xs) at m =
 
 readable-step : (step : Step) (past : List Step) (at : ℕ) → IsLegalPast (step ∷ past) → begun (step ∷ []) ≡ []
     → IsReadable (step ∷ past) at → IsReadable past at
-readable-step (Started nodes) past at legal none h = h
 readable-step (Began kept) past at legal none h = absurd (cc)
-readable-step (Took item) past at legal none h = h
-readable-step (Joined node start) past at legal none h = h
 readable-step (Opened stamp) past at legal none (inl h) = inl h
 readable-step (Opened stamp) past at legal none (inr m) =
     let new : Snapshot = record { id = last_id past + 1; stamp = stamp } in
@@ -76,6 +73,7 @@ readable-step (PartVacuumed to dropped) past at legal none (inl h) =
     inl (let up : horizon past ≤ to = vacuum-above past to legal.0 in
     let h' : to ≤ at = h in let goal : horizon past ≤ at = omega arith in goal)
 readable-step (PartVacuumed to dropped) past at legal none (inr m) = inr m
+readable-step step past at legal none h = h
 
 -- so what can be read after a run could be read at its beginning
 readable-since : (layout : Layout) (run : List Turn) (s at : ℕ) → IsLegal layout run

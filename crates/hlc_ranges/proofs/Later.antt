@@ -5,7 +5,7 @@ use Rattle.std.proofs.lemmas.Bool.{cases_eq}
 use Rattle.hlc_values.proofs.MemberLemmas.{Contains-none}
 use Rattle.hlc_rows.specs.declared.row.Row.{Row}
 use Rattle.hlc_rows.specs.Rows.{answer}
-use Rattle.hlc_core.specs.Past.{Step, Started, Began, Took, Opened, Closed, Vacuumed, PartVacuumed, Joined, floor}
+use Rattle.hlc_core.specs.Past.{Step, Took, floor}
 use Rattle.hlc_core.specs.Past.{writes}
 use Rattle.hlc_core.specs.Past.{IsLegal as IsLegalPast}
 use Rattle.hlc_core.proofs.StayLemmas.{floor-never_falls}
@@ -54,13 +54,7 @@ row-above : (step : Step) (past : List Step) (row : Row) → IsLegalPast (step �
 row-above (Took item) past row legal m =
     let e : row.stamp ≡ item.stamp = (body_rows-are item.node item.stamp item.body row m).1 in
     let up : floor past < item.stamp = above_floor past item legal.0 in omega arith
-row-above (Joined node start) past row legal m = absurd (Contains-none row m)
-row-above (Opened stamp) past row legal m = absurd (Contains-none row m)
-row-above (Started nodes) past row legal m = absurd (Contains-none row m)
-row-above (Began kept) past row legal m = absurd (Contains-none row m)
-row-above (Closed id) past row legal m = absurd (Contains-none row m)
-row-above (Vacuumed at) past row legal m = absurd (Contains-none row m)
-row-above (PartVacuumed at dropped) past row legal m = absurd (Contains-none row m)
+row-above step past row legal m = absurd (Contains-none row m)
 
 -- a write at or below the floor is an old one
 old-rows : (layout : Layout) (run later : List Turn) (s : ℕ) (row : Row) → IsLegal layout (later ++ run)

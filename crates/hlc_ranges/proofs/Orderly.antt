@@ -5,7 +5,7 @@ use Rattle.std.proofs.Common.{◌∙◌, subst, inl, inr, arith}
 use Rattle.std.specs.Prelude.{Contains}
 use Rattle.std.proofs.lemmas.Bool.{cases_eq}
 use Rattle.hlc_node.specs.declared.item.Item.{Item}
-use Rattle.hlc_core.specs.Past.{Step, Started, Began, Took, Opened, Closed, Vacuumed, PartVacuumed, Joined, numbered}
+use Rattle.hlc_core.specs.Past.{Step, Started, Began, Took, Joined, numbered}
 use Rattle.hlc_core.specs.Past.{count, head, retired, IsLegal as IsLegalPast}
 use Rattle.hlc_core.specs.Replicas.{items_of, begun}
 use Rattle.hlc_core.proofs.PastLemmas.{inside, on_link, admissible, head-same, head-other, head-joined}
@@ -29,14 +29,10 @@ pub link-step : (base : ℕ) (ended : Bool) (last n : ℕ) (items : ℕ → List
     → ((item : Item) → step ≡ Took item → Contains (items item.node) item)
     → ((start : ℕ) → step ≡ Joined n start → start ≤ last)
     → IsLinkOf base ended last n (items n) past → IsLinkOf base ended last n (items n) (step ∷ past)
-link-step base ended last n items (Opened stamp) past legal none counted from up h = h
 link-step base ended last n items (Started nodes) past legal none counted from up h =
     link-more base ended last (numbered past) (numbered past + nodes) n (items n) (items_of n past) (head n past)
     (omega arith) h
 link-step base ended last n items (Began kept) past legal none counted from up h = absurd (cc)
-link-step base ended last n items (Closed id) past legal none counted from up h = h
-link-step base ended last n items (Vacuumed at) past legal none counted from up h = h
-link-step base ended last n items (PartVacuumed at dropped) past legal none counted from up h = h
 link-step base ended last n items (Took item) past legal none counted from up h =
     elim (cases_eq item.node n) [
       | inl same ↦
@@ -69,6 +65,7 @@ link-step base ended last n items (Joined node start) past legal none counted fr
           (link-more base ended last (numbered past) (numbered past + 1) n (items n) (items_of n past) (head n past)
           (omega arith) h)
     ]
+link-step base ended last n items step past legal none counted from up h = h
 
 -- every link fits
 abbrev pub IsOrderly : Layout → List Turn → Type 0

@@ -7,7 +7,7 @@ use Rattle.std.proofs.lemmas.List.Elements.{Contains-append_cases, Contains-appe
 use Rattle.hlc_values.proofs.MemberLemmas.{Contains-none, Contains-first, Contains-rest, Contains-cons_cases}
 use Rattle.hlc_rows.specs.declared.row.Row.{Row}
 use Rattle.hlc_node.specs.declared.item.Item.{Item}
-use Rattle.hlc_core.specs.Past.{Step, Started, Began, Took, Opened, Closed, Vacuumed, PartVacuumed, Joined}
+use Rattle.hlc_core.specs.Past.{Step, Began, Took}
 use Rattle.hlc_core.specs.Past.{count, retired, writes, item_rows}
 use Rattle.hlc_core.specs.Replicas.{items_of, begun}
 use Rattle.hlc_core.proofs.PastLemmas.{retired-same, retired-other, count-other}
@@ -18,13 +18,6 @@ use Rattle.hlc_ranges.specs.Run.{ends_with, step_rows}
 pub items-accepted : (past : List Step) (n : ℕ) (item : Item) → Contains (items_of n past) item
     → Contains past (Took item)
 items-accepted [] n item m = absurd (Contains-none item m)
-items-accepted (Opened stamp ∷ past) n item m = Contains-rest _ _ past (items-accepted past n item m)
-items-accepted (Started nodes ∷ past) n item m = Contains-rest _ _ past (items-accepted past n item m)
-items-accepted (Began kept ∷ past) n item m = Contains-rest _ _ past (items-accepted past n item m)
-items-accepted (Closed id ∷ past) n item m = Contains-rest _ _ past (items-accepted past n item m)
-items-accepted (Vacuumed at ∷ past) n item m = Contains-rest _ _ past (items-accepted past n item m)
-items-accepted (PartVacuumed at dropped ∷ past) n item m = Contains-rest _ _ past (items-accepted past n item m)
-items-accepted (Joined node start ∷ past) n item m = Contains-rest _ _ past (items-accepted past n item m)
 items-accepted (Took first ∷ past) n item m =
     elim (cases_eq first.node n) [
       | inl same ↦
@@ -36,6 +29,7 @@ items-accepted (Took first ∷ past) n item m =
       | inr other ↦ Contains-rest _ _ past
           (items-accepted past n item (subst (λ xs. Contains xs item) (items-other n first past other) m))
     ]
+items-accepted (step ∷ past) n item m = Contains-rest _ _ past (items-accepted past n item m)
 
 -- an accepted write is the row of an accepted item
 pub record IsOfItem (past : List Step) (row : Row) : Type 0 where
@@ -50,37 +44,21 @@ of-more past step row h =
 -- the rows of a step are those of its item
 pub of-step : (past : List Step) (step : Step) (row : Row) → Contains (step_rows step) row → IsOfItem (step ∷ past) row
 of-step past (Took item) row m = record { item = item; accepted = Contains-first (Took item) past; of = m }
-of-step past (Opened stamp) row m = absurd (Contains-none row m)
-of-step past (Started nodes) row m = absurd (Contains-none row m)
-of-step past (Began kept) row m = absurd (Contains-none row m)
-of-step past (Closed id) row m = absurd (Contains-none row m)
-of-step past (Vacuumed at) row m = absurd (Contains-none row m)
-of-step past (PartVacuumed at dropped) row m = absurd (Contains-none row m)
-of-step past (Joined node start) row m = absurd (Contains-none row m)
+of-step past step row m = absurd (Contains-none row m)
 
 -- a write after a step is an old one, or that of the step
 pub step-writes : (step : Step) (past : List Step) (row : Row) → begun (step ∷ []) ≡ []
     → Contains (writes (step ∷ past)) row → Contains (writes past) row ⊎ Contains (step_rows step) row
 step-writes (Took item) past row none m = Contains-append_cases (writes past) (item_rows item) row m
-step-writes (Opened stamp) past row none m = inl m
-step-writes (Started nodes) past row none m = inl m
 step-writes (Began kept) past row none m = absurd (cc)
-step-writes (Closed id) past row none m = inl m
-step-writes (Vacuumed at) past row none m = inl m
-step-writes (PartVacuumed at dropped) past row none m = inl m
-step-writes (Joined node start) past row none m = inl m
+step-writes step past row none m = inl m
 
 -- and an old write stays
 pub step-keeps : (step : Step) (past : List Step) (row : Row) → Contains (writes past) row
     → Contains (writes (step ∷ past)) row
 step-keeps (Took item) past row m = Contains-append_left (writes past) (item_rows item) row m
-step-keeps (Joined node start) past row m = m
-step-keeps (Opened stamp) past row m = m
-step-keeps (Started nodes) past row m = m
 step-keeps (Began kept) past row m = Contains-append_left (writes past) kept.rows row m
-step-keeps (Closed id) past row m = m
-step-keeps (Vacuumed at) past row m = m
-step-keeps (PartVacuumed at dropped) past row m = m
+step-keeps step past row m = m
 
 -- no item of a link was accepted if none was
 pub items-untaken : (past : List Step) (n : ℕ) → ((item : Item) → Contains past (Took item) → ⊥) → items_of n past ≡ []
@@ -95,13 +73,7 @@ items-untaken past n untaken = empty (items_of n past) refl
 pub count-step : (step : Step) (past : List Step) (n base : ℕ) → begun (step ∷ []) ≡ []
     → count n past ≡ base + length (items_of n past)
     → count n (step ∷ past) ≡ base + length (items_of n (step ∷ past))
-count-step (Opened stamp) past n base none h = h
-count-step (Started nodes) past n base none h = h
 count-step (Began kept) past n base none h = absurd (cc)
-count-step (Closed id) past n base none h = h
-count-step (Vacuumed at) past n base none h = h
-count-step (PartVacuumed at dropped) past n base none h = h
-count-step (Joined node start) past n base none h = h
 count-step (Took item) past n base none h =
     elim (cases_eq item.node n) [
       | inl same ↦
@@ -116,21 +88,17 @@ count-step (Took item) past n base none h =
           ap length (items-other n item past other) in
           let goal : count n (Took item ∷ past) ≡ base + length (items_of n (Took item ∷ past)) = omega arith in goal
     ]
+count-step step past n base none h = h
 
 -- and the last of them says whether it has retired
 pub retired-step : (step : Step) (past : List Step) (n : ℕ) (before : Bool) → begun (step ∷ []) ≡ []
     → retired n past ≡ ends_with before (items_of n past)
     → retired n (step ∷ past) ≡ ends_with before (items_of n (step ∷ past))
-retired-step (Opened stamp) past n before none h = h
-retired-step (Started nodes) past n before none h = h
 retired-step (Began kept) past n before none h = absurd (cc)
-retired-step (Closed id) past n before none h = h
-retired-step (Vacuumed at) past n before none h = h
-retired-step (PartVacuumed at dropped) past n before none h = h
-retired-step (Joined node start) past n before none h = h
 retired-step (Took item) past n before none h =
     elim (cases_eq item.node n) [
       | inl same ↦ retired-same n item past same ∙ sym (ap (ends_with before) (items-same n item past same))
       | inr other ↦ retired-other n item past other ∙ h
           ∙ sym (ap (ends_with before) (items-other n item past other))
     ]
+retired-step step past n before none h = h
