@@ -2,13 +2,10 @@
 -- run out.
 use Rattle.std.proofs.Common.{◌≡◌, ℕ, ◌+◌, ◌<◌, ◌≤◌, ◌∙◌, sym, ap, refl, subst, List, [], ◌∷◌, ◌++◌, length, map}
 use Rattle.std.proofs.Common.{Option, Some, None, append_assoc, append-nil, arith, length-append, IfSome, IsSomeAnd}
-use Rattle.std.specs.Prelude.{◌≢◌}
-use Rattle.std.specs.List.{AllByRecursion, flat_map}
-use Rattle.std.proofs.lemmas.List.{map-append, length-map}
-use Rattle.std.proofs.lemmas.List.Concat.{flat_map-append}
-use Rattle.hlc_certificate.specs.declared.check_line.CheckLine.{CheckLine}
+use Rattle.std.specs.{Prelude.◌≢◌, List.AllByRecursion, List.flat_map}
+use Rattle.std.proofs.lemmas.List.{map-append, length-map, Concat.flat_map-append}
+use Rattle.hlc_certificate.specs.declared.{check_line.CheckLine.CheckLine, certificate.Certificate.Certificate}
 use Rattle.hlc_certificate.specs.declared.check_line.CheckLine.TheVariants.{Point, Row, Witness}
-use Rattle.hlc_certificate.specs.declared.certificate.Certificate.{Certificate}
 use Rattle.hlc_text.specs.Lines.{lines_of}
 use Rattle.hlc_certificate.specs.CheckLine.{check_line, HasCheckLine, section_of, AreLinesOf, IsFirstBadLine}
 use Rattle.hlc_certificate.specs.CheckLine.{AreGoodLines}

@@ -1,7 +1,6 @@
 -- A line of a certificate is split into the words from which it was built, and its first word determines what it says.
 use Rattle.std.proofs.Common.{◌≡◌, ℕ, ◌<◌, ◌^◌, ap, refl, List, [], ◌∷◌, get_or, Option, Some, None, arith, eqb}
-use Rattle.std.specs.Prelude.{decimal, codes, ◌≢◌}
-use Rattle.std.specs.List.{slice_split, AllByRecursion}
+use Rattle.std.specs.{Prelude.decimal, Prelude.codes, Prelude.◌≢◌, List.slice_split, List.AllByRecursion}
 use Rattle.hlc_clock.specs.Stamp.{stamp_text}
 use Rattle.hlc_text.specs.Text.{bytes_token, AreBytes}
 use Rattle.hlc_text.proofs.TokenLemmas.{IsWord, number_is_word, stamp_is_word, bytes_are_word, split_words}

@@ -1,25 +1,20 @@
 -- An input has one answer: its lines say one certificate, which is valid or has one first reason, and no good line is a
 -- bad one.
-use Rattle.std.proofs.Common.{◌≡◌, ℕ, ◌+◌, ◌∙◌, sym, ap, ap₂, refl, subst, List, [], ◌∷◌, ◌++◌, length}
-use Rattle.std.proofs.Common.{All, append_assoc, arith, ◌⊎◌, inl, inr}
+use Rattle.std.proofs.Common.{◌≡◌, ℕ, ◌+◌, ◌∙◌, sym, ap, ap₂, refl, subst, List, [], ◌∷◌, ◌++◌, length, All}
+use Rattle.std.proofs.Common.{append_assoc, arith, ◌⊎◌, inl, inr}
 use Rattle.hlc_rows.specs.declared.row.Row.{Row as ARow}
-use Rattle.hlc_witness.specs.declared.witness.Witness.{Witness as AWitness}
-use Rattle.hlc_witness.specs.declared.reason.NotShown.{NotShown as AReason}
-use Rattle.hlc_witness.specs.Changes.{ChangesAscend, IsChange}
-use Rattle.hlc_witness.specs.Certificate.{IsCertificate}
-use Rattle.hlc_witness.specs.Cost.{rows_cost}
+use Rattle.hlc_witness.specs.declared.{witness.Witness.Witness as AWitness, reason.NotShown.NotShown as AReason}
+use Rattle.hlc_witness.specs.{Changes.ChangesAscend, Changes.IsChange, Certificate.IsCertificate, Cost.rows_cost}
 use Rattle.hlc_witness.specs.Reasons.{IsFault, IsFirstFault, IsFirstReason, Unless}
 use Rattle.hlc_witness.proofs.FaultLemmas.{changes_no_fault}
 use Rattle.hlc_certificate.specs.declared.check.CheckEnd.TheVariants.{Fewest, NotShown, BadLine, NoMemory, NotLoaded}
-use Rattle.hlc_certificate.specs.declared.check.CheckEnd.{CheckEnd}
 use Rattle.hlc_certificate.specs.declared.check.CheckEnd.TheVariants.{WriteFault}
+use Rattle.hlc_certificate.specs.{declared.check.CheckEnd.CheckEnd, OneAnswer.OneAnswer}
 use Rattle.hlc_text.specs.declared.input.InputFault.TheVariants.{NoMemory as no_memory, ReadFault, TooLong}
 use Rattle.hlc_text.specs.Lines.{lines_of}
 use Rattle.hlc_certificate.specs.CheckLine.{AreLinesOf, AreGoodLines, IsFirstBadLine}
 use Rattle.hlc_certificate.specs.Check.{ShowsFewest, ShowsReason, MayEnd}
-use Rattle.hlc_certificate.specs.OneAnswer.{OneAnswer}
-use Rattle.hlc_certificate.proofs.OneCertificate.{one_certificate}
-use Rattle.hlc_certificate.proofs.SaidInOrder.{good_front}
+use Rattle.hlc_certificate.proofs.{OneCertificate.one_certificate, SaidInOrder.good_front}
 
 -- Two places in a list are equal, or the first is before the second, or after it.
 abbrev Places : {X : Type 0} → List X → X → List X → X → Type 0

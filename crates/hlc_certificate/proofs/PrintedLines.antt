@@ -1,24 +1,20 @@
 -- The text of a certificate is that of its points, of its rows and of its witnesses, one after another; and its lines
 -- are those that were printed, since none of them contains a line feed.
-use Rattle.std.proofs.Common.{◌≡◌, ℕ, ◌+◌, ◌<◌, ◌∙◌, sym, ap, refl, subst, eqb}
-use Rattle.std.proofs.Common.{List, [], ◌∷◌, ◌++◌, map, take, length, get_or, Option, Some, None, append_assoc}
+use Rattle.std.proofs.Common.{◌≡◌, ℕ, ◌+◌, ◌<◌, ◌∙◌, sym, ap, refl, subst, eqb, List, [], ◌∷◌, ◌++◌, map, take, length}
+use Rattle.std.proofs.Common.{get_or, Option, Some, None, append_assoc}
 use Rattle.std.specs.List.{flat_map, slice_split, AllByRecursion}
-use Rattle.std.proofs.lemmas.List.{map-append, take_more}
-use Rattle.std.proofs.lemmas.List.Concat.{flat_map-append}
-use Rattle.hlc_text.specs.Text.{printed}
-use Rattle.hlc_text.specs.Lines.{spaced, lines_of}
+use Rattle.std.proofs.lemmas.List.{map-append, take_more, Concat.flat_map-append}
+use Rattle.hlc_text.specs.{Text.printed, Printing.Prints, Lines.spaced, Lines.lines_of}
 use Rattle.hlc_text.specs.declared.printer.Printer.{Printer}
-use Rattle.hlc_text.specs.Printing.{Prints}
 use Rattle.hlc_text.proofs.PrintLemmas.{printed_line, printed_then}
 use Rattle.hlc_text.proofs.TokenLemmas.{line_has_no_feed, split_line}
 use Rattle.hlc_text.proofs.LineLemmas.{first_of_lines}
 use Rattle.hlc_rows.specs.declared.row.Row.{Row as ARow}
 use Rattle.hlc_witness.specs.declared.witness.Witness.{Witness as AWitness}
-use Rattle.hlc_certificate.specs.declared.check_line.CheckLine.{CheckLine}
-use Rattle.hlc_certificate.specs.CheckLine.{check_words, check_line, HasCheckLine, value_words}
-use Rattle.hlc_certificate.specs.CheckLine.{says_point, says_row, says_witness, all_said}
+use Rattle.hlc_certificate.{specs.declared.check_line.CheckLine.CheckLine, proofs.CheckLines.are_words}
+use Rattle.hlc_certificate.specs.CheckLine.{check_words, check_line, HasCheckLine, value_words, says_point, says_row}
+use Rattle.hlc_certificate.specs.CheckLine.{says_witness, all_said}
 use Rattle.hlc_certificate.specs.CertificateText.{point_line, row_line, witness_line, certificate_text}
-use Rattle.hlc_certificate.proofs.CheckLines.{are_words}
 
 -- the lines of some items, printed
 abbrev pub all_lines : {X : Type 0} → (X → List ℕ) → List X → List ℕ

@@ -1,21 +1,14 @@
 -- What is printed is read back, and where witnesses show that the rows are the fewest, this is the only answer.
-use Rattle.std.proofs.Common.{ℕ, ap, refl, List, length, get_or, arith, inl, inr}
-use Rattle.std.specs.Prelude.{◌≢◌}
+use Rattle.std.proofs.Common.{ℕ, ap, refl, List, length, get_or, arith, inl, inr, ◌≢◌}
 use Rattle.hlc_rows.specs.declared.row.Row.{Row as ARow}
-use Rattle.hlc_witness.specs.declared.witness.Witness.{Witness as AWitness}
-use Rattle.hlc_witness.specs.Certificate.{IsCertificate}
-use Rattle.hlc_witness.specs.Cost.{rows_cost}
+use Rattle.hlc_witness.specs.{declared.witness.Witness.Witness as AWitness, Certificate.IsCertificate, Cost.rows_cost}
 use Rattle.hlc_witness.proofs.CertificateLemmas.{certificates_show_fewest, certificates_show_cheapest}
 use Rattle.hlc_certificate.specs.declared.check.CheckEnd.TheVariants.{Fewest, NotLoaded}
-use Rattle.hlc_text.specs.declared.input.InputFault.TheVariants.{ReadFault}
-use Rattle.hlc_text.specs.Lines.{lines_of}
-use Rattle.hlc_certificate.specs.CheckLine.{all_said, AreLinesOf}
-use Rattle.hlc_certificate.specs.CertificateText.{certificate_text}
-use Rattle.hlc_certificate.specs.Check.{MayAnswer, ShowsFewest}
-use Rattle.hlc_certificate.specs.OneAnswer.{ReportsNoMemory}
+use Rattle.hlc_text.specs.{declared.input.InputFault.TheVariants.ReadFault, Lines.lines_of}
+use Rattle.hlc_certificate.specs.{CheckLine.all_said, CheckLine.AreLinesOf, Check.MayAnswer, Check.ShowsFewest}
+use Rattle.hlc_certificate.specs.{CertificateText.certificate_text, OneAnswer.ReportsNoMemory}
 use Rattle.hlc_certificate.specs.ReadBack.{PrintedIsRead, PrintedShowsFewest, PrintedEndsFewest}
-use Rattle.hlc_certificate.proofs.PrintedLines.{lines_again}
-use Rattle.hlc_certificate.proofs.OneAnswer.{one_answer, ends_fewest}
+use Rattle.hlc_certificate.proofs.{PrintedLines.lines_again, OneAnswer.one_answer, OneAnswer.ends_fewest}
 
 pub printed_is_read : PrintedIsRead
 printed_is_read points rows witnesses has = (has, lines_again (all_said points rows witnesses) has)

@@ -1,9 +1,7 @@
 -- An input that is in memory was taken whole and is answered, and no end of a check is a failed write.
 use Rattle.std.proofs.Common.{◌≡◌, ◌≤◌, ℕ, List, length, refl, subst}
 use Rattle.hlc_text.specs.declared.input.TheConstants.{INPUT_LIMIT}
-use Rattle.hlc_certificate.specs.declared.check.CheckEnd.{CheckEnd}
-use Rattle.hlc_certificate.specs.declared.check.CheckEnd.TheVariants.{NotLoaded}
-use Rattle.hlc_certificate.specs.declared.check.CheckEnd.TheVariants.{WriteFault}
+use Rattle.hlc_certificate.specs.declared.check.CheckEnd.{CheckEnd, TheVariants.NotLoaded, TheVariants.WriteFault}
 use Rattle.hlc_certificate.specs.Check.{MayTake, MayEnd, MayAnswer}
 
 pub check_takes_all : (input : List ℕ) (end : CheckEnd) → MayEnd input end → MayTake input input end

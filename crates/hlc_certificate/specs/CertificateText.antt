@@ -1,6 +1,5 @@
 -- A certificate as it is printed.
-use Rattle.std.specs.Prelude.{ℕ, List, map}
-use Rattle.std.specs.List.{flat_map}
+use Rattle.std.specs.{Prelude.ℕ, Prelude.List, Prelude.map, List.flat_map}
 use Rattle.hlc_text.specs.Text.{printed}
 use Rattle.hlc_rows.specs.declared.row.Row.{Row}
 use Rattle.hlc_witness.specs.declared.witness.Witness.{Witness}

@@ -1,26 +1,19 @@
 -- What a check may answer for an input, and how it ends.
 use Rattle.std.specs.Prelude.{◌≡◌, ◌↔◌, ℕ, ◌<◌, ◌≤◌, List, [], ◌++◌, length, codes, decimal, Option, true, false}
 use Rattle.std.specs.Io.KnownBytes.{Consumes}
-use Rattle.hlc_text.specs.declared.input.TheConstants.{INPUT_LIMIT}
-use Rattle.hlc_text.specs.declared.watched.Watched.{Watched}
-use Rattle.hlc_text.specs.Watched.{inner_of, has_failed}
-use Rattle.hlc_text.specs.Printing.{Writes}
-use Rattle.hlc_text.specs.Text.{printed}
+use Rattle.hlc_text.specs.declared.input.{TheConstants.INPUT_LIMIT, InputFault.TheVariants.ReadFault}
+use Rattle.hlc_text.specs.{declared.watched.Watched.Watched, Watched.inner_of, Watched.has_failed}
+use Rattle.hlc_text.specs.{Printing.Writes, Text.printed, Lines.lines_of, Lines.bad_line}
 use Rattle.hlc_rows.specs.declared.row.Row.{Row as ARow}
-use Rattle.hlc_witness.specs.declared.witness.Witness.{Witness as AWitness}
-use Rattle.hlc_witness.specs.declared.reason.NotShown.{NotShown as AReason}
-use Rattle.hlc_witness.specs.Fewest.{Fewest as AreFewest}
+use Rattle.hlc_witness.specs.declared.{witness.Witness.Witness as AWitness, reason.NotShown.NotShown as AReason}
+use Rattle.hlc_witness.specs.{Fewest.Fewest as AreFewest, Certificate.IsCertificate}
 use Rattle.hlc_witness.specs.Cost.{Cheapest as AreCheapest, rows_cost}
-use Rattle.hlc_witness.specs.Certificate.{IsCertificate}
 use Rattle.hlc_witness.specs.Reasons.{IsFirstReason, reason_number}
 use Rattle.hlc_certificate.specs.declared.check.CheckEnd.{CheckEnd}
 use Rattle.hlc_certificate.specs.declared.check.CheckEnd.TheVariants.{Fewest, NotShown, BadLine, NoMemory, NotLoaded}
 use Rattle.hlc_certificate.specs.declared.check.CheckEnd.TheVariants.{WriteFault}
-use Rattle.hlc_text.specs.declared.input.InputFault.TheVariants.{ReadFault}
 use Rattle.hlc_text.specs.Input.{IsInput, MayFault, FaultTakes, fault_line}
-use Rattle.hlc_text.specs.Lines.{lines_of}
 use Rattle.hlc_certificate.specs.CheckLine.{AreLinesOf, AreGoodLines, IsFirstBadLine}
-use Rattle.hlc_text.specs.Lines.{bad_line}
 
 -- the rows of a certificate are the fewest and the cheapest of all that give the same answers at its points
 pub record ShowsFewest (lines : List (List ℕ)) (count bytes : ℕ) : Type 0 where

@@ -3,12 +3,11 @@ use Rattle.std.specs.Prelude.{◌≡◌, ℕ, ◌+◌, ◌<◌, ◌^◌, List, [
 use Rattle.std.specs.Prelude.{None, ⊤}
 use Rattle.std.specs.List.{AllByRecursion}
 use Rattle.hlc_clock.specs.Stamp.{stamp_text}
-use Rattle.hlc_text.specs.Text.{bytes_token, AreBytes}
+use Rattle.hlc_text.specs.{Text.bytes_token, Text.AreBytes, Lines.spaced}
 use Rattle.hlc_rows.specs.declared.row.Row.{Row as ARow}
 use Rattle.hlc_witness.specs.declared.witness.Witness.{Witness as AWitness}
 use Rattle.hlc_certificate.specs.declared.check_line.CheckLine.{CheckLine}
 use Rattle.hlc_certificate.specs.declared.check_line.CheckLine.TheVariants.{Point, Row, Witness}
-use Rattle.hlc_text.specs.Lines.{spaced}
 
 -- the words that end a row's line: its value, or a deletion mark
 abbrev pub value_words : Option (List ℕ) → List (List ℕ)

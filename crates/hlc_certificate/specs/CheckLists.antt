@@ -4,8 +4,7 @@ use Rattle.hlc_rows.specs.declared.row.Row.{Row as ARow}
 use Rattle.hlc_witness.specs.declared.witness.Witness.{Witness as AWitness}
 use Rattle.hlc_certificate.specs.declared.check_line.CheckLine.{CheckLine}
 use Rattle.hlc_certificate.specs.declared.check_line.CheckLine.TheVariants.{Point, Row, Witness}
-use Rattle.hlc_certificate.specs.declared.certificate.Certificate.{Certificate}
-use Rattle.hlc_certificate.specs.declared.certificate.NoCertificate.{NoCertificate}
+use Rattle.hlc_certificate.specs.declared.certificate.{Certificate.Certificate, NoCertificate.NoCertificate}
 use Rattle.hlc_certificate.specs.declared.certificate.NoCertificate.TheVariants.{BadLine, NoMemory}
 use Rattle.hlc_certificate.specs.CheckLine.{AreGoodLines, IsFirstBadLine}
 

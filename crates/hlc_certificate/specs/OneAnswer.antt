@@ -1,13 +1,10 @@
 -- What lines say is one certificate, and an input has one end.
 use Rattle.std.specs.Prelude.{◌≡◌, ◌≢◌, ◌⊎◌, ℕ, List, codes}
-use Rattle.hlc_text.specs.Text.{printed}
+use Rattle.hlc_text.specs.{Text.printed, declared.input.InputFault.TheVariants.ReadFault}
 use Rattle.hlc_rows.specs.declared.row.Row.{Row as ARow}
 use Rattle.hlc_witness.specs.declared.witness.Witness.{Witness as AWitness}
-use Rattle.hlc_certificate.specs.declared.check.CheckEnd.{CheckEnd}
-use Rattle.hlc_certificate.specs.declared.check.CheckEnd.TheVariants.{NotLoaded}
-use Rattle.hlc_text.specs.declared.input.InputFault.TheVariants.{ReadFault}
-use Rattle.hlc_certificate.specs.CheckLine.{AreLinesOf}
-use Rattle.hlc_certificate.specs.Check.{MayAnswer, answer_output}
+use Rattle.hlc_certificate.specs.declared.check.CheckEnd.{CheckEnd, TheVariants.NotLoaded}
+use Rattle.hlc_certificate.specs.{CheckLine.AreLinesOf, Check.MayAnswer, Check.answer_output}
 
 -- lines belong to one list of points, one of rows and one of witnesses
 abbrev pub OneCertificate : Type 0

@@ -1,19 +1,14 @@
 -- What is printed as a certificate is read back unchanged, and answered.
 use Rattle.std.specs.Prelude.{◌≡◌, ◌≢◌, ◌≤◌, ◌⊎◌, ℕ, List, length}
 use Rattle.std.specs.List.{AllByRecursion}
-use Rattle.hlc_text.specs.declared.input.TheConstants.{INPUT_LIMIT}
+use Rattle.hlc_text.specs.declared.input.{TheConstants.INPUT_LIMIT, InputFault.TheVariants.ReadFault}
 use Rattle.hlc_text.specs.Lines.{lines_of}
 use Rattle.hlc_rows.specs.declared.row.Row.{Row as ARow}
-use Rattle.hlc_witness.specs.declared.witness.Witness.{Witness as AWitness}
-use Rattle.hlc_witness.specs.Certificate.{IsCertificate}
-use Rattle.hlc_witness.specs.Cost.{rows_cost}
-use Rattle.hlc_certificate.specs.declared.check.CheckEnd.{CheckEnd}
+use Rattle.hlc_witness.specs.{declared.witness.Witness.Witness as AWitness, Certificate.IsCertificate, Cost.rows_cost}
+use Rattle.hlc_certificate.specs.{declared.check.CheckEnd.CheckEnd, CertificateText.certificate_text}
 use Rattle.hlc_certificate.specs.declared.check.CheckEnd.TheVariants.{Fewest, NoMemory, NotLoaded}
-use Rattle.hlc_text.specs.declared.input.InputFault.TheVariants.{ReadFault}
 use Rattle.hlc_certificate.specs.CheckLine.{HasCheckLine, all_said, AreLinesOf}
-use Rattle.hlc_certificate.specs.CertificateText.{certificate_text}
-use Rattle.hlc_certificate.specs.Check.{MayAnswer, MayEnd}
-use Rattle.hlc_certificate.specs.OneAnswer.{ReportsNoMemory}
+use Rattle.hlc_certificate.specs.{Check.MayAnswer, Check.MayEnd, OneAnswer.ReportsNoMemory}
 
 -- what can be written as lines is printed as exactly these lines, so it is read back unchanged
 abbrev pub PrintedIsRead : Type 0

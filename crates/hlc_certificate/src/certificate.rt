@@ -1,7 +1,6 @@
 //! The points, rows and witnesses that an input contains.
 ghost use Rattle.std.specs.Prelude.{◌≡◌, ◌≤◌, [], IfOk, IfErr, IfSome, OnOk, IsSomeAnd};
-ghost use Rattle.hlc_text.specs.Text.{Reads};
-ghost use Rattle.hlc_text.specs.Lines.{lines_of};
+ghost use Rattle.hlc_text.specs.{Text.Reads, Lines.lines_of};
 ghost use Rattle.hlc_certificate.specs.CheckLine.{check_line, HasCheckLine, section_of, AreLinesOf};
 ghost use Rattle.hlc_certificate.specs.CheckLists.{HasLists, AddsLine, IsNoCertificate};
 

@@ -1,12 +1,9 @@
 //! A whole check: reads the bytes of a certificate, and writes one line.
 ghost use Rattle.std.specs.Prelude.{◌≡◌, ◌↔◌, ◌++◌, ℕ, List, false, true, decimal};
 ghost use Rattle.std.specs.Io.KnownBytes.{Consumes};
-ghost use Rattle.hlc_text.specs.Watched.{inner_of, has_failed};
-ghost use Rattle.hlc_text.specs.Printing.{Prints};
-ghost use Rattle.hlc_text.specs.Text.{printed};
-ghost use Rattle.hlc_text.specs.Input.{IsInput};
-ghost use Rattle.hlc_certificate.specs.Check.{MayAnswer, MayEnd, MayTake, RunsCheck};
-ghost use Rattle.hlc_certificate.specs.Check.{answer_output, fewest_line, check_status};
+ghost use Rattle.hlc_text.specs.{Watched.inner_of, Watched.has_failed, Printing.Prints, Text.printed, Input.IsInput};
+ghost use Rattle.hlc_certificate.specs.Check.{MayAnswer, MayEnd, MayTake, RunsCheck, answer_output, fewest_line};
+ghost use Rattle.hlc_certificate.specs.Check.{check_status};
 
 use crate::certificate::{NoCertificate, read_certificate};
 use hlc_text::input::{InputFault, put_fault, read_input};

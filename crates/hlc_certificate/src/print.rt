@@ -1,15 +1,12 @@
 //! Prints certificates.
 ghost use Rattle.std.specs.Prelude.{map, ◌<◌, ◌^◌, ◌++◌, codes};
 ghost use Rattle.std.specs.List.{flat_map, AllByRecursion};
-ghost use Rattle.hlc_text.specs.Lines.{lines_of, spaced};
-ghost use Rattle.hlc_text.specs.Printing.{Prints};
+ghost use Rattle.hlc_text.specs.{Lines.lines_of, Lines.spaced, Printing.Prints};
 ghost use Rattle.hlc_text.specs.Text.{printed, bytes_token, AreBytes};
 ghost use Rattle.hlc_clock.specs.Stamp.{stamp_text};
-ghost use Rattle.hlc_certificate.specs.CheckLine.{before_token, HasBeforeToken, value_words};
-ghost use Rattle.hlc_certificate.specs.CheckLine.{HasValueWords, HasCheckLine, AreLinesOf};
-ghost use Rattle.hlc_certificate.specs.CheckLine.{says_point, says_row, says_witness};
-ghost use Rattle.hlc_certificate.specs.CertificateText.{certificate_text};
-ghost use Rattle.hlc_certificate.specs.CertificateText.{point_line, row_line, witness_line};
+ghost use Rattle.hlc_certificate.specs.CheckLine.{before_token, HasBeforeToken, value_words, HasValueWords};
+ghost use Rattle.hlc_certificate.specs.CheckLine.{HasCheckLine, AreLinesOf, says_point, says_row, says_witness};
+ghost use Rattle.hlc_certificate.specs.CertificateText.{certificate_text, point_line, row_line, witness_line};
 
 use hlc_clock::Stamp;
 use hlc_rows::{Bytes, Row};

@@ -1,22 +1,17 @@
 -- The state of a store may have other rows; a copy of it, with its rows in order, is a checkpoint; and nothing is
 -- against a checkpoint.
-use Rattle.std.proofs.Common.{◌≡◌, ℕ, suc, ◌<◌, List, [], ◌∷◌, Bool, sym, subst, arith, IsPermutation, ltb}
-use Rattle.std.specs.Prelude.{All}
-use Rattle.std.proofs.lemmas.List.Elements.{All-filter}
-use Rattle.std.proofs.lemmas.List.Sorted.{All-permutation, IsPermutation-keeps}
-use Rattle.hlc_rows.specs.declared.row.Row.{Row}
-use Rattle.hlc_rows.specs.Rows.{IsRowSet, IsSameVersion}
+use Rattle.std.proofs.Common.{◌≡◌, ℕ, suc, ◌<◌, List, [], ◌∷◌, Bool, sym, subst, arith, IsPermutation, ltb, All}
+use Rattle.std.proofs.lemmas.List.{Elements.All-filter, Sorted.All-permutation, Sorted.IsPermutation-keeps}
+use Rattle.hlc_rows.specs.{declared.row.Row.Row, Rows.IsRowSet, Rows.IsSameVersion}
 use Rattle.hlc_table_column.proofs.FlagLemmas.{filter-IsRowSet}
-use Rattle.hlc_witness.specs.Certificate.{RowsAscend}
-use Rattle.hlc_witness.specs.Cost.{AreInLimits, IsInLimits}
+use Rattle.hlc_witness.specs.{Certificate.RowsAscend, Cost.AreInLimits, Cost.IsInLimits}
 use Rattle.hlc_witness.proofs.CertificateLemmas.{ascending_rows_are_a_row_set}
 use Rattle.hlc_checkpoint.specs.StoreView.{StoreView, IsUnderHead, with_rows}
-use Rattle.hlc_checkpoint.specs.declared.checkpoint.RestoreFault.{RestoreFault}
-use Rattle.hlc_checkpoint.specs.declared.checkpoint.RestoreFault.TheVariants as reasons
-use Rattle.hlc_checkpoint.specs.Checkpoint.{IsCheckpoint, IsCheckpointOf, IsCopyOf, IsCopyAbove, IsFirstReason}
-use Rattle.hlc_checkpoint.specs.Checkpoint.{IsStore, IsStoreHead, floor_in}
-use Rattle.hlc_checkpoint.specs.Sorted.{AreRowsAbove, rows_above}
+use Rattle.hlc_checkpoint.specs.{declared.checkpoint.RestoreFault.RestoreFault, Sorted.AreRowsAbove, Sorted.rows_above}
+use Rattle.hlc_checkpoint.specs.Checkpoint.{IsCheckpoint, IsCheckpointOf, IsCopyOf, IsCopyAbove, IsFirstReason, IsStore}
+use Rattle.hlc_checkpoint.specs.Checkpoint.{IsStoreHead, floor_in}
 use Rattle.hlc_checkpoint.proofs.AscendLemmas.{AreApart, apart, apart-swap}
+use Rattle.hlc_checkpoint.specs.declared.checkpoint.RestoreFault.TheVariants as reasons
 
 from_apart : (rows : List Row) → AreApart rows → IsRowSet rows
 from_apart [] h = tt

@@ -1,17 +1,13 @@
 -- Copies of the rows on a side of a stamp, position by position, column by column and leaf by leaf.
-use Rattle.std.proofs.Common.{◌≡◌, ℕ, ◌+◌, ◌<◌, List, [], ◌∷◌, ◌++◌}
-use Rattle.std.proofs.Common.{Some, length, take, get_or, sym, ap, ◌∙◌, leb, ltb, Bool, true, false, filter, refl}
-use Rattle.std.proofs.Common.{slice_get, append_assoc, cond, map, zero, suc, inl, inr, arith}
-use Rattle.std.proofs.lemmas.List.{append-nil, take_more, length-map}
-use Rattle.std.proofs.lemmas.List.Elements.{filter-append}
+use Rattle.std.proofs.Common.{◌≡◌, ℕ, ◌+◌, ◌<◌, List, [], ◌∷◌, ◌++◌, Some, length, take, get_or, sym, ap, ◌∙◌, leb, ltb}
+use Rattle.std.proofs.Common.{Bool, true, false, filter, refl, slice_get, append_assoc, cond, map, zero, suc, inl, inr}
+use Rattle.std.proofs.Common.{arith, append-nil}
+use Rattle.std.proofs.lemmas.{List.take_more, List.length-map, List.Elements.filter-append, Grind.flat_map-append}
 use Rattle.std.proofs.lemmas.Option.{slice_get_within, get_or_from_slice_get, slice_get_cases, same_Some}
-use Rattle.std.proofs.lemmas.Grind.{flat_map-append}
 use Rattle.hlc_rows.specs.declared.row.Row.{Row}
-use Rattle.hlc_table_column.specs.Cells.{Cell}
-use Rattle.hlc_table_column.specs.Rows.{KeyCells, row_of, rows_of, rows_in_one, rows_in}
+use Rattle.hlc_table_column.specs.{Cells.Cell, Rows.KeyCells, Rows.row_of, Rows.rows_of, Rows.rows_in_one, Rows.rows_in}
 use Rattle.hlc_columns.specs.Table.{columns_in}
-use Rattle.hlc_checkpoint.specs.declared.sorted.Side.{Side}
-use Rattle.hlc_checkpoint.specs.declared.sorted.Side.TheVariants.{All, UpTo, Above}
+use Rattle.hlc_checkpoint.specs.declared.sorted.Side.{Side, TheVariants.All, TheVariants.UpTo, TheVariants.Above}
 use Rattle.hlc_checkpoint.specs.Sorted.{is_on, rows_on}
 
 pub row_more : (rows : List Row) (i : ℕ) (row : Row) → slice_get rows i ≡ Some row

@@ -1,27 +1,23 @@
 -- Rows that are added one by one: what is true of all of them after one more, and the first reason against them.
-use Rattle.std.proofs.Common.{◌≡◌, List, [], ◌∷◌, ◌++◌, length, get_or, Bool, true, false}
-use Rattle.std.proofs.Common.{Option, Some, None, refl, sym, ap, subst, ◌∙◌, inl, inr, Less, IsPermutation}
+use Rattle.std.proofs.Common.{◌≡◌, List, [], ◌∷◌, ◌++◌, length, get_or, Bool, true, false, Option, Some, None, refl}
+use Rattle.std.proofs.Common.{sym, ap, subst, ◌∙◌, inl, inr, Less, IsPermutation}
 use Rattle.std.specs.Prelude.{All, Contains, IfNone, MatchOption, IsTrue, ◌↔◌}
 use Rattle.std.specs.List.Sorted.{IsStrictlySortedBy}
-use Rattle.std.proofs.Math.Seq.{take-append_seam}
+use Rattle.std.proofs.{Math.Seq.take-append_seam, lemmas.Map.Views.All-before_last}
 use Rattle.std.proofs.lemmas.List.Elements.{All-nil, All-push, All-take, All-contains, Contains-push}
 use Rattle.std.proofs.lemmas.List.Elements.{Contains-push_cases, All-from_recursion, recursion_from_All}
 use Rattle.std.proofs.lemmas.List.Sorted.{IsPermutation-refl, IsPermutation-trans, IsPermutation-append_left}
-use Rattle.std.proofs.lemmas.Map.Views.{All-before_last}
 use Rattle.hlc_values.proofs.MemberLemmas.{Contains-none}
 use Rattle.hlc_rows.specs.declared.row.Row.{Row}
 use Rattle.hlc_columns.specs.Table.{HasNoVersion}
-use Rattle.hlc_witness.specs.Certificate.{RowsAscend, row_cmp}
-use Rattle.hlc_witness.specs.Cost.{IsInLimits}
+use Rattle.hlc_witness.specs.{Certificate.RowsAscend, Certificate.row_cmp, Cost.IsInLimits}
 use Rattle.hlc_witness.proofs.ListedLemmas.{sorted_append}
 use Rattle.hlc_checkpoint.specs.StoreView.{StoreView, IsUnderHead, with_rows}
 use Rattle.hlc_checkpoint.specs.Checkpoint.{IsCheckpoint, IsFirstReason, IsHeadReason, IsStoreHead}
 use Rattle.hlc_checkpoint.specs.declared.checkpoint.RestoreFault.{RestoreFault}
-use Rattle.hlc_checkpoint.specs.declared.checkpoint.RestoreFault.TheVariants as reasons
 use Rattle.hlc_checkpoint.specs.Growing.{with_row, growing_of, without_value, IsLast, IsAfter, HasGrown, first_fault}
-use Rattle.hlc_checkpoint.proofs.AscendLemmas.{row_cmp_total}
-use Rattle.hlc_checkpoint.proofs.CheckpointLemmas.{head-checkpoint}
-use Rattle.hlc_checkpoint.proofs.Restored.{fresh-next}
+use Rattle.hlc_checkpoint.proofs.{AscendLemmas.row_cmp_total, Restored.fresh-next, CheckpointLemmas.head-checkpoint}
+use Rattle.hlc_checkpoint.specs.declared.checkpoint.RestoreFault.TheVariants as reasons
 
 -- ---- reasons
 

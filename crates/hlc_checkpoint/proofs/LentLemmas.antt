@@ -1,27 +1,20 @@
 -- Lists of columns, one after another, are the list of all columns; and if the keys ascend, its rows ascend.
 use Rattle.std.proofs.Common.{◌≡◌, ℕ, zero, suc, ◌<◌, List, [], ◌∷◌, ◌++◌, length, nat_cmp, Less, Some, slice_get}
-use Rattle.std.proofs.Common.{Option, refl, sym, ap, ap₂, ◌∙◌, subst, append_assoc, arith, IsPermutation}
-use Rattle.std.proofs.Common.{Contains}
-use Rattle.std.specs.Prelude.{All, Bool}
-use Rattle.std.specs.List.{AllByRecursion}
-use Rattle.std.specs.Ordering.{ordering_then}
-use Rattle.std.specs.Cmp.Lexicographic.{slice_cmp}
-use Rattle.std.specs.List.Sorted.{IsStrictlySortedBy}
+use Rattle.std.proofs.Common.{Option, refl, sym, ap, ap₂, ◌∙◌, subst, append_assoc, arith, IsPermutation, Contains}
+use Rattle.std.specs.{Prelude.All, Prelude.Bool, Ordering.ordering_then, Cmp.Lexicographic.slice_cmp}
+use Rattle.std.specs.List.{AllByRecursion, Sorted.IsStrictlySortedBy}
 use Rattle.std.proofs.lemmas.Option.{same_Some, slice_get_within}
 use Rattle.std.proofs.lemmas.List.Elements.{All-nil, All-cons, All-head, All-tail, All-filter, Contains-append_left}
 use Rattle.std.proofs.lemmas.List.Elements.{All-contains, All-from_recursion}
 use Rattle.std.proofs.lemmas.List.Sorted.{IsPermutation-refl, IsPermutation-sym, IsPermutation-append}
 use Rattle.std.proofs.lemmas.List.Sorted.{Contains-permutation}
-use Rattle.hlc_rows.specs.declared.row.Row.{Row}
-use Rattle.hlc_rows.specs.Rows.{IsRowSet}
+use Rattle.hlc_rows.specs.{declared.row.Row.Row, Rows.IsRowSet}
 use Rattle.hlc_table_column.specs.Cells.{Cell}
 use Rattle.hlc_table_column.specs.Rows.{KeyCells, KeysAscend, rows_of, rows_in, rows_in_one, keys_in}
 use Rattle.hlc_table_column.proofs.RowLemmas.{row_key, key_among}
 use Rattle.hlc_table_column.proofs.FlagLemmas.{filter-IsRowSet}
-use Rattle.hlc_columns.specs.Answers.{AreNext, in_part, part_end}
-use Rattle.hlc_columns.specs.Table.{columns_in}
-use Rattle.hlc_witness.specs.Certificate.{row_cmp, RowsAscend}
-use Rattle.hlc_witness.specs.Cost.{IsInLimits, AreInLimits}
+use Rattle.hlc_columns.specs.{Answers.AreNext, Answers.in_part, Answers.part_end, Table.columns_in}
+use Rattle.hlc_witness.specs.{Certificate.row_cmp, Certificate.RowsAscend, Cost.IsInLimits, Cost.AreInLimits}
 use Rattle.hlc_witness.proofs.ListedLemmas.{sorted_append}
 use Rattle.hlc_checkpoint.specs.Lent.{IsWritable, AreListOf}
 

@@ -1,12 +1,10 @@
 -- The definition of a checkpoint: the state of a core, with its rows by key, stamp and node; and the first reason why
 -- some values are not one.
-use Rattle.std.specs.Prelude.{◌≡◌, ℕ, ◌<◌, ◌≤◌, [], All, MatchResult, Result}
-use Rattle.std.specs.List.Sorted.{IsPermutation}
+use Rattle.std.specs.Prelude.{◌≡◌, ℕ, ◌<◌, ◌≤◌, [], All, MatchResult, Result, IsPermutation}
 use Rattle.hlc_heads.specs.Heads.{floor_of}
 use Rattle.hlc_snapshot.specs.RegistryView.{IsRegister}
-use Rattle.hlc_witness.specs.Certificate.{RowsAscend}
-use Rattle.hlc_witness.specs.Cost.{AreInLimits}
-use Rattle.hlc_checkpoint.specs.declared.checkpoint.RestoreFault.{RestoreFault}
+use Rattle.hlc_witness.specs.{Certificate.RowsAscend, Cost.AreInLimits}
+use Rattle.hlc_checkpoint.specs.{declared.checkpoint.RestoreFault.RestoreFault, Sorted.AreRowsAbove}
 use Rattle.hlc_checkpoint.specs.declared.checkpoint.RestoreFault.TheVariants.{NodesOutOfRange, NumberAboveHead}
 use Rattle.hlc_checkpoint.specs.declared.checkpoint.RestoreFault.TheVariants.{RetiredWithoutItem, SnapshotsNotRising}
 use Rattle.hlc_checkpoint.specs.declared.checkpoint.RestoreFault.TheVariants.{SnapshotAboveFloor, HorizonAboveFloor}
@@ -14,7 +12,6 @@ use Rattle.hlc_checkpoint.specs.declared.checkpoint.RestoreFault.TheVariants.{Ro
 use Rattle.hlc_checkpoint.specs.declared.checkpoint.RestoreFault.TheVariants.{RowOutOfLimits}
 use Rattle.hlc_checkpoint.specs.StoreView.{StoreView, HasNodes, HasStamps, HasLastItem, IsUnderHead, IsSound}
 use Rattle.hlc_checkpoint.specs.StoreView.{IsConsistent, marks_of, with_rows}
-use Rattle.hlc_checkpoint.specs.Sorted.{AreRowsAbove}
 
 -- the floor of a state
 abbrev pub floor_in : StoreView → ℕ

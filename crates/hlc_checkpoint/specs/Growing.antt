@@ -1,13 +1,10 @@
 -- A checkpoint whose rows are added one by one, each checked as it comes.
 use Rattle.std.specs.Prelude.{◌≡◌, List, [], ◌∷◌, ◌++◌, Bool, true, false, Option, Some, None, All, IsTrue, ◌↔◌}
-use Rattle.std.specs.List.Sorted.{IsPermutation}
-use Rattle.std.specs.declared.cmp.Ordering.TheVariants.{Less}
+use Rattle.std.specs.{List.Sorted.IsPermutation, declared.cmp.Ordering.TheVariants.Less}
 use Rattle.hlc_rows.specs.declared.row.Row.{Row}
-use Rattle.hlc_witness.specs.Certificate.{RowsAscend, row_cmp}
-use Rattle.hlc_witness.specs.Cost.{AreInLimits}
-use Rattle.hlc_checkpoint.specs.declared.checkpoint.RestoreFault.{RestoreFault}
-use Rattle.hlc_checkpoint.specs.declared.checkpoint.RestoreFault.TheVariants.{RowsNotAscending, RowAboveHead}
-use Rattle.hlc_checkpoint.specs.declared.checkpoint.RestoreFault.TheVariants.{RowOutOfLimits}
+use Rattle.hlc_witness.specs.{Certificate.RowsAscend, Certificate.row_cmp, Cost.AreInLimits}
+use Rattle.hlc_checkpoint.specs.declared.checkpoint.RestoreFault.{RestoreFault, TheVariants.RowsNotAscending}
+use Rattle.hlc_checkpoint.specs.declared.checkpoint.RestoreFault.{TheVariants.RowAboveHead, TheVariants.RowOutOfLimits}
 use Rattle.hlc_checkpoint.specs.StoreView.{StoreView, IsUnderHead, with_rows}
 
 -- the state with one more row

@@ -1,11 +1,8 @@
 -- The rows of a store, column by column, each in order.
-use Rattle.std.specs.Prelude.{◌≡◌, List, [], ◌∷◌, ◌++◌}
-use Rattle.std.specs.List.Sorted.{IsPermutation}
-use Rattle.hlc_rows.specs.declared.row.Row.{Row}
-use Rattle.hlc_rows.specs.Rows.{IsRowSet}
+use Rattle.std.specs.{Prelude.◌≡◌, Prelude.List, Prelude.[], Prelude.◌∷◌, Prelude.◌++◌, List.Sorted.IsPermutation}
+use Rattle.hlc_rows.specs.{declared.row.Row.Row, Rows.IsRowSet}
 use Rattle.hlc_table_column.specs.Rows.{KeyCells, rows_in_one}
-use Rattle.hlc_witness.specs.Certificate.{RowsAscend}
-use Rattle.hlc_witness.specs.Cost.{AreInLimits}
+use Rattle.hlc_witness.specs.{Certificate.RowsAscend, Cost.AreInLimits}
 
 -- the rows of the column are a row set, and an item may write each
 abbrev pub IsWritable : KeyCells → Type 0

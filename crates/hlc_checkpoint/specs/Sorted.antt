@@ -1,11 +1,9 @@
 -- Rows in the order in which certificates list them.
-use Rattle.std.specs.Prelude.{ℕ, List, Bool, true, filter, nat_le, nat_lt}
-use Rattle.std.specs.List.Sorted.{IsPermutation}
+use Rattle.std.specs.Prelude.{ℕ, List, Bool, true, filter, nat_le, nat_lt, IsPermutation}
 use Rattle.hlc_rows.specs.declared.row.Row.{Row}
 use Rattle.hlc_table_column.specs.Rows.{rows_to}
 use Rattle.hlc_witness.specs.Certificate.{RowsAscend}
-use Rattle.hlc_checkpoint.specs.declared.sorted.Side.{Side}
-use Rattle.hlc_checkpoint.specs.declared.sorted.Side.TheVariants.{All, UpTo, Above}
+use Rattle.hlc_checkpoint.specs.declared.sorted.Side.{Side, TheVariants.All, TheVariants.UpTo, TheVariants.Above}
 
 -- the rows at or below a stamp, by key, stamp and node
 pub record AreRowsTo (rows : List Row) (bound : ℕ) (listed : List Row) : Type 0 where

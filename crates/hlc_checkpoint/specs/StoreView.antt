@@ -1,11 +1,10 @@
 -- The state of a core, and the properties that a checkpoint and a core share.
 use Rattle.std.specs.Prelude.{◌≡◌, ℕ, ◌<◌, ◌≤◌, List, [], ◌∷◌, length, max, true, All}
-use Rattle.hlc_rows.specs.declared.row.Row.{Row}
+use Rattle.hlc_rows.specs.{declared.row.Row.Row, Rows.IsRowSet}
 use Rattle.hlc_intake.specs.IntakeView.{IntakeView}
 use Rattle.hlc_heads.specs.declared.heads.TheConstants.{MAX_INITIAL_NODES, MAX_NODES}
 use Rattle.hlc_heads.specs.Heads.{HeadsView, link_at, floor_of}
 use Rattle.hlc_snapshot.specs.declared.snapshot.Snapshot.{Snapshot}
-use Rattle.hlc_rows.specs.Rows.{IsRowSet}
 use Rattle.hlc_witness.specs.Cost.{AreInLimits}
 
 -- the state of a core: the number of nodes at the start; by node the progress of its link; the greatest head; the open

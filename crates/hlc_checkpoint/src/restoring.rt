@@ -1,7 +1,6 @@
 //! The table of a store, made from a checkpoint's rows.
-ghost use Rattle.std.specs.Prelude.{◌++◌, ◌∷◌, [], IfOk, OnOk};
+ghost use Rattle.std.specs.Prelude.{◌++◌, ◌∷◌, [], IfOk, OnOk, IsPermutation};
 ghost use Rattle.hlc_columns.specs.Table.{HasNoVersion};
-ghost use Rattle.std.specs.List.Sorted.{IsPermutation};
 ghost use Rattle.hlc_witness.specs.Certificate.{RowsAscend};
 
 use hlc_columns::Table;

@@ -1,6 +1,5 @@
 //! The stored rows up to a stamp, or above it, in the order in which certificates list them.
-ghost use Rattle.std.specs.Prelude.{◌≡◌, ◌++◌, IfOk, OnOk};
-ghost use Rattle.std.specs.List.Sorted.{IsPermutation};
+ghost use Rattle.std.specs.{Prelude.◌≡◌, Prelude.◌++◌, Prelude.IfOk, Prelude.OnOk, List.Sorted.IsPermutation};
 ghost use Rattle.hlc_rows.specs.Rows.{IsRowSet};
 ghost use Rattle.hlc_witness.specs.Certificate.{RowsAscend};
 ghost use Rattle.hlc_table_column.specs.Rows.{rows_of, rows_in};

@@ -2,11 +2,9 @@
 ghost use Rattle.std.specs.Prelude.{◌≡◌, ◌<◌, IfOk, All, Some, length, slice_get};
 ghost use Rattle.hlc_snapshot.specs.RegistryView.{IsRegister};
 ghost use Rattle.hlc_table_column.specs.Rows.{rows_in, KeysAscend};
-ghost use Rattle.hlc_columns.specs.Answers.{AreNext};
-ghost use Rattle.hlc_columns.specs.Table.{columns_in};
+ghost use Rattle.hlc_columns.specs.{Answers.AreNext, Table.columns_in};
 ghost use Rattle.hlc_witness.specs.Cost.{AreInLimits};
-ghost use Rattle.hlc_checkpoint.specs.StoreView.{greatest_head, with_rows};
-ghost use Rattle.hlc_checkpoint.specs.Lent.{IsWritable};
+ghost use Rattle.hlc_checkpoint.specs.{StoreView.greatest_head, StoreView.with_rows, Lent.IsWritable};
 
 use crate::checkpoint::Checkpoint;
 use hlc_clock::Stamp;

@@ -1,9 +1,7 @@
 -- Writes into a text in place append: what several of them wrote together comes after the text that was there before.
 use Rattle.std.proofs.Common.{◌≡◌, ℕ, List, [], ◌∷◌, ◌++◌, sym, ap, subst, ◌∙◌, append-nil, append_assoc}
-use Rattle.std.specs.List.{FoldsTo, concat}
-use Rattle.std.specs.Fmt.{WritesInCalls}
-use Rattle.std.specs.Fmt.InlineText.{inline_text, IsIntact, AppendsIfIntact}
-use Rattle.std.specs.declared.fmt.InlineText.{InlineText}
+use Rattle.std.specs.{List.FoldsTo, List.concat, declared.fmt.InlineText.InlineText}
+use Rattle.std.specs.Fmt.{WritesInCalls, InlineText.inline_text, InlineText.IsIntact, InlineText.AppendsIfIntact}
 
 module _ {n : ℕ} where
   after_calls : (s : InlineText n) (parts : List (List ℕ)) (t : InlineText n) → FoldsTo AppendsIfIntact s parts t

@@ -1,17 +1,14 @@
 -- The function that computes a clock's answer meets the clock's rule: the next stamp is the least one above each
 -- earlier stamp and not below the reading, since it is the greater of the two least bounds.
 use Rattle.std.proofs.Common.{◌≡◌, ℕ, suc, ◌+◌, ◌*◌, ◌<◌, ◌≤◌, List, [], ◌∷◌, length, max, true, refl, arith, inl, inr}
-use Rattle.std.specs.Prelude.{All, Contains, nat_lt, nat_le}
+use Rattle.std.specs.{Prelude.All, Prelude.Contains, Prelude.nat_lt, Prelude.nat_le, Bool.Decides}
 use Rattle.std.proofs.lemmas.List.Elements.{All-nil, All-cons, All-head, All-tail, All-weaker}
-use Rattle.std.proofs.lemmas.Bool.Decides.{Decides-by_and, Decides-ltb}
-use Rattle.std.proofs.lemmas.Bool.{cases_lt, cases_Bool, and_parts, and_from, ltb-true, lt-ltb, leb-true, leb-false}
-use Rattle.std.proofs.lemmas.Bool.{both_ways}
-use Rattle.std.specs.Bool.{Decides}
+use Rattle.std.proofs.lemmas.Bool.{Decides.Decides-by_and, Decides.Decides-ltb, cases_lt, cases_Bool, and_parts}
+use Rattle.std.proofs.lemmas.Bool.{and_from, ltb-true, lt-ltb, leb-true, leb-false, both_ways}
 use Rattle.hlc_clock.specs.declared.stamp.TheConstants.{READING_BOUND, COUNTER_BOUND}
 use Rattle.hlc_clock.specs.Stamp.{physical}
 use Rattle.hlc_clock.specs.NextStamp.{IsNext, IsCarried, above, greatest, next_stamp, all_below, is_carried}
-use Rattle.hlc_clock.specs.NextStamp.{expected_stamp}
-use Rattle.hlc_clock.specs.NextStamp.{IsClockAnswer}
+use Rattle.hlc_clock.specs.NextStamp.{expected_stamp, IsClockAnswer}
 
 above-all : (es : List ℕ) → All (λ e. e < above es) es
 above-all [] = All-nil (λ e. e < 0)

@@ -1,8 +1,7 @@
 -- The refusals of a clock: the number, the word and the text of each.
 use Rattle.std.specs.Prelude.{ℕ, List, ◌++◌, codes}
 use Rattle.hlc_clock.specs.Stamp.{stamp_text}
-use Rattle.hlc_clock.specs.declared.clock.ClockFault.{ClockFault}
-use Rattle.hlc_clock.specs.declared.clock.ClockFault.TheVariants.{ReadingTooLarge, CounterFull}
+use Rattle.hlc_clock.specs.declared.clock.ClockFault.{ClockFault, TheVariants.ReadingTooLarge, TheVariants.CounterFull}
 
 -- the number of a refusal
 abbrev pub clock_code : ClockFault → ℕ

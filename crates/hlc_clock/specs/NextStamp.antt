@@ -3,8 +3,7 @@ use Rattle.std.specs.Prelude.{ℕ, ◌+◌, ◌*◌, ◌<◌, ◌≤◌, List, [
 use Rattle.std.specs.Prelude.{nat_le, if◌then◌else◌, Result, Ok, Err}
 use Rattle.hlc_clock.specs.declared.stamp.TheConstants.{READING_BOUND, COUNTER_BOUND}
 use Rattle.hlc_clock.specs.Stamp.{physical}
-use Rattle.hlc_clock.specs.declared.clock.ClockFault.{ClockFault}
-use Rattle.hlc_clock.specs.declared.clock.ClockFault.TheVariants.{ReadingTooLarge, CounterFull}
+use Rattle.hlc_clock.specs.declared.clock.ClockFault.{ClockFault, TheVariants.ReadingTooLarge, TheVariants.CounterFull}
 
 -- the stamp is above every earlier one, and not below the reading
 pub record IsAfter (earlier : List ℕ) (reading stamp : ℕ) : Type 0 where

@@ -1,7 +1,5 @@
 //! `==` of these types is true exactly on equal values, and each copy is equal.
-ghost use Rattle.std.proofs.Common.{rules};
-ghost use Rattle.std.proofs.lemmas.Grind.{common_steps};
-ghost use Rattle.std.specs.Cmp.Rules.{comparing};
+ghost use Rattle.std.{proofs.Common.rules, proofs.lemmas.Grind.common_steps, specs.Cmp.Rules.comparing};
 
 use crate::clock::{Clock, ClockFault};
 use crate::stamp::{ReadingTooLarge, Stamp};

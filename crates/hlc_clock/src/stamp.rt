@@ -1,16 +1,11 @@
 //! The stamp: a physical part and a counter in one word.
-ghost use Rattle.std.specs.Prelude.{ℕ, ⊤, ◌≡◌, ◌+◌, ◌*◌, ◌/◌, ◌%◌, ◌^◌, ◌<◌, ◌≤◌};
-ghost use Rattle.std.specs.Prelude.{MatchResult, IfOk, Some, nat_eq};
-ghost use Rattle.std.specs.Cmp.{partial_order_from_own_ties, partial_equiv_from_equiv};
-ghost use Rattle.std.specs.Cmp.Rules.{comparing, hashing};
-ghost use Rattle.std.specs.Fmt.{styled_text};
-ghost use Rattle.std.specs.Fmt.InlineText.{inline_text};
-ghost use Rattle.std.specs.Hash as fed;
-ghost use Rattle.std.specs.Ordering.{nat_cmp, as_partial_cmp};
-ghost use Rattle.std.proofs.Common.{rules};
-ghost use Rattle.std.proofs.lemmas.Cmp.{nat_cmp_total, nat_eq_equiv};
+ghost use Rattle.std.specs.Prelude.{ℕ, ⊤, ◌≡◌, ◌+◌, ◌*◌, ◌/◌, ◌%◌, ◌^◌, ◌<◌, ◌≤◌, MatchResult, IfOk, Some, nat_eq};
+ghost use Rattle.std.specs.Cmp.{partial_order_from_own_ties, partial_equiv_from_equiv, Rules.comparing, Rules.hashing};
+ghost use Rattle.std.specs.{Fmt.styled_text, Fmt.InlineText.inline_text, Ordering.nat_cmp, Ordering.as_partial_cmp};
+ghost use Rattle.std.proofs.{Common.rules, lemmas.Cmp.nat_cmp_total, lemmas.Cmp.nat_eq_equiv};
 ghost use Rattle.hlc_clock.specs.declared.stamp.TheConstants.{READING_BOUND, COUNTER_BOUND};
 ghost use Rattle.hlc_clock.specs.Stamp.{physical, counter, stamp_text};
+ghost use Rattle.std.specs.Hash as fed;
 
 use hlc_values::NoMemory;
 use std::cmp::Ordering;

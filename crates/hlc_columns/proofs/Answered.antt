@@ -1,22 +1,18 @@
 -- The answers of columns in turn are those of the table, since no other column has the key.
 use Rattle.std.proofs.Common.{◌≡◌, ◌++◌, ◌∷◌, ◌∙◌, ℕ, List, [], option_and_then, append_assoc, Option, Some, None, refl}
 use Rattle.std.proofs.Common.{sym, ap, ap₂, reverse, subst, inl, inr, Contains}
-use Rattle.std.specs.List.Sorted.{IsStrictlySortedBy}
-use Rattle.std.proofs.lemmas.List.{reverse-append}
+use Rattle.std.{specs.List.Sorted.IsStrictlySortedBy, proofs.lemmas.List.reverse-append}
 use Rattle.hlc_values.proofs.MemberLemmas.{Contains-none, Contains-first, Contains-rest, Contains-cons_cases}
 use Rattle.hlc_values.proofs.MemberLemmas.{Contains-map}
-use Rattle.hlc_rows.specs.declared.row.Row.{Row}
-use Rattle.hlc_rows.specs.Rows.{newest, answer}
+use Rattle.hlc_rows.specs.{declared.row.Row.Row, Rows.newest, Rows.answer}
 use Rattle.hlc_rows.proofs.NewestLemmas.{newest_is_greatest}
 use Rattle.hlc_table_index.specs.Entries.{key_cmp}
 use Rattle.hlc_table_column.specs.Rows.{rows_of}
-use Rattle.hlc_columns.specs.Table.{table_rows}
+use Rattle.hlc_columns.{specs.Table.table_rows, proofs.WalkLemmas.Entry, proofs.WalkLemmas.one_of}
 use Rattle.hlc_columns.specs.Answers.{answers_in, pair_of, IsBetween, AreAnswers}
-use Rattle.hlc_columns.proofs.FoundLemmas.{newest_alone}
-use Rattle.hlc_columns.proofs.Keys.{names, name_of_row}
+use Rattle.hlc_columns.proofs.{FoundLemmas.newest_alone, Keys.names, Keys.name_of_row}
 use Rattle.hlc_columns.proofs.Paired.{pair_from, pair_in, pairs_ascend}
 use Rattle.hlc_columns.proofs.Ranged.{within, sorted_within, from_within, is_within, any_between}
-use Rattle.hlc_columns.proofs.WalkLemmas.{Entry, one_of}
 
 -- the answer of an entry's column alone
 abbrev pub own : Entry → ℕ → Option (List ℕ)

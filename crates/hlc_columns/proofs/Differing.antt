@@ -2,20 +2,15 @@
 use Rattle.std.proofs.Common.{◌≡◌, ◌≢◌, ◌∙◌, ℕ, List, [], Option, Some, None, refl, sym, ap, ap₂, subst, inl, inr}
 use Rattle.std.proofs.Common.{Contains}
 use Rattle.std.specs.List.Sorted.{IsStrictlySortedBy}
-use Rattle.std.proofs.lemmas.Bool.{cases_Bool}
-use Rattle.std.proofs.lemmas.Option.{none-some, same_Some}
-use Rattle.hlc_rows.specs.declared.row.Row.{Row}
-use Rattle.hlc_rows.specs.Rows.{answer}
+use Rattle.std.proofs.lemmas.{Bool.cases_Bool, Option.none-some, Option.same_Some}
+use Rattle.hlc_rows.specs.{declared.row.Row.Row, Rows.answer}
 use Rattle.hlc_table_index.specs.Entries.{key_cmp}
-use Rattle.hlc_columns.specs.Table.{table_rows}
-use Rattle.hlc_columns.specs.Answers.{IsBetween}
+use Rattle.hlc_columns.specs.{Table.table_rows, Answers.IsBetween}
 use Rattle.hlc_columns.specs.Differences.{Difference, AreDifferences, is_same, difference_of, differences_in}
 use Rattle.hlc_columns.proofs.Answered.{own, alone, answered}
-use Rattle.hlc_columns.proofs.Keys.{names}
+use Rattle.hlc_columns.proofs.{Keys.names, WalkLemmas.Entry, SameLemmas.other_is, SameLemmas.apart_is}
 use Rattle.hlc_columns.proofs.Paired.{pair_from, pair_in, pairs_ascend}
 use Rattle.hlc_columns.proofs.Ranged.{within, sorted_within, from_within, is_within, any_between}
-use Rattle.hlc_columns.proofs.SameLemmas.{other_is, apart_is}
-use Rattle.hlc_columns.proofs.WalkLemmas.{Entry}
 
 -- there is a difference where the first answer is another, and it is the second
 difference_is : (before after value : Option (List ℕ)) → difference_of before after ≡ Some value

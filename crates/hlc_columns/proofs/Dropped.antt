@@ -2,15 +2,12 @@
 use Rattle.std.proofs.Common.{◌≡◌, ℕ, ◌+◌, ◌<◌, Bool, true, false, List, [], ◌∷◌, ◌++◌, refl, sym, ap, ap₂, lt-ltb}
 use Rattle.std.proofs.Common.{ltb-true, true≢false, ◌∙◌, inl, inr, arith, length, get_or, set, subst, filter, ltb, All}
 use Rattle.std.specs.List.{items_where_true, list_all}
-use Rattle.std.proofs.lemmas.Bool.{cases_Bool}
-use Rattle.std.proofs.lemmas.List.{set-get_or}
-use Rattle.std.proofs.lemmas.List.Elements.{filter-append}
+use Rattle.std.proofs.lemmas.{Bool.cases_Bool, List.set-get_or, List.Elements.filter-append}
 use Rattle.hlc_table_column.specs.Cells.{Cell}
 use Rattle.hlc_table_index.specs.Entries.{entries_before, entries_from, with_value_in}
 use Rattle.hlc_columns.specs.Table.{if_filled, key_at, cells_at}
 use Rattle.hlc_columns.specs.Sizes.{sizes_of, filled_sizes, plus, minus, Fit, IsPart, Sizes}
-use Rattle.hlc_columns.proofs.Kept.{is_filled}
-use Rattle.hlc_columns.proofs.WalkLemmas.{Entry, filter_all}
+use Rattle.hlc_columns.proofs.{Kept.is_filled, WalkLemmas.Entry, WalkLemmas.filter_all}
 use Rattle.hlc_columns.proofs.KeptOf.{apart, is_part, minus_is, parted_own, key_there, cells_there, key_now, cells_now}
 use Rattle.hlc_columns.proofs.KeptOf.{entries_now, filled_some}
 use Rattle.hlc_columns.proofs.SizeLemmas.{equal, fit_less, length_kept, less_one}

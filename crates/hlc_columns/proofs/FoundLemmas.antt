@@ -3,19 +3,12 @@
 use Rattle.std.proofs.Common.{◌≡◌, ◌≢◌, ℕ, ◌<◌, Bool, true, false, cond, List, [], ◌∷◌, ◌++◌, Option, Some, IsNone}
 use Rattle.std.proofs.Common.{IfSome, option_and_then, append-nil, None, length, refl, ◌↔◌, sym, ap, ap₂, ◌∙◌, subst}
 use Rattle.std.proofs.Common.{inl, inr, arith, Contains, true≢false, Less, nat_cmp}
-use Rattle.std.specs.Ordering.{is_eq}
+use Rattle.std.specs.{Ordering.is_eq, Map.lookup, Map.keys_of, List.AllByRecursion, List.Sorted.IsStrictlySortedBy}
 use Rattle.std.specs.Cmp.Lexicographic.{slice_cmp, texts_ties}
-use Rattle.std.specs.List.{AllByRecursion}
-use Rattle.std.specs.List.Sorted.{IsStrictlySortedBy}
-use Rattle.std.specs.Map.{lookup, keys_of}
-use Rattle.std.proofs.lemmas.Map.Keys.{sorted_head, sorted_tail}
-use Rattle.std.proofs.lemmas.Bool.{cases_Bool, false_from_ne_true}
-use Rattle.std.proofs.lemmas.Option.{none-some}
-use Rattle.std.proofs.lemmas.List.{length-map}
-use Rattle.std.proofs.lemmas.List.Elements.{filter-append, Contains-append_cases, All-map}
-use Rattle.std.proofs.lemmas.Slice.Eq.{bytes_eq-Decides}
-use Rattle.hlc_rows.specs.declared.row.Row.{Row}
-use Rattle.hlc_rows.specs.Rows.{newest, answer}
+use Rattle.std.proofs.lemmas.{Map.Keys.sorted_head, Map.Keys.sorted_tail, Bool.cases_Bool, Bool.false_from_ne_true}
+use Rattle.std.proofs.lemmas.{Option.none-some, Slice.Eq.bytes_eq-Decides}
+use Rattle.std.proofs.lemmas.List.{length-map, Elements.filter-append, Elements.Contains-append_cases, Elements.All-map}
+use Rattle.hlc_rows.specs.{declared.row.Row.Row, Rows.newest, Rows.answer}
 use Rattle.hlc_rows.proofs.NewestLemmas.{newest_after_others, newest_before_others}
 use Rattle.hlc_table_column.proofs.RowLemmas.{row_key}
 use Rattle.hlc_table_column.specs.Cells.{Cell}

@@ -3,24 +3,16 @@
 use Rattle.std.proofs.Common.{◌≡◌, ℕ, ◌<◌, Bool, List, [], ◌∷◌, IfSome, Result, Ok, Err, OnOk, OnErr, append_assoc}
 use Rattle.std.proofs.Common.{◌++◌, Some, None, length, refl, sym, ap, ◌∙◌, subst, inl, inr, arith, All, true≢false}
 use Rattle.std.proofs.Common.{Ordering, Less, Equal, Greater, nat_cmp}
-use Rattle.std.specs.Ordering.{is_eq, match_ordering}
-use Rattle.std.specs.Cmp.Lexicographic.{slice_cmp}
-use Rattle.std.specs.List.{AllByRecursion}
-use Rattle.std.specs.Map.{lookup, set_value, keys_of}
-use Rattle.std.specs.BTreeMap.{insert_entry}
-use Rattle.std.proofs.lemmas.Map.Entries.{All-lookup}
-use Rattle.std.proofs.lemmas.Bool.{cases_Bool, cond_both}
-use Rattle.std.proofs.lemmas.Option.{none-some, same_Some}
-use Rattle.std.proofs.lemmas.List.{map-append}
+use Rattle.std.specs.{Ordering.is_eq, Ordering.match_ordering, Map.lookup, Map.set_value, Map.keys_of}
+use Rattle.std.specs.{Cmp.Lexicographic.slice_cmp, BTreeMap.insert_entry}
+use Rattle.std.specs.List.{AllByRecursion, Sorted.IsPermutation, Sorted.IsStrictlySortedBy}
+use Rattle.std.proofs.lemmas.Map.{Entries.All-lookup, Keys.sorted_head, Keys.sorted_tail}
+use Rattle.std.proofs.lemmas.{Bool.cases_Bool, Bool.cond_both, Option.none-some, Option.same_Some}
+use Rattle.std.proofs.lemmas.List.{map-append, Sorted.IsPermutation-append_right, Sorted.IsPermutation-append_comm}
 use Rattle.std.proofs.lemmas.List.Elements.{All-from_recursion, recursion_from_All, Contains-append_cases}
 use Rattle.std.proofs.lemmas.List.Elements.{Contains-append_left, Contains-append_right}
-use Rattle.hlc_rows.specs.declared.row.Row.{Row}
-use Rattle.hlc_rows.specs.Rows.{IsRowSet}
-use Rattle.hlc_table_column.specs.Cells.{Cell}
-use Rattle.hlc_table_column.specs.Rows.{row_of, rows_of}
-use Rattle.std.specs.List.Sorted.{IsPermutation, IsStrictlySortedBy}
-use Rattle.std.proofs.lemmas.Map.Keys.{sorted_head, sorted_tail}
-use Rattle.std.proofs.lemmas.List.Sorted.{IsPermutation-append_right, IsPermutation-append_comm}
+use Rattle.hlc_rows.specs.{declared.row.Row.Row, Rows.IsRowSet}
+use Rattle.hlc_table_column.specs.{Cells.Cell, Rows.row_of, Rows.rows_of}
 use Rattle.hlc_columns.specs.Table.{table_rows, HasNoVersion, InsertedLast}
 use Rattle.hlc_columns.proofs.FoundLemmas.{test, same_key, none_here, none_past, no_row}
 use Rattle.hlc_values.proofs.MemberLemmas.{Contains-rest, Contains-cons_cases}

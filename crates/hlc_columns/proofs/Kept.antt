@@ -5,13 +5,10 @@ use Rattle.std.proofs.Common.{lt-ltb, length-append, length-drop, drop-drop, len
 use Rattle.std.proofs.Common.{take-append-drop, refl, sym, ap, ap₂, ◌∙◌, arith, take, drop, filter, ltb, get_or, set}
 use Rattle.std.proofs.Common.{All, map}
 use Rattle.std.specs.List.{items_where_true, AllByRecursion}
-use Rattle.std.proofs.lemmas.Bool.{cond_both}
-use Rattle.std.proofs.lemmas.List.{get_or_default, length-map, get_or-map}
-use Rattle.std.proofs.lemmas.List.Concat.{flat_map-append}
-use Rattle.std.proofs.lemmas.List.Elements.{All-from_recursion}
+use Rattle.std.proofs.lemmas.{Bool.cond_both, List.get_or_default, List.length-map, List.get_or-map}
+use Rattle.std.proofs.lemmas.List.{Concat.flat_map-append, Elements.All-from_recursion}
 use Rattle.hlc_rows.specs.declared.row.Row.{Row}
-use Rattle.hlc_table_column.specs.Cells.{Cell}
-use Rattle.hlc_table_column.specs.Rows.{row_of, rows_of}
+use Rattle.hlc_table_column.specs.{Cells.Cell, Rows.row_of, Rows.rows_of}
 use Rattle.hlc_table_index.specs.Entries.{entries_in, keys_in, with_value_in}
 use Rattle.hlc_columns.specs.Table.{table_rows, indexed_rows, kept_in, cells_at}
 use Rattle.hlc_columns.proofs.WalkLemmas.{Entry, rows_both}

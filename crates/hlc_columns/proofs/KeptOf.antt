@@ -3,19 +3,14 @@ use Rattle.std.proofs.Common.{filter, suc, ◌≡◌, ℕ, ◌+◌, ◌<◌, Boo
 use Rattle.std.proofs.Common.{ltb-true, length-append, append-nil, length-set, drop-set-lt, get_or-set_same}
 use Rattle.std.proofs.Common.{get_or-append-add, ◌∷◌, ◌++◌, refl, sym, ap, ap₂, ◌∙◌, inl, inr, arith, take, drop}
 use Rattle.std.proofs.Common.{length, get_or, set, subst, All, ltb, Less}
-use Rattle.std.specs.Str.{bytes_eq}
-use Rattle.std.specs.List.{items_where_true, AllByRecursion}
+use Rattle.std.specs.{Str.bytes_eq, List.items_where_true, List.AllByRecursion, List.Sorted.IsStrictlySortedBy}
 use Rattle.std.proofs.lemmas.Bool.{cases_Bool, cond_both, false_from_ne_true}
-use Rattle.std.specs.List.Sorted.{IsStrictlySortedBy}
-use Rattle.std.proofs.lemmas.Slice.Eq.{bytes_eq-Decides}
+use Rattle.std.proofs.lemmas.{Slice.Eq.bytes_eq-Decides, List.Sums.sum_by-cons, List.Sums.sum_by-append}
 use Rattle.std.proofs.lemmas.List.{length-map, take-set-le, get_or-map, get_or_append_left}
-use Rattle.std.proofs.lemmas.List.Sums.{sum_by-cons, sum_by-append}
 use Rattle.std.proofs.lemmas.List.Elements.{filter-append, All-append, All-cons, All-nil, All-tail, All-map}
 use Rattle.std.proofs.lemmas.List.Elements.{All-from_recursion}
-use Rattle.hlc_rows.specs.declared.row.Row.{Row}
-use Rattle.hlc_rows.specs.Rows.{IsRowSet}
-use Rattle.hlc_table_column.specs.Cells.{Cell, cell_bytes}
-use Rattle.hlc_table_column.specs.Rows.{row_of, rows_of, rows_with}
+use Rattle.hlc_rows.specs.{declared.row.Row.Row, Rows.IsRowSet}
+use Rattle.hlc_table_column.specs.{Cells.Cell, Cells.cell_bytes, Rows.row_of, Rows.rows_of, Rows.rows_with}
 use Rattle.hlc_table_index.specs.Entries.{entries_in, entries_before, entries_from, with_value_in, keys_in, key_cmp}
 use Rattle.hlc_table_index.specs.Entries.{IsEntryAt}
 use Rattle.hlc_table_index.proofs.SlotLemmas.{itself}

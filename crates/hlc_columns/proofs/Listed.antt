@@ -2,22 +2,15 @@
 use Rattle.std.proofs.Common.{◌≡◌, ◌≢◌, ℕ, zero, suc, ◌+◌, ◌≤◌, List, [], ◌∷◌, ◌++◌, sym, ap, MatchOption, append_assoc}
 use Rattle.std.proofs.Common.{length-drop, take_all, ◌∙◌, arith, take, length, get_or, drop, Bool, true, false, Option}
 use Rattle.std.proofs.Common.{Some, None, All, refl, subst, inl, inr, Bor, Ordering, Less, Equal, Greater, true≢false}
-use Rattle.std.specs.Ordering.{is_eq, ordering_reverse}
-use Rattle.std.specs.Str.{bytes_eq}
-use Rattle.std.specs.List.{AllByRecursion}
-use Rattle.std.specs.List.Sorted.{IsStrictlySortedBy}
-use Rattle.std.specs.Cmp.Lexicographic.{nat_list_cmp_total}
-use Rattle.std.proofs.lemmas.Bool.{cases_Bool}
-use Rattle.std.proofs.lemmas.Slice.Eq.{bytes_eq-Decides}
-use Rattle.std.proofs.lemmas.List.{map_push}
+use Rattle.std.specs.{Ordering.is_eq, Ordering.ordering_reverse, Str.bytes_eq, Cmp.Lexicographic.nat_list_cmp_total}
+use Rattle.std.specs.List.{AllByRecursion, Sorted.IsStrictlySortedBy}
+use Rattle.std.proofs.lemmas.{Bool.cases_Bool, List.map_push, Slice.Eq.bytes_eq-Decides}
 use Rattle.std.proofs.lemmas.List.Elements.{All-from_recursion, All-nil, All-cons, All-append, All-weaker}
 use Rattle.hlc_table_index.specs.Entries.{keys_in, key_cmp}
 use Rattle.hlc_table_index.proofs.SlotLemmas.{itself, other}
-use Rattle.hlc_columns.specs.Answers.{AreAbove, starts_at}
-use Rattle.hlc_columns.proofs.FoundLemmas.{same_key}
+use Rattle.hlc_columns.specs.{Answers.AreAbove, Answers.starts_at, Table.keyed}
+use Rattle.hlc_columns.proofs.{FoundLemmas.same_key, WalkLemmas.Entry, WalkLemmas.one_of}
 use Rattle.hlc_table_column.specs.Rows.{KeyCells}
-use Rattle.hlc_columns.specs.Table.{keyed}
-use Rattle.hlc_columns.proofs.WalkLemmas.{Entry, one_of}
 
 -- one more item
 pub one_more : {X : Type 0} (xs rest : List X) (i : ℕ) (x : X) → drop i xs ≡ x ∷ rest

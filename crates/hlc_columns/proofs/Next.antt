@@ -3,24 +3,18 @@ use Rattle.std.proofs.Common.{◌≡◌, ◌≢◌, ℕ, zero, suc, ◌<◌, ◌
 use Rattle.std.proofs.Common.{append-nil, take-append-drop, [], ◌∷◌, ◌++◌, refl, sym, ap, ap₂, ◌∙◌, inl, inr, arith}
 use Rattle.std.proofs.Common.{take, drop, filter, length, subst, All, Some, None, Option, Ordering, Less, Equal}
 use Rattle.std.proofs.Common.{Greater, ltb, ◌&&◌, get_or}
-use Rattle.std.specs.Ordering.{is_gt, ordering_reverse}
-use Rattle.std.specs.List.{AllByRecursion}
-use Rattle.std.specs.List.Sorted.{IsStrictlySortedBy}
-use Rattle.std.specs.Cmp.Lexicographic.{nat_list_cmp_total}
-use Rattle.std.proofs.lemmas.Bool.{cases_Bool}
-use Rattle.std.proofs.lemmas.List.{length-map}
-use Rattle.std.proofs.lemmas.List.Elements.{All-from_recursion, All-nil, All-cons, filter-append, All-map, All-take}
-use Rattle.std.proofs.lemmas.List.Elements.{All-weaker}
+use Rattle.std.specs.{Ordering.is_gt, Ordering.ordering_reverse, Cmp.Lexicographic.nat_list_cmp_total}
+use Rattle.std.{specs.List.AllByRecursion, specs.List.Sorted.IsStrictlySortedBy, proofs.lemmas.Bool.cases_Bool}
+use Rattle.std.proofs.lemmas.List.{length-map, Elements.All-from_recursion, Elements.All-nil, Elements.All-cons}
+use Rattle.std.proofs.lemmas.List.{Elements.filter-append, Elements.All-map, Elements.All-take, Elements.All-weaker}
 use Rattle.hlc_rows.specs.declared.row.Row.{Row}
 use Rattle.hlc_table_index.specs.Entries.{keys_in, key_cmp}
 use Rattle.hlc_table_index.proofs.SlotLemmas.{itself}
 use Rattle.hlc_table_column.specs.Rows.{KeyCells, KeysAscend}
-use Rattle.hlc_columns.specs.Table.{table_rows, keyed}
+use Rattle.hlc_columns.{specs.Table.table_rows, specs.Table.keyed, proofs.Listed.ascend_from, proofs.Listed.ascend_upto}
 use Rattle.hlc_columns.specs.Answers.{AreAbove, AreNext, in_part, is_upto, part_end, last_key}
-use Rattle.hlc_columns.proofs.Keys.{rows_keyed, keys_keyed}
+use Rattle.hlc_columns.proofs.{Keys.rows_keyed, Keys.keys_keyed, KeptOf.all_left, KeptOf.all_right}
 use Rattle.hlc_columns.proofs.WalkLemmas.{Entry, one_of, rows_both, rows_filtered, filter_all, filter_none}
-use Rattle.hlc_columns.proofs.Listed.{ascend_from, ascend_upto}
-use Rattle.hlc_columns.proofs.KeptOf.{all_left, all_right}
 
 -- the rows of columns whose keys all are of a kind, or none of them
 pub pass_all : (is_of : List ℕ → Bool) (es : List Entry) → All (λ e. is_of e.0 ≡ true) es

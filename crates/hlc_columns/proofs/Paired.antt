@@ -1,14 +1,11 @@
 -- The keys of columns in turn that have something, each with it: they ascend as those of the columns do.
 use Rattle.std.proofs.Common.{◌≡◌, ◌++◌, ◌∷◌, ℕ, List, [], Option, Some, None, sym, ap, subst, inl, inr, Contains, map}
 use Rattle.std.proofs.Common.{Less}
-use Rattle.std.specs.List.{AllByRecursion}
-use Rattle.std.specs.List.Sorted.{IsStrictlySortedBy}
+use Rattle.std.specs.List.{AllByRecursion, Sorted.IsStrictlySortedBy}
 use Rattle.std.proofs.lemmas.List.Elements.{Contains-append_cases, Contains-append_left, Contains-append_right}
 use Rattle.hlc_values.proofs.MemberLemmas.{Contains-none, Contains-first, Contains-rest, Contains-cons_cases}
 use Rattle.hlc_table_index.specs.Entries.{key_cmp}
-use Rattle.hlc_columns.specs.Answers.{pair_of, pairs_in}
-use Rattle.hlc_columns.proofs.Keys.{names}
-use Rattle.hlc_columns.proofs.WalkLemmas.{Entry}
+use Rattle.hlc_columns.{specs.Answers.pair_of, specs.Answers.pairs_in, proofs.Keys.names, proofs.WalkLemmas.Entry}
 
 module _ {V : Type 0} (has : Entry → Option V) where
   abbrev Pair : Type 0

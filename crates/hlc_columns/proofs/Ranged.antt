@@ -3,11 +3,8 @@
 use Rattle.std.proofs.Common.{◌≡◌, ◌≢◌, ◌++◌, ◌∷◌, ◌∙◌, ◌&&◌, ℕ, List, [], Bool, true, false, cond, not, append-nil}
 use Rattle.std.proofs.Common.{append_assoc, take_all, zero, suc, length, take, get_or, arith, ◌≤◌, Option, Some, None}
 use Rattle.std.proofs.Common.{refl, sym, ap, ap₂, subst, inl, inr, Contains, filter, All, reverse, true≢false, Less}
-use Rattle.std.proofs.Common.{Equal, Greater, Ordering}
-use Rattle.std.specs.Cmp.Lexicographic.{nat_list_cmp_total}
-use Rattle.std.specs.Ordering.{is_lt}
-use Rattle.std.specs.List.{AllByRecursion}
-use Rattle.std.specs.List.Sorted.{IsStrictlySortedBy}
+use Rattle.std.proofs.Common.{Equal, Greater, Ordering, is_lt}
+use Rattle.std.specs.{Cmp.Lexicographic.nat_list_cmp_total, List.AllByRecursion, List.Sorted.IsStrictlySortedBy}
 use Rattle.std.proofs.lemmas.Bool.{cond_both, cases_Bool, and_parts, and_right, false_from_ne_true}
 use Rattle.std.proofs.lemmas.List.{get_or_past, reverse-append, reverse-reverse}
 use Rattle.std.proofs.lemmas.List.Elements.{filter-append, All-cons, Contains-get_or}
@@ -15,9 +12,8 @@ use Rattle.std.proofs.lemmas.Map.Keys.{sorted_head, sorted_tail}
 use Rattle.hlc_values.proofs.MemberLemmas.{Contains-none, Contains-cons_cases, Contains-filter, Contains-from_filter}
 use Rattle.hlc_table_index.specs.Entries.{key_cmp, entries_in, entries_before}
 use Rattle.hlc_columns.specs.Answers.{is_below, is_from, is_between, IsBetween, leading}
-use Rattle.hlc_columns.proofs.Keys.{names}
+use Rattle.hlc_columns.proofs.{Keys.names, Listed.ascend_from, Listed.ascend_upto}
 use Rattle.hlc_columns.proofs.WalkLemmas.{Entry, filter_all, filter_none}
-use Rattle.hlc_columns.proofs.Listed.{ascend_from, ascend_upto}
 
 -- the columns whose keys are in a range
 abbrev pub within : List ℕ → Option (List ℕ) → List Entry → List Entry

@@ -2,18 +2,14 @@
 -- that one.
 use Rattle.std.proofs.Common.{get_or, ◌≡◌, ◌≢◌, ◌<◌, ◌∙◌, ℕ, zero, suc, true, false, List, [], ◌∷◌, ◌++◌, append-nil}
 use Rattle.std.proofs.Common.{take_at, refl, sym, ap, subst, inl, inr, arith, length, length-append, append_assoc}
-use Rattle.std.proofs.Common.{replicate, true≢false, Contains, take, ◌-◌}
-use Rattle.std.proofs.lemmas.List.{map-append}
-use Rattle.std.specs.Str.{bytes_eq}
-use Rattle.std.specs.List.Sorted.{IsPermutation}
+use Rattle.std.proofs.Common.{replicate, true≢false, Contains, take, ◌-◌, bytes_eq, IsPermutation}
+use Rattle.std.proofs.lemmas.{List.map-append, Slice.Eq.bytes_eq-Decides}
 use Rattle.std.proofs.lemmas.Bool.{cases_Bool, false_from_ne_true, or_parts}
-use Rattle.std.proofs.lemmas.Slice.Eq.{bytes_eq-Decides}
 use Rattle.std.proofs.lemmas.List.Elements.{Contains-get_or, filter-append, Contains-append_cases, Contains-append_left}
 use Rattle.std.proofs.lemmas.List.Elements.{Contains-append_right}
 use Rattle.std.proofs.lemmas.List.Sorted.{IsPermutation-append_left, IsPermutation-refl, IsPermutation-trans}
 use Rattle.hlc_values.proofs.MemberLemmas.{Contains-none, Contains-first, Contains-rest, Contains-cons_cases}
-use Rattle.hlc_rows.specs.declared.row.Row.{Row}
-use Rattle.hlc_rows.specs.declared.write.Write.{Write}
+use Rattle.hlc_rows.specs.declared.{row.Row.Row, write.Write.Write}
 use Rattle.hlc_rows.specs.Writes.{row_written, rows_written, writes_key, writes_twice}
 use Rattle.hlc_table_column.specs.Rows.{rows_with}
 use Rattle.hlc_columns.specs.Table.{rows_kept, HasNoVersion, InsertedLast, AllInserted}

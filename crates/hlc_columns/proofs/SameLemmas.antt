@@ -1,8 +1,7 @@
 -- Two answers are the same, or not.
 use Rattle.std.proofs.Common.{◌≡◌, ◌≢◌, ◌∙◌, ℕ, List, true, false, Option, Some, None, refl, sym, ap, inl, inr}
 use Rattle.std.proofs.Common.{true≢false, ◌⊎◌}
-use Rattle.std.proofs.lemmas.Bool.{cases_Bool, false_from_ne_true}
-use Rattle.std.proofs.lemmas.Slice.Eq.{bytes_eq-Decides}
+use Rattle.std.proofs.lemmas.{Bool.cases_Bool, Bool.false_from_ne_true, Slice.Eq.bytes_eq-Decides}
 use Rattle.hlc_columns.specs.Differences.{is_same}
 
 same_is : (a b : Option (List ℕ)) → is_same a b ≡ true → a ≡ b

@@ -2,25 +2,18 @@
 use Rattle.std.proofs.Common.{ap₂, ◌≡◌, ℕ, suc, ◌+◌, ◌<◌, ◌≤◌, Bool, true, false, List, [], ◌∷◌, sum_by, length-append}
 use Rattle.std.proofs.Common.{◌++◌, Some, None, refl, sym, ap, ◌∙◌, inl, inr, arith, length, subst, true≢false, Less}
 use Rattle.std.proofs.Common.{Equal, Greater, nat_cmp, Contains}
-use Rattle.std.specs.Ordering.{is_eq, match_ordering}
-use Rattle.std.specs.Cmp.Lexicographic.{slice_cmp}
-use Rattle.std.specs.Map.{lookup, set_value}
-use Rattle.std.specs.BTreeMap.{insert_entry}
-use Rattle.std.proofs.lemmas.Bool.{cases_Bool, cond_both}
-use Rattle.std.proofs.lemmas.Option.{none-some, same_Some}
-use Rattle.std.proofs.lemmas.List.{length-map}
-use Rattle.std.proofs.lemmas.List.Sums.{sum_by-cons, sum_by-append, sum_by_push}
+use Rattle.std.specs.{Ordering.is_eq, Ordering.match_ordering, Cmp.Lexicographic.slice_cmp}
+use Rattle.std.specs.{Map.lookup, Map.set_value, BTreeMap.insert_entry}
+use Rattle.std.proofs.lemmas.{Bool.cases_Bool, Bool.cond_both, Option.none-some, Option.same_Some}
+use Rattle.std.proofs.lemmas.List.{length-map, Sums.sum_by-cons, Sums.sum_by-append, Sums.sum_by_push}
 use Rattle.hlc_rows.specs.declared.row.Row.{Row}
 use Rattle.hlc_table_index.specs.Entries.{keys_in}
-use Rattle.hlc_table_column.specs.Cells.{Cell, value_bytes, cell_bytes}
-use Rattle.hlc_table_column.specs.Rows.{row_of, rows_of}
+use Rattle.hlc_table_column.specs.{Cells.Cell, Cells.value_bytes, Cells.cell_bytes, Rows.row_of, Rows.rows_of}
 use Rattle.hlc_columns.specs.Table.{table_rows}
 use Rattle.hlc_columns.specs.Sizes.{IsPart, sizes_of, with_row, with_key, Fit, row_bytes, AreSizes, Sizes}
-use Rattle.hlc_columns.proofs.WalkLemmas.{Entry}
+use Rattle.hlc_columns.proofs.{WalkLemmas.Entry, Keys.name_of_row, Keys.row_of_name}
 use Rattle.hlc_columns.proofs.FoundLemmas.{test, same_key, none_here}
-use Rattle.hlc_columns.proofs.Keys.{name_of_row, row_of_name}
-use Rattle.std.specs.List.{AllByRecursion, items_where_true}
-use Rattle.std.specs.List.Sorted.{IsStrictlySortedBy}
+use Rattle.std.specs.List.{AllByRecursion, items_where_true, Sorted.IsStrictlySortedBy}
 
 -- sizes with the same numbers
 pub equal : (a b : Sizes) → a.rows ≡ b.rows → a.keys ≡ b.keys → a.key_bytes ≡ b.key_bytes

@@ -1,15 +1,11 @@
 -- Walks over leaves and their entries: what is listed or counted of one more.
 use Rattle.std.proofs.Common.{true, false, suc, inl, inr, All, ap₂, ◌≡◌, ◌≤◌, ◌+◌, ◌++◌, ◌∷◌, ◌∙◌, ℕ, List, [], Bool}
 use Rattle.std.proofs.Common.{length, arith, append_assoc, length-append, ap, sym, refl, map, filter, leb, Bor}
-use Rattle.std.proofs.lemmas.List.{map_push}
-use Rattle.std.proofs.lemmas.List.Sums.{length-filter, count_by-le-length}
-use Rattle.std.proofs.lemmas.List.Concat.{flat_map-append}
-use Rattle.std.proofs.lemmas.List.Elements.{filter-append, All-map}
-use Rattle.std.proofs.lemmas.Bool.{cases_Bool}
+use Rattle.std.proofs.lemmas.List.{map_push, Concat.flat_map-append, Elements.filter-append, Elements.All-map}
+use Rattle.std.proofs.lemmas.{List.Sums.length-filter, List.Sums.count_by-le-length, Bool.cases_Bool}
 use Rattle.hlc_rows.specs.declared.row.Row.{Row}
 use Rattle.hlc_table_index.specs.Entries.{entries_in, entries_from, keys_in}
-use Rattle.hlc_table_column.specs.Cells.{Cell}
-use Rattle.hlc_table_column.specs.Rows.{KeyCells, row_of, rows_of}
+use Rattle.hlc_table_column.specs.{Cells.Cell, Rows.KeyCells, Rows.row_of, Rows.rows_of}
 use Rattle.hlc_columns.specs.Table.{table_rows}
 
 abbrev pub Entry : Type 0

@@ -2,18 +2,13 @@
 use Rattle.std.specs.Prelude.{◌≡◌, ◌≢◌, ◌↔◌, ℕ, List, [], ◌∷◌, ◌++◌, Bool, true, false, Option, Some, None, map, drop}
 use Rattle.std.specs.Prelude.{All, length, filter, not, nat_lt, ◌&&◌, ◌<◌, ◌≤◌, Contains, IsTrue, if◌then◌else◌, take}
 use Rattle.std.specs.Prelude.{reverse, option_copied}
-use Rattle.std.specs.List.Sorted.{IsStrictlySortedBy}
-use Rattle.std.specs.Cmp.Lexicographic.{slice_cmp}
-use Rattle.std.specs.Str.{bytes_eq}
+use Rattle.std.specs.{List.Sorted.IsStrictlySortedBy, Cmp.Lexicographic.slice_cmp, Str.bytes_eq}
 use Rattle.std.specs.Ordering.{nat_cmp, is_lt, is_gt}
 use Rattle.std.specs.declared.cmp.Ordering.TheVariants.{Less, Greater}
 use Rattle.hlc_table_index.specs.Entries.{entries_in}
-use Rattle.hlc_rows.specs.declared.row.Row.{Row}
-use Rattle.hlc_rows.specs.Rows.{answer}
-use Rattle.hlc_table_column.specs.Cells.{Cell}
-use Rattle.hlc_table_column.specs.Rows.{rows_of, rows_in, KeyCells, KeysAscend}
-use Rattle.hlc_columns.specs.declared.answers.Walk.{Walk}
-use Rattle.hlc_columns.specs.declared.answers.WalkBack.{WalkBack}
+use Rattle.hlc_rows.specs.{declared.row.Row.Row, Rows.answer}
+use Rattle.hlc_table_column.specs.{Cells.Cell, Rows.rows_of, Rows.rows_in, Rows.KeyCells, Rows.KeysAscend}
+use Rattle.hlc_columns.specs.declared.answers.{Walk.Walk, WalkBack.WalkBack}
 
 -- a key is below the end of a range, if it has one
 abbrev pub is_below : Option (List ℕ) → List ℕ → Bool

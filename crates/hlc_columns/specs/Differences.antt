@@ -1,15 +1,9 @@
 -- The differences between the answers at two bounds.
 use Rattle.std.specs.Prelude.{◌≡◌, ◌≢◌, ◌↔◌, ℕ, List, Bool, true, false, Option, Some, None, map, Contains}
-use Rattle.std.specs.Prelude.{if◌then◌else◌, option_copied}
-use Rattle.std.specs.Borrow.{Bor}
-use Rattle.std.specs.List.Sorted.{IsStrictlySortedBy}
-use Rattle.std.specs.Cmp.Lexicographic.{slice_cmp}
-use Rattle.std.specs.Ordering.{nat_cmp}
-use Rattle.std.specs.Str.{bytes_eq}
-use Rattle.hlc_rows.specs.declared.row.Row.{Row}
-use Rattle.hlc_rows.specs.Rows.{answer}
-use Rattle.hlc_table_column.specs.Cells.{Cell}
-use Rattle.hlc_table_column.specs.Rows.{rows_of}
+use Rattle.std.specs.Prelude.{if◌then◌else◌, option_copied, bytes_eq}
+use Rattle.std.specs.{Borrow.Bor, Ordering.nat_cmp, Cmp.Lexicographic.slice_cmp, List.Sorted.IsStrictlySortedBy}
+use Rattle.hlc_rows.specs.{declared.row.Row.Row, Rows.answer}
+use Rattle.hlc_table_column.specs.{Cells.Cell, Rows.rows_of}
 use Rattle.hlc_columns.specs.Answers.{pairs_in}
 
 -- a key with its value at the second bound, or none if it has none there

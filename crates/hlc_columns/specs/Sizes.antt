@@ -1,8 +1,6 @@
 -- The sizes of a table.
 use Rattle.std.specs.Prelude.{◌≡◌, ◌↔◌, ℕ, List, length, sum_by, filter, nat_lt, Contains}
-use Rattle.std.specs.List.Sorted.{IsStrictlySortedBy}
-use Rattle.std.specs.Ordering.{nat_cmp}
-use Rattle.std.specs.Cmp.Lexicographic.{slice_cmp}
+use Rattle.std.specs.{List.Sorted.IsStrictlySortedBy, Ordering.nat_cmp, Cmp.Lexicographic.slice_cmp}
 use Rattle.hlc_table_index.specs.Entries.{entries_in}
 use Rattle.hlc_rows.specs.declared.row.Row.{Row}
 use Rattle.hlc_table_column.specs.Cells.{Cell, value_bytes, cell_bytes}

@@ -3,8 +3,7 @@ ghost use Rattle.std.specs.Prelude.{◌≡◌, IfOk, take, ℕ, List};
 ghost use Rattle.std.specs.List.Sorted.{IsStrictlySortedBy};
 ghost use Rattle.hlc_table_index.specs.Entries.{entries_in, keys_in, key_cmp};
 ghost use Rattle.hlc_table_column.specs.Cells.{Cell};
-ghost use Rattle.hlc_columns.specs.Table.{keyed};
-ghost use Rattle.hlc_columns.specs.Answers.{entries_left, AreAbove};
+ghost use Rattle.hlc_columns.specs.{Table.keyed, Answers.entries_left, Answers.AreAbove};
 
 use crate::answers::Walk;
 use crate::keyed::Keyed;

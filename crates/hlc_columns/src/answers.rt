@@ -1,9 +1,8 @@
 //! The answers of many keys at one bound, one after another, without a list of them.
 ghost use Rattle.std.specs.Prelude.{◌≡◌, ◌≤◌, ◌∷◌, [], MatchOption, option_copied, length, slice_index_or, filter};
 ghost use Rattle.std.specs.Prelude.{reverse};
-ghost use Rattle.std.specs.List.Sorted.{IsStrictlySortedBy};
+ghost use Rattle.std.specs.{List.Sorted.IsStrictlySortedBy, Map.Iter.deref_pair};
 ghost use Rattle.std.specs.Iterator.{YieldsFirstBy, item_count};
-ghost use Rattle.std.specs.Map.Iter.{deref_pair};
 ghost use Rattle.hlc_table_index.specs.Entries.{entries_in, entries_from, keys_in, key_cmp};
 ghost use Rattle.hlc_columns.specs.Table.{indexed_rows};
 ghost use Rattle.hlc_columns.specs.Answers.{AreAnswers, AreAnswersBack, IsBetween, answers_in, is_below, is_between};

@@ -3,8 +3,7 @@ ghost use Rattle.std.specs.Prelude.{◌≡◌, ◌≢◌, ℕ, List, MatchOption
 ghost use Rattle.std.specs.Iterator.{YieldsFirstBy, item_count};
 ghost use Rattle.hlc_rows.specs.Rows.{answer};
 ghost use Rattle.hlc_table_column.specs.Rows.{rows_of};
-ghost use Rattle.hlc_columns.specs.Table.{indexed_rows};
-ghost use Rattle.hlc_columns.specs.Answers.{entries_left, IsBetween};
+ghost use Rattle.hlc_columns.specs.{Table.indexed_rows, Answers.entries_left, Answers.IsBetween};
 ghost use Rattle.hlc_columns.specs.Differences.{AreDifferences, differences_in, difference_read, is_same};
 
 use crate::answers::Walk;

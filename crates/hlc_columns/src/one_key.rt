@@ -2,8 +2,7 @@
 ghost use Rattle.std.specs.Prelude.{◌≡◌, ◌+◌, ◌<◌, ◌++◌, [], length, slice_index_or};
 ghost use Rattle.std.specs.List.{items_where_true};
 ghost use Rattle.hlc_table_index.specs.Entries.{entries_in, entries_before, entries_from};
-ghost use Rattle.hlc_columns.specs.Sizes.{sizes_of, Fit};
-ghost use Rattle.hlc_columns.specs.Table.{cells_at, key_at, if_filled};
+ghost use Rattle.hlc_columns.specs.{Sizes.sizes_of, Sizes.Fit, Table.cells_at, Table.key_at, Table.if_filled};
 
 use crate::dropping::keep_cells;
 use crate::sizes::sizes_at;

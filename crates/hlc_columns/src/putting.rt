@@ -2,8 +2,7 @@
 ghost use Rattle.std.specs.Prelude.{◌≡◌, ◌<◌, [], ℕ, List, None, length, slice_index_or, OnOk, OnErr, IfOk, IfErr};
 ghost use Rattle.std.specs.Map.{lookup};
 ghost use Rattle.hlc_table_index.specs.Entries.{is_key, entries_in, IsEntryAt, IsGap};
-ghost use Rattle.hlc_columns.specs.Parts.{new_row};
-ghost use Rattle.hlc_columns.specs.Table.{indexed_rows, AreFilled, InsertedLast};
+ghost use Rattle.hlc_columns.specs.{Parts.new_row, Table.indexed_rows, Table.AreFilled, Table.InsertedLast};
 ghost use Rattle.hlc_table_column.specs.Cells.{value_bytes};
 ghost use Rattle.hlc_columns.specs.Sizes.{sizes_of, with_row, with_key, Fit};
 

@@ -1,7 +1,6 @@
 //! The sizes of a column.
 ghost use Rattle.std.specs.Prelude.{◌≡◌, ◌<◌, ◌∷◌, [], length, slice_index_or};
-ghost use Rattle.hlc_columns.specs.Sizes.{sizes_of};
-ghost use Rattle.hlc_columns.specs.Table.{key_at, cells_at};
+ghost use Rattle.hlc_columns.specs.{Sizes.sizes_of, Table.key_at, Table.cells_at};
 
 use hlc_table_column::{Lanes, Rows};
 use hlc_table_index::Index;

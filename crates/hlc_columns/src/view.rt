@@ -1,8 +1,7 @@
 //! A table as readers at one stamp see it.
 ghost use Rattle.std.specs.Prelude.{◌≡◌, option_copied};
 ghost use Rattle.hlc_rows.specs.Rows.{answer};
-ghost use Rattle.hlc_columns.specs.Answers.{AreAnswers, AreAnswersBack, IsBetween};
-ghost use Rattle.hlc_columns.specs.Sizes.{AreSizes};
+ghost use Rattle.hlc_columns.specs.{Answers.AreAnswers, Answers.AreAnswersBack, Answers.IsBetween, Sizes.AreSizes};
 
 use crate::answers::{Answers, AnswersBack};
 use crate::table::Table;

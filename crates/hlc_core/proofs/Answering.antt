@@ -1,19 +1,12 @@
 -- The stored rows answer at an open snapshot as all accepted writes do.
-use Rattle.std.proofs.Common.{◌≡◌, ℕ, List}
-use Rattle.std.proofs.Common.{Some, ap, sym, ◌∙◌}
-use Rattle.std.specs.Prelude.{Contains}
+use Rattle.std.proofs.Common.{◌≡◌, ℕ, List, Some, ap, sym, ◌∙◌, Contains}
 use Rattle.std.proofs.lemmas.List.Elements.{All-weaker, All-contains_itself}
 use Rattle.hlc_values.proofs.MemberLemmas.{Contains-map}
-use Rattle.hlc_rows.specs.declared.row.Row.{Row}
-use Rattle.hlc_rows.specs.Rows.{answer}
-use Rattle.hlc_core.specs.Past.{Step}
-use Rattle.hlc_core.specs.Past.{writes, open_snapshots}
-use Rattle.hlc_core.specs.StoreView.{StoreView, Represents}
-use Rattle.hlc_snapshot.specs.declared.snapshot.Snapshot.{Snapshot}
+use Rattle.hlc_rows.specs.{declared.row.Row.Row, Rows.answer}
+use Rattle.hlc_core.specs.{Past.Step, Past.writes, Past.open_snapshots, StoreView.StoreView, StoreView.Represents}
+use Rattle.hlc_snapshot.specs.{declared.snapshot.Snapshot.Snapshot, RegistryView.stamps, RegistryView.stamp_in}
 use Rattle.hlc_snapshot.proofs.RegisterLemmas.{stamp_in-all}
-use Rattle.hlc_core.specs.declared.listing.Pair.{Pair}
-use Rattle.hlc_snapshot.specs.RegistryView.{stamps, stamp_in}
-use Rattle.hlc_core.specs.Listing.{IsListing}
+use Rattle.hlc_core.specs.{declared.listing.Pair.Pair, Listing.IsListing}
 use Rattle.hlc_core.specs.Differences.{Difference, AreDifferences, Compares}
 use Rattle.hlc_core.proofs.DifferenceLemmas.{differences-alike}
 

@@ -1,17 +1,12 @@
 -- The rows of a batch: all have its node and its stamp. If the batch is not refused, they are a row set, since its
 -- writes are of different keys, and each of them is in the limits.
-use Rattle.std.proofs.Common.{◌≡◌, ℕ, List, [], ◌∷◌, ◌++◌, true, false, None, ap, sym, ◌∙◌, inl, inr}
-use Rattle.std.specs.Prelude.{Contains}
-use Rattle.std.proofs.lemmas.Bool.{both_ways, or_left, or_right, or_parts}
+use Rattle.std.proofs.Common.{◌≡◌, ℕ, List, [], ◌∷◌, ◌++◌, true, false, None, ap, sym, ◌∙◌, inl, inr, Contains}
+use Rattle.std.proofs.lemmas.{Bool.both_ways, Bool.or_left, Bool.or_right, Bool.or_parts, Slice.Eq.bytes_eq-Decides}
 use Rattle.std.proofs.lemmas.List.Elements.{Contains-append_cases, Contains-append_left, All-nil, All-cons}
-use Rattle.std.proofs.lemmas.Slice.Eq.{bytes_eq-Decides}
 use Rattle.hlc_values.proofs.MemberLemmas.{Contains-none, Contains-first, Contains-rest, Contains-cons_cases}
-use Rattle.hlc_rows.specs.declared.row.Row.{Row}
-use Rattle.hlc_rows.specs.declared.write.Write.{Write}
-use Rattle.hlc_rows.specs.Limits.{write_refusal}
-use Rattle.hlc_rows.specs.Rows.{IsSameVersion, IsRowSet}
-use Rattle.hlc_rows.specs.Writes.{writes_key, writes_twice, writes_refusal, row_written}
-use Rattle.hlc_rows.specs.Writes.{rows_written}
+use Rattle.hlc_rows.specs.declared.{row.Row.Row, write.Write.Write}
+use Rattle.hlc_rows.specs.{Limits.write_refusal, Rows.IsSameVersion, Rows.IsRowSet}
+use Rattle.hlc_rows.specs.Writes.{writes_key, writes_twice, writes_refusal, row_written, rows_written}
 use Rattle.hlc_rows.proofs.WritesLemmas.{first-none}
 use Rattle.hlc_witness.specs.Cost.{IsInLimits, AreInLimits}
 

@@ -1,10 +1,8 @@
 -- The links of a state that a past begins with, and what a checkpoint says of them.
-use Rattle.std.proofs.Common.{◌≡◌, ℕ, zero, suc, ◌<◌, ◌≤◌, List, [], ◌∷◌, length, max, get_or, true, false}
-use Rattle.std.proofs.Common.{refl, ap, sym, ◌∙◌, subst, inl, inr, arith, cond}
-use Rattle.std.specs.Prelude.{Contains, nat_lt}
-use Rattle.std.proofs.lemmas.Bool.{lt-ltb, cases_lt}
-use Rattle.std.proofs.lemmas.List.{get_or_default, get_or_past}
-use Rattle.std.proofs.lemmas.List.Elements.{All-contains, Contains-append_cases}
+use Rattle.std.proofs.Common.{◌≡◌, ℕ, zero, suc, ◌<◌, ◌≤◌, List, [], ◌∷◌, length, max, get_or, true, false, refl, ap}
+use Rattle.std.proofs.Common.{sym, ◌∙◌, subst, inl, inr, arith, cond}
+use Rattle.std.{specs.Prelude.Contains, specs.Prelude.nat_lt, proofs.lemmas.Bool.lt-ltb, proofs.lemmas.Bool.cases_lt}
+use Rattle.std.proofs.lemmas.List.{get_or_default, get_or_past, Elements.All-contains, Elements.Contains-append_cases}
 use Rattle.hlc_values.proofs.MemberLemmas.{Contains-none}
 use Rattle.hlc_rows.specs.declared.row.Row.{Row}
 use Rattle.hlc_intake.specs.IntakeView.{IntakeView}
@@ -12,8 +10,7 @@ use Rattle.hlc_heads.specs.Heads.{a_link, no_link, link_at}
 use Rattle.hlc_heads.proofs.LowLemmas.{low-same}
 use Rattle.hlc_checkpoint.specs.StoreView.{StoreView, greatest_head, IsUnderHead}
 use Rattle.hlc_checkpoint.specs.Checkpoint.{IsCheckpoint, floor_in}
-use Rattle.hlc_core.specs.Past.{Step, Began, head, retired, floor, writes, link_in}
-use Rattle.hlc_core.specs.Past.{greatest_issued}
+use Rattle.hlc_core.specs.Past.{Step, Began, head, retired, floor, writes, link_in, greatest_issued}
 
 -- the link of a node that the state does not have
 pub link_in-out : (kept : StoreView) (n : ℕ) → length kept.links ≤ n → link_in kept n ≡ a_link 0 0 false

@@ -1,31 +1,23 @@
 -- The certificate of the stored rows at or below a stamp: a plan that drops no row is a vacuum which leaves them, and
 -- one that drops a row leaves fewer that answer alike. Just after a vacuum they are the fewest.
 use Rattle.std.proofs.Common.{◌≡◌, ℕ, ◌+◌, ◌<◌, ◌≤◌, List, ◌∷◌, length, leb, None, refl, ap, sym, ◌∙◌, subst, arith}
-use Rattle.std.specs.Prelude.{count_by, not}
-use Rattle.std.specs.List.{items_where_true}
+use Rattle.std.specs.{Prelude.count_by, Prelude.not, List.items_where_true}
 use Rattle.hlc_rows.specs.declared.row.Row.{Row}
 use Rattle.hlc_snapshot.specs.RegistryView.{stamps_to}
 use Rattle.hlc_clock.specs.Points.{ArePoints, last_point}
 use Rattle.hlc_clock.proofs.PointLemmas.{ArePoints-unique, points-last}
 use Rattle.hlc_table_column.proofs.FlagLemmas.{filter-IsRowSet}
-use Rattle.hlc_witness.specs.declared.witness.Witness.{Witness}
-use Rattle.hlc_witness.specs.Cost.{changes_cost, rows_cost}
-use Rattle.hlc_witness.specs.Fewest.{Alike}
-use Rattle.hlc_vacuum_draft.specs.Plan.{PlanView}
-use Rattle.hlc_vacuum_draft.specs.Report.{report_of}
+use Rattle.hlc_witness.specs.{declared.witness.Witness.Witness, Fewest.Alike, Cost.changes_cost, Cost.rows_cost}
+use Rattle.hlc_vacuum_draft.specs.{Plan.PlanView, Report.report_of, declared.report.Report.Report}
 use Rattle.hlc_vacuum_draft.specs.Vacuumed.{IsVacuumOf, rows_to}
-use Rattle.hlc_vacuum_draft.specs.declared.report.Report.{Report}
 use Rattle.hlc_vacuum_draft.proofs.ChosenLemmas.{all_chosen, length_chosen}
 use Rattle.hlc_vacuum.specs.Representing.{RepresentsAfterVacuum, count_above}
 use Rattle.hlc_vacuum.proofs.CountLemmas.{split_count, same_above}
 use Rattle.hlc_vacuum.proofs.RepresentingLemmas.{representing_rows_are_fewest}
 use Rattle.hlc_core.specs.Past.{Step, Vacuumed, horizon, open_snapshots, writes, vacuum_refusal}
-use Rattle.hlc_core.specs.Stored.{AreVacuumPoints, IsReport}
-use Rattle.hlc_core.specs.StoreView.{StoreView, Represents}
-use Rattle.hlc_core.specs.PlanAt.{IsPlanAt}
-use Rattle.hlc_core.specs.Certified.{IsCertified, AreNotFewest}
-use Rattle.hlc_core.proofs.PastLemmas.{vacuum-above}
-use Rattle.hlc_core.proofs.ReportLemmas.{one-changes, a_report}
+use Rattle.hlc_core.specs.{Stored.AreVacuumPoints, Stored.IsReport, PlanAt.IsPlanAt}
+use Rattle.hlc_core.specs.{StoreView.StoreView, StoreView.Represents, Certified.IsCertified, Certified.AreNotFewest}
+use Rattle.hlc_core.proofs.{PastLemmas.vacuum-above, ReportLemmas.one-changes, ReportLemmas.a_report}
 use Rattle.hlc_core.proofs.VacuumLemmas.{vacuums, represents-vacuumed, fewer-open, low-open}
 
 -- the points of the plan are those of a vacuum after the past

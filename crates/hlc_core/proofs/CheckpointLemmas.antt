@@ -1,39 +1,32 @@
 -- A state that represents a past has its floor, and with its rows in order is a checkpoint.
-use Rattle.std.proofs.Common.{◌≡◌, ℕ, ◌+◌, ◌<◌, ◌≤◌, List, [], ◌∷◌, ◌++◌, length, max, get_or}
-use Rattle.std.proofs.Common.{true, false, Some, None, Option, refl, ap, sym, ◌∙◌, subst, inl, inr, arith, cond}
+use Rattle.std.proofs.Common.{◌≡◌, ℕ, ◌+◌, ◌<◌, ◌≤◌, List, [], ◌∷◌, ◌++◌, length, max, get_or, true, false, Some, None}
+use Rattle.std.proofs.Common.{Option, refl, ap, sym, ◌∙◌, subst, inl, inr, arith, cond}
 use Rattle.std.specs.Prelude.{All, Contains, nat_le}
-use Rattle.std.proofs.lemmas.Option.{get_or_from_slice_get}
-use Rattle.std.proofs.lemmas.Bool.{cases_lt}
-use Rattle.std.proofs.lemmas.Bool.Decides.{nat_tests}
-use Rattle.std.proofs.lemmas.List.{length-append}
+use Rattle.std.proofs.lemmas.{Option.get_or_from_slice_get, Bool.cases_lt, Bool.Decides.nat_tests}
+use Rattle.std.proofs.lemmas.List.{length-append, Quantifiers.all_pairs_push}
 use Rattle.std.proofs.lemmas.List.Elements.{All-nil, All-weaker, All-push, All-contains, All-contains_itself}
-use Rattle.std.proofs.lemmas.List.Quantifiers.{all_pairs_push}
 use Rattle.hlc_intake.specs.IntakeView.{IntakeView}
 use Rattle.hlc_node.specs.Items.{retires}
-use Rattle.hlc_heads.specs.Heads.{no_link, link_at}
+use Rattle.hlc_heads.specs.{Heads.no_link, Heads.link_at, declared.heads.JoinFault.TheVariants.TooManyNodes}
 use Rattle.hlc_heads.specs.declared.heads.TheConstants.{MAX_INITIAL_NODES, MAX_NODES}
 use Rattle.hlc_heads.proofs.LowLemmas.{low-same}
-use Rattle.hlc_snapshot.specs.declared.snapshot.Snapshot.{Snapshot}
+use Rattle.hlc_snapshot.specs.declared.{snapshot.Snapshot.Snapshot, fault.SnapshotFault.SnapshotFault}
 use Rattle.hlc_snapshot.specs.declared.registry.TheConstants.{MAX_OPEN_SNAPSHOTS}
-use Rattle.hlc_snapshot.specs.declared.fault.SnapshotFault.{SnapshotFault}
 use Rattle.hlc_snapshot.specs.RegistryView.{RegistryView, IsRegister, opened_at, room_refusal as room_in}
 use Rattle.hlc_snapshot.proofs.RegisterLemmas.{closed-is_register}
-use Rattle.hlc_witness.specs.Certificate.{RowsAscend}
-use Rattle.hlc_witness.specs.Cost.{IsInLimits}
-use Rattle.hlc_core.specs.Past.{Step, Started, Began, Took, Opened, Closed, Joined}
-use Rattle.hlc_core.specs.Past.{numbered, count, head, retired, top, floor, horizon, last_id, open_snapshots, of_room}
-use Rattle.hlc_core.specs.Past.{initial_nodes, IsLegal, writes, greatest_accepted}
+use Rattle.hlc_witness.specs.{Certificate.RowsAscend, Cost.IsInLimits}
+use Rattle.hlc_core.specs.Past.{Step, Started, Began, Took, Opened, Closed, Joined, numbered, count, head, retired, top}
+use Rattle.hlc_core.specs.Past.{floor, horizon, last_id, open_snapshots, of_room, initial_nodes, IsLegal, writes}
+use Rattle.hlc_core.specs.Past.{greatest_accepted}
 use Rattle.hlc_events.specs.declared.fault.CoreFault.TheVariants.{Join}
-use Rattle.hlc_heads.specs.declared.heads.JoinFault.TheVariants.{TooManyNodes}
 use Rattle.hlc_core.specs.StoreView.{StoreView, greatest_head, HasNodes, HasStamps, HasLastItem, IsUnderHead}
 use Rattle.hlc_core.specs.StoreView.{Represents}
 use Rattle.hlc_core.specs.Checkpoint.{IsCheckpoint, IsCopyOf, floor_in}
 use Rattle.hlc_core.proofs.PastLemmas.{inside, rises, head-same, head-other, head-joined, head-joined_other, floor-some}
-use Rattle.hlc_core.proofs.PastLemmas.{fresh, accepted-low, retired-head, by_equal, older, unless-none}
-use Rattle.hlc_core.proofs.PastLemmas.{inside-row, below_head, writes-limits, open-low, open-below, open-above}
-use Rattle.hlc_core.proofs.PastLemmas.{open-room, horizon-low, positive}
-use Rattle.hlc_core.proofs.Moved.{represents-moved}
-use Rattle.hlc_core.proofs.Sound.{greatest-le}
+use Rattle.hlc_core.proofs.PastLemmas.{fresh, accepted-low, retired-head, by_equal, older, unless-none, inside-row}
+use Rattle.hlc_core.proofs.PastLemmas.{below_head, writes-limits, open-low, open-below, open-above, open-room}
+use Rattle.hlc_core.proofs.PastLemmas.{horizon-low, positive}
+use Rattle.hlc_core.proofs.{Moved.represents-moved, Sound.greatest-le}
 use Rattle.hlc_core.proofs.BeganLemmas.{greatest-ge, began-head, began-top, began-count, began-last}
 
 -- the nodes at the start keep their numbers

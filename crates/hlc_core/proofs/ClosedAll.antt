@@ -1,18 +1,15 @@
 -- A core without its snapshots represents the past in which they were closed, one after the other.
 use Rattle.std.proofs.Common.{◌≡◌, ℕ, suc, ◌<◌, List, [], ◌∷◌, Some, refl, ap, sym, ◌∙◌, subst, arith}
-use Rattle.std.specs.Prelude.{All, not}
-use Rattle.std.specs.List.{AllPairs}
+use Rattle.std.specs.{Prelude.All, Prelude.not, List.AllPairs}
 use Rattle.std.proofs.lemmas.Bool.{cond-true, cond-false, eq-eqb, ne_eqb}
 use Rattle.std.proofs.lemmas.List.Elements.{All-nil, All-head, All-tail}
 use Rattle.hlc_rows.specs.declared.row.Row.{Row}
 use Rattle.hlc_heads.specs.Heads.{HeadsView}
-use Rattle.hlc_snapshot.specs.declared.snapshot.Snapshot.{Snapshot}
-use Rattle.hlc_snapshot.specs.RegistryView.{without, stamp_in}
+use Rattle.hlc_snapshot.specs.{declared.snapshot.Snapshot.Snapshot, RegistryView.without, RegistryView.stamp_in}
 use Rattle.hlc_snapshot.proofs.RegisterLemmas.{stamp_in-hit}
 use Rattle.hlc_core.specs.Past.{Step, Closed, closed_all}
 use Rattle.hlc_core.specs.StoreView.{StoreView, IsConsistent, Represents, without_snapshots}
-use Rattle.hlc_core.proofs.Opening.{closes, less_snapshot}
-use Rattle.hlc_core.proofs.CheckpointLemmas.{register-of}
+use Rattle.hlc_core.proofs.{Opening.closes, Opening.less_snapshot, CheckpointLemmas.register-of}
 
 -- none of these has the id
 without-none : (id : ℕ) (xs : List Snapshot) → All (λ snapshot. id < snapshot.id) xs → without id xs ≡ xs

@@ -1,27 +1,21 @@
 -- The invariant of a core, for any past that it represents: no open snapshot is above the floor, which never falls, the
 -- rows are a row set, and none is above the head of its node.
-use Rattle.std.proofs.Common.{◌≡◌, ℕ, ◌+◌, ◌<◌, ◌≤◌, List, [], ◌∷◌, ◌++◌, length, max, Bool, false, refl, ap}
-use Rattle.std.proofs.Common.{sym, ◌∙◌, subst, inl, inr, arith, length-set, length-append, get_or-set_other}
-use Rattle.std.proofs.lemmas.Grind.{get_or-set_at}
-use Rattle.std.proofs.lemmas.List.{get_or_append_left}
+use Rattle.std.proofs.Common.{◌≡◌, ℕ, ◌+◌, ◌<◌, ◌≤◌, List, [], ◌∷◌, ◌++◌, length, max, Bool, false, refl, ap, sym, ◌∙◌}
+use Rattle.std.proofs.Common.{subst, inl, inr, arith, length-set, length-append, get_or-set_other}
+use Rattle.std.proofs.lemmas.{Grind.get_or-set_at, Bool.cases_eq, List.get_or_append_left}
 use Rattle.std.proofs.Math.Seq.{get_or-append_seam}
 use Rattle.std.specs.Prelude.{All, Contains, Result, Ok, Err, Some, None, IfOk, OnErr, not, ◌==◌, slice_set}
-use Rattle.std.proofs.lemmas.Bool.{cases_eq}
-use Rattle.std.proofs.lemmas.List.Elements.{All-nil, All-push, All-weaker, All-filter, All-contains}
-use Rattle.std.proofs.lemmas.List.Elements.{All-append, All-contains_itself}
-use Rattle.hlc_rows.specs.declared.row.Row.{Row}
-use Rattle.hlc_node.specs.declared.item.Body.{Body}
-use Rattle.hlc_node.specs.Items.{body_refusal}
-use Rattle.hlc_rows.specs.Rows.{IsRowSet}
-use Rattle.hlc_snapshot.specs.declared.snapshot.Snapshot.{Snapshot}
-use Rattle.hlc_snapshot.specs.declared.fault.NoSnapshot.{NoSnapshot}
+use Rattle.std.proofs.lemmas.List.Elements.{All-nil, All-push, All-weaker, All-filter, All-contains, All-append}
+use Rattle.std.proofs.lemmas.List.Elements.{All-contains_itself}
+use Rattle.hlc_rows.specs.{declared.row.Row.Row, Rows.IsRowSet}
+use Rattle.hlc_node.specs.{declared.item.Body.Body, Items.body_refusal}
+use Rattle.hlc_snapshot.specs.declared.{snapshot.Snapshot.Snapshot, fault.NoSnapshot.NoSnapshot}
 use Rattle.hlc_snapshot.specs.RegistryView.{RegistryView, closed, stamp_in, without}
 use Rattle.hlc_heads.specs.Low.{low}
 use Rattle.hlc_heads.proofs.LowLemmas.{low-rises, low-joins}
 use Rattle.hlc_heads.specs.Heads.{HeadsView, a_link, no_link, link_at, advanced, joined, floor_of}
-use Rattle.hlc_core.specs.Past.{body_rows}
+use Rattle.hlc_core.specs.{Past.body_rows, StoreView.IsConsistent, StoreView.IsUnderHead}
 use Rattle.hlc_intake.specs.IntakeView.{IntakeView}
-use Rattle.hlc_core.specs.StoreView.{IsConsistent, IsUnderHead}
 use Rattle.hlc_core.proofs.PastLemmas.{body_rows-are, row_set-body}
 
 -- the head of a node, and whether it has retired

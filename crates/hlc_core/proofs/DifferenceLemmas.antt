@@ -1,26 +1,18 @@
 -- The differences between two stamps lead from one listing to the other, and no fewer changes do: a change sets the
 -- value of one key, so each key whose value differs needs one.
-use Rattle.std.proofs.Common.{◌≡◌, ◌≢◌, ◌↔◌, ◌⊎◌, ◌≤◌, ◌++◌, ◌∷◌, ◌∙◌, ℕ, List, [], false, cond, length}
-use Rattle.std.proofs.Common.{Option, Some, None, refl, sym, ap, subst, inl, inr, map, Contains, true≢false}
-use Rattle.std.proofs.Common.{Ordering, Less, Equal, Greater, nat_cmp, sum_by, arith}
-use Rattle.std.specs.Cmp.Lexicographic.{slice_cmp}
+use Rattle.std.proofs.Common.{◌≡◌, ◌≢◌, ◌↔◌, ◌⊎◌, ◌≤◌, ◌++◌, ◌∷◌, ◌∙◌, ℕ, List, [], false, cond, length, Option, Some}
+use Rattle.std.proofs.Common.{None, refl, sym, ap, subst, inl, inr, map, Contains, true≢false, Ordering, Less, Equal}
+use Rattle.std.proofs.Common.{Greater, nat_cmp, sum_by, arith}
+use Rattle.std.specs.{Cmp.Lexicographic.slice_cmp, Str.bytes_eq, List.AllByRecursion, List.Sorted.IsStrictlySortedBy}
 use Rattle.std.specs.Ordering.{match_ordering, ordering_reverse, is_eq}
-use Rattle.std.specs.Str.{bytes_eq}
-use Rattle.std.specs.List.{AllByRecursion}
-use Rattle.std.specs.List.Sorted.{IsStrictlySortedBy}
-use Rattle.std.proofs.lemmas.Bool.{cases_Bool}
-use Rattle.std.proofs.lemmas.Cmp.{nat_list_cmp_total, tied_itself}
-use Rattle.std.proofs.lemmas.Slice.Eq.{bytes_eq-Decides}
+use Rattle.std.proofs.lemmas.{Bool.cases_Bool, Slice.Eq.bytes_eq-Decides, Cmp.nat_list_cmp_total, Cmp.tied_itself}
 use Rattle.hlc_values.proofs.MemberLemmas.{Contains-none, Contains-first, Contains-rest, Contains-cons_cases}
 use Rattle.hlc_values.proofs.PigeonLemmas.{AreApart, Served, served, sum_by_one}
-use Rattle.hlc_rows.specs.declared.row.Row.{Row}
-use Rattle.hlc_rows.specs.Rows.{answer}
+use Rattle.hlc_rows.specs.{declared.row.Row.Row, Rows.answer}
 use Rattle.hlc_columns.proofs.FoundLemmas.{same_key}
 use Rattle.hlc_columns.proofs.SameLemmas.{cases_same}
-use Rattle.hlc_core.specs.declared.listing.Pair.{Pair}
-use Rattle.hlc_core.specs.Listing.{IsListing}
+use Rattle.hlc_core.{specs.declared.listing.Pair.Pair, specs.Listing.IsListing, proofs.ListingLemmas.one-listing}
 use Rattle.hlc_core.specs.Differences.{Difference, AreDifferences, pair_with, changed, patched}
-use Rattle.hlc_core.proofs.ListingLemmas.{one-listing}
 
 abbrev key_cmp : List ℕ → List ℕ → Ordering
 key_cmp a b = slice_cmp nat_cmp a b

@@ -3,38 +3,29 @@
 -- stamp, so a snapshot shows all or none of them; each change forces a row and its bytes; and a core that represents a
 -- vacuum was left with the fewest rows.
 use Rattle.std.proofs.Common.{◌≡◌, ℕ, ◌≤◌, List, [], ◌∷◌, ◌++◌, length, Option, Some, None, refl, ap, sym, ◌∙◌, subst}
-use Rattle.std.proofs.Common.{arith}
-use Rattle.std.specs.Prelude.{Contains}
-use Rattle.hlc_rows.specs.declared.row.Row.{Row}
-use Rattle.hlc_rows.specs.Rows.{answer, newest, IsNoLater}
+use Rattle.std.proofs.Common.{arith, Contains}
+use Rattle.hlc_rows.specs.{declared.row.Row.Row, Rows.answer, Rows.newest, Rows.IsNoLater}
 use Rattle.hlc_rows.proofs.NewestLemmas.{newest_is_greatest, no_newest_no_row}
 use Rattle.hlc_witness.specs.Cost.{changes_cost, rows_cost}
 use Rattle.hlc_witness.proofs.ChangeLemmas.{changes_force_rows}
 use Rattle.hlc_witness.proofs.CostLemmas.{changes_force_bytes}
 use Rattle.hlc_core.specs.Past.{Step, floor, stamp_of, writes, IsLegal}
 use Rattle.hlc_vacuum_draft.specs.declared.report.Report.{Report}
-use Rattle.hlc_core.specs.Stored.{IsReport, LeavesFewest}
-use Rattle.hlc_core.specs.StoreView.{StoreView, Represents}
+use Rattle.hlc_core.specs.{Stored.IsReport, Stored.LeavesFewest, Listing.IsListing, Calls.IsListed}
+use Rattle.hlc_core.specs.{StoreView.StoreView, StoreView.Represents, Parts.IsPartReport, Parts.rows_of_keys}
 use Rattle.hlc_events.specs.declared.event.CoreEvent.{CoreEvent}
-use Rattle.hlc_events.specs.declared.event.CoreEvent.TheVariants.{Read}
-use Rattle.hlc_events.specs.declared.event.CoreEvent.TheVariants.{List as ListAll}
-use Rattle.hlc_events.specs.declared.event.CoreEvent.TheVariants.{Vacuum, VacuumTo, VacuumPart}
-use Rattle.hlc_core.specs.declared.listing.Pair.{Pair}
-use Rattle.hlc_core.specs.declared.reply.CoreReply.{CoreReply}
+use Rattle.hlc_events.specs.declared.event.CoreEvent.TheVariants.{Read, List as ListAll, Vacuum, VacuumTo, VacuumPart}
+use Rattle.hlc_core.specs.declared.{listing.Pair.Pair, reply.CoreReply.CoreReply}
 use Rattle.hlc_core.specs.declared.reply.CoreReply.TheVariants.{Answer, Listing, Vacuumed, VacuumedPart}
-use Rattle.hlc_core.specs.Listing.{IsListing}
-use Rattle.hlc_core.specs.Calls.{IsListed}
 use Rattle.hlc_core.specs.History.{step_of, with_step, past_of, IsAnswer, IsExpected, IsLegalHistory, RepresentsHistory}
 use Rattle.hlc_core.specs.History.{IsLeft}
 use Rattle.hlc_core.specs.Headline.{IsMoment, ReadsAreNewest, VacuumsAreFewest, VacuumsAreCheapest, FewestAreLeft}
 use Rattle.hlc_core.specs.Headline.{IsFaithful, SnapshotsStay, PartsAreFewest, FewestAreLeftByParts, vacuum_stamp}
 use Rattle.hlc_core.specs.Headline.{SnapshotsShowWhole}
-use Rattle.hlc_core.specs.Parts.{IsPartReport, rows_of_keys}
 use Rattle.hlc_columns.specs.Answers.{in_part}
-use Rattle.hlc_core.proofs.ListingLemmas.{one-listing}
+use Rattle.hlc_core.proofs.{ListingLemmas.one-listing, VacuumLemmas.leaves-fewest}
 use Rattle.hlc_core.proofs.PastLemmas.{body_rows-are, took-writes}
 use Rattle.hlc_core.proofs.StayLemmas.{legal-before, snapshots-stay}
-use Rattle.hlc_core.proofs.VacuumLemmas.{leaves-fewest}
 
 before-legal : (nodes : ℕ) (later before : List (CoreEvent × CoreReply)) → IsLegalHistory nodes (later ++ before)
     → IsLegalHistory nodes before

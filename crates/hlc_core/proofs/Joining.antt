@@ -1,23 +1,16 @@
 -- A node whose join is not refused joins: the core represents one more join.
-use Rattle.std.proofs.Common.{◌≡◌, ℕ, ◌+◌, ◌<◌, ◌≤◌, List, [], ◌∷◌, ◌++◌, length, max}
-use Rattle.std.proofs.Common.{false, Some, None, refl, ap, sym, ◌∙◌, inl, inr}
-use Rattle.std.proofs.Common.{arith, length-append}
-use Rattle.std.specs.Prelude.{Ok, Err, ⊤, nat_le}
-use Rattle.std.proofs.lemmas.Bool.{cond-true, cond-false, le-leb, lt-leb, le-ltb, lt-ltb}
-use Rattle.std.proofs.lemmas.Bool.{cases_eq, eq-eqb, ne_eqb}
+use Rattle.std.proofs.Common.{◌≡◌, ℕ, ◌+◌, ◌<◌, ◌≤◌, List, [], ◌∷◌, ◌++◌, length, max, false, Some, None, refl, ap, sym}
+use Rattle.std.proofs.Common.{◌∙◌, inl, inr, arith, length-append}
+use Rattle.std.specs.{Prelude.Ok, Prelude.Err, Prelude.⊤, Prelude.nat_le, declared.alloc.AllocError.AllocError}
+use Rattle.std.proofs.lemmas.Bool.{cond-true, cond-false, le-leb, lt-leb, le-ltb, lt-ltb, cases_eq, eq-eqb, ne_eqb}
 use Rattle.hlc_intake.specs.IntakeView.{IntakeView}
 use Rattle.hlc_heads.specs.declared.heads.TheConstants.{MAX_NODES}
 use Rattle.hlc_events.specs.declared.fault.CoreFault.TheVariants.{Join, NoMemory}
-use Rattle.std.specs.declared.alloc.AllocError.{AllocError}
-use Rattle.hlc_heads.specs.declared.heads.JoinFault.{JoinFault}
-use Rattle.hlc_heads.specs.declared.heads.JoinFault.TheVariants.{TooManyNodes, BelowFloor}
-use Rattle.hlc_core.specs.Past.{Step, Joined, numbered, floor}
-use Rattle.hlc_core.specs.Past.{join_refusal, join_at_refusal}
-use Rattle.hlc_core.specs.StoreView.{StoreView, Represents}
-use Rattle.hlc_core.proofs.PastLemmas.{fresh, unless-none}
+use Rattle.hlc_heads.specs.declared.heads.JoinFault.{JoinFault, TheVariants.TooManyNodes, TheVariants.BelowFloor}
+use Rattle.hlc_core.specs.Past.{Step, Joined, numbered, floor, join_refusal, join_at_refusal}
+use Rattle.hlc_core.specs.{StoreView.StoreView, StoreView.Represents, Calls.IsRefusal}
+use Rattle.hlc_core.proofs.{PastLemmas.fresh, PastLemmas.unless-none, Links.get-append_left, Links.get-push}
 use Rattle.hlc_heads.specs.Heads.{HeadsView, JoinsAt, a_link, floor_of}
-use Rattle.hlc_core.specs.Calls.{IsRefusal}
-use Rattle.hlc_core.proofs.Links.{get-append_left, get-push}
 
 abbrev pub with_link : StoreView → ℕ → StoreView
 with_link kept start = record kept { links = kept.links ++ a_link 0 start false ∷ []; top = max kept.top start }

@@ -1,22 +1,16 @@
 -- Each link of a core follows the items that it accepted.
-use Rattle.std.proofs.Common.{◌≡◌, ℕ, zero, suc, ◌+◌, ◌<◌, List, [], ◌∷◌, ◌++◌, length, max, get_or}
-use Rattle.std.proofs.Common.{false, Some, None, Option, Ok, Err, Result, refl, ap, sym, ◌∙◌, subst, inl, inr}
-use Rattle.std.proofs.Common.{arith}
+use Rattle.std.proofs.Common.{◌≡◌, ℕ, zero, suc, ◌+◌, ◌<◌, List, [], ◌∷◌, ◌++◌, length, max, get_or, false, Some, None}
+use Rattle.std.proofs.Common.{Option, Ok, Err, Result, refl, ap, sym, ◌∙◌, subst, inl, inr, arith}
 use Rattle.std.specs.Prelude.{slice_get, slice_set, MatchOption, MatchResult}
 use Rattle.std.proofs.lemmas.Option.{slice_get-get_or, slice_get_past}
-use Rattle.std.proofs.lemmas.Bool.{cond-true, cond-false, eq-eqb, ne_eqb, le-leb, cases_lt}
-use Rattle.std.proofs.lemmas.Bool.{cases_eq}
-use Rattle.hlc_node.specs.declared.item.Item.{Item}
-use Rattle.hlc_node.specs.Items.{body_refusal, retires}
+use Rattle.std.proofs.lemmas.Bool.{cond-true, cond-false, eq-eqb, ne_eqb, le-leb, cases_lt, cases_eq}
+use Rattle.hlc_node.specs.{declared.item.Item.Item, Items.body_refusal, Items.retires}
 use Rattle.hlc_intake.specs.IntakeView.{IntakeView}
 use Rattle.hlc_values.specs.declared.bounds.TheConstants.{NUMBER_BOUND}
 use Rattle.hlc_heads.specs.Heads.{a_link, no_link, number_after}
-use Rattle.hlc_events.specs.declared.fault.CoreFault.{CoreFault}
-use Rattle.hlc_events.specs.declared.fault.CoreFault.TheVariants.{NoNode}
-use Rattle.hlc_core.specs.Past.{Step, Took, numbered, count, head, retired}
-use Rattle.hlc_core.specs.Past.{item_rows, link_refusal, item_refusal}
-use Rattle.hlc_core.specs.StoreView.{StoreView, Represents}
-use Rattle.hlc_core.specs.Calls.{Checks}
+use Rattle.hlc_events.specs.declared.fault.CoreFault.{CoreFault, TheVariants.NoNode}
+use Rattle.hlc_core.specs.Past.{Step, Took, numbered, count, head, retired, item_rows, link_refusal, item_refusal}
+use Rattle.hlc_core.specs.{StoreView.StoreView, StoreView.Represents, Calls.Checks}
 use Rattle.hlc_core.proofs.PastLemmas.{admissible, on_link}
 
 -- the link of a node, from the past

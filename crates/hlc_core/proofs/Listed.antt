@@ -1,14 +1,11 @@
 -- The pairs of the answers of all keys are the listing.
 use Rattle.std.proofs.Common.{◌≡◌, ◌++◌, ◌∷◌, ◌∙◌, ℕ, List, [], map, refl, sym, ap, subst, Contains}
-use Rattle.std.specs.Cmp.Lexicographic.{slice_cmp}
-use Rattle.std.specs.Ordering.{nat_cmp}
-use Rattle.std.specs.List.Sorted.{IsStrictlySortedBy}
+use Rattle.std.specs.{Cmp.Lexicographic.slice_cmp, Ordering.nat_cmp, List.Sorted.IsStrictlySortedBy}
 use Rattle.std.proofs.lemmas.List.{append-nil}
 use Rattle.hlc_values.proofs.MemberLemmas.{Contains-map}
 use Rattle.hlc_rows.specs.declared.row.Row.{Row}
 use Rattle.hlc_columns.specs.Answers.{AreAnswers}
-use Rattle.hlc_core.specs.declared.listing.Pair.{Pair}
-use Rattle.hlc_core.specs.Listing.{IsListing}
+use Rattle.hlc_core.specs.{declared.listing.Pair.Pair, Listing.IsListing}
 
 abbrev pub of_pair : Pair → List ℕ × List ℕ
 of_pair pair = (pair.key, pair.value)

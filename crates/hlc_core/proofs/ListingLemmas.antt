@@ -1,17 +1,12 @@
 -- There is one listing at a stamp: two lists with the same pairs, each ascending by key, are equal, since no pair is
 -- before itself.
-use Rattle.std.proofs.Common.{◌≡◌, ℕ, ◌<◌, List, get_or, map, sym, ap₂, ◌∙◌, subst, arith, Less, Equal}
-use Rattle.std.proofs.Common.{nat_cmp}
-use Rattle.std.specs.Cmp.Lexicographic.{slice_cmp}
-use Rattle.std.specs.List.{AllPairs}
-use Rattle.std.specs.List.Sorted.{IsStrictlySortedBy}
+use Rattle.std.proofs.Common.{◌≡◌, ℕ, ◌<◌, List, get_or, map, sym, ap₂, ◌∙◌, subst, arith, Less, Equal, nat_cmp}
+use Rattle.std.specs.{Cmp.Lexicographic.slice_cmp, List.AllPairs, List.Sorted.IsStrictlySortedBy}
 use Rattle.std.proofs.lemmas.Cmp.{nat_list_cmp_total, tied_itself}
-use Rattle.std.proofs.lemmas.List.{get_or-map, length-map}
-use Rattle.std.proofs.lemmas.Map.Keys.{Less-from_sorted}
+use Rattle.std.proofs.lemmas.{List.get_or-map, List.length-map, Map.Keys.Less-from_sorted}
 use Rattle.hlc_values.proofs.SortedLemmas.{same_members}
 use Rattle.hlc_rows.specs.declared.row.Row.{Row}
-use Rattle.hlc_core.specs.declared.listing.Pair.{Pair}
-use Rattle.hlc_core.specs.Listing.{IsListing}
+use Rattle.hlc_core.specs.{declared.listing.Pair.Pair, Listing.IsListing}
 
 -- the key of one pair is before that of the other
 abbrev IsBefore : Pair → Pair → Type 0

@@ -1,23 +1,16 @@
 -- Snapshots are opened and closed where that is not refused: the core represents one more step.
-use Rattle.std.proofs.Common.{◌≡◌, ℕ, ◌+◌, List, [], ◌∷◌, ◌++◌, length}
-use Rattle.std.proofs.Common.{Some, None, Ok, Err, Result, refl, ap, sym, ◌∙◌, subst, inl, inr}
-use Rattle.std.specs.Prelude.{◌==◌, not, Contains, IfOk, OnErr}
-use Rattle.std.proofs.lemmas.Bool.{cond-true, cond-false}
-use Rattle.std.proofs.lemmas.Bool.{cases_Bool}
-use Rattle.std.proofs.lemmas.List.{map-append}
+use Rattle.std.proofs.Common.{◌≡◌, ℕ, ◌+◌, List, [], ◌∷◌, ◌++◌, length, Some, None, Ok, Err, Result, refl, ap, sym, ◌∙◌}
+use Rattle.std.proofs.Common.{subst, inl, inr, ◌==◌, not, Contains, IfOk, OnErr}
+use Rattle.std.proofs.lemmas.{Bool.cond-true, Bool.cond-false, Bool.cases_Bool, List.map-append}
 use Rattle.hlc_values.proofs.MemberLemmas.{Contains-first, Contains-rest, Contains-cons_cases}
 use Rattle.hlc_rows.specs.declared.row.Row.{Row}
-use Rattle.hlc_core.specs.Past.{Step, Opened, Closed, horizon}
-use Rattle.hlc_core.specs.Past.{last_id, writes, open_snapshots}
-use Rattle.hlc_core.specs.Past.{of_room, room_refusal, open_refusal}
-use Rattle.hlc_core.specs.Past.{stamp_of}
-use Rattle.hlc_core.specs.StoreView.{StoreView, Represents}
-use Rattle.hlc_snapshot.specs.declared.snapshot.Snapshot.{Snapshot}
+use Rattle.hlc_core.specs.Past.{Step, Opened, Closed, horizon, last_id, writes, open_snapshots, of_room, room_refusal}
+use Rattle.hlc_core.specs.Past.{open_refusal, stamp_of}
+use Rattle.hlc_core.specs.{StoreView.StoreView, StoreView.Represents, Calls.Closes}
+use Rattle.hlc_snapshot.specs.declared.{snapshot.Snapshot.Snapshot, fault.NoSnapshot.NoSnapshot}
 use Rattle.hlc_vacuum.specs.Representing.{RowsRepresent}
 use Rattle.hlc_vacuum.proofs.RepresentingLemmas.{opens_keep_representing}
-use Rattle.hlc_snapshot.specs.declared.fault.NoSnapshot.{NoSnapshot}
 use Rattle.hlc_snapshot.specs.RegistryView.{RegistryView, closed, stamps, stamp_in, without, room_refusal as room_in}
-use Rattle.hlc_core.specs.Calls.{Closes}
 use Rattle.hlc_core.proofs.PastLemmas.{open-above}
 
 -- the remaining room is that of the past

@@ -2,12 +2,10 @@
 -- as the rows do, and they have no answer at other keys. So stored rows of these keys represent all accepted ones of
 -- these keys.
 use Rattle.std.proofs.Common.{◌≡◌, ℕ, List, [], ◌∷◌, Bool, true, false, Option, None, Contains, refl, ap, sym, ◌∙◌}
-use Rattle.std.proofs.Common.{cond, ◌≤◌, Some, subst, arith}
-use Rattle.std.specs.Prelude.{◌≢◌, if◌then◌else◌, option_and_then, not}
+use Rattle.std.proofs.Common.{cond, ◌≤◌, Some, subst, arith, ◌≢◌, if◌then◌else◌, option_and_then, not}
 use Rattle.std.proofs.lemmas.Bool.{cond-false, both_ways}
 use Rattle.hlc_values.proofs.MemberLemmas.{Contains-filter, Contains-from_filter}
-use Rattle.hlc_rows.specs.declared.row.Row.{Row}
-use Rattle.hlc_rows.specs.Rows.{is_candidate, later, newest, answer, IsRowSet}
+use Rattle.hlc_rows.specs.{declared.row.Row.Row, Rows.is_candidate, Rows.later, Rows.newest, Rows.answer, Rows.IsRowSet}
 use Rattle.hlc_rows.proofs.CandidateLemmas.{other-misses}
 use Rattle.hlc_rows.proofs.NewestLemmas.{answer_none}
 use Rattle.hlc_table_column.proofs.FlagLemmas.{filter-IsRowSet}

@@ -1,35 +1,27 @@
 -- A part of a vacuum: rows that no reader needs are dropped, and the horizon is moved to its stamp.
 use Rattle.std.proofs.Common.{◌≡◌, ℕ, ◌+◌, ◌≤◌, List, ◌∷◌, Bool, length, leb, None, refl, ap, sym, ◌∙◌, subst, arith}
-use Rattle.std.specs.Prelude.{not, Ok}
-use Rattle.std.specs.List.Sorted.{IsPermutation}
+use Rattle.std.specs.{Prelude.not, Prelude.Ok, List.Sorted.IsPermutation}
 use Rattle.std.proofs.lemmas.List.Elements.{All-filter}
 use Rattle.hlc_clock.specs.Points.{ArePoints, PointsAscend}
 use Rattle.hlc_clock.proofs.PointLemmas.{points-ascend, points-last}
-use Rattle.hlc_rows.specs.declared.row.Row.{Row}
-use Rattle.hlc_rows.specs.Rows.{IsRowSet}
+use Rattle.hlc_rows.specs.{declared.row.Row.Row, Rows.IsRowSet}
 use Rattle.hlc_table_column.proofs.FlagLemmas.{filter-IsRowSet}
 use Rattle.hlc_snapshot.specs.RegistryView.{stamps, stamps_to}
-use Rattle.hlc_witness.specs.Fewest.{Fewest}
-use Rattle.hlc_witness.specs.Cost.{Cheapest, IsInLimits, rows_cost, changes_cost}
+use Rattle.hlc_witness.specs.{Fewest.Fewest, Cost.Cheapest, Cost.IsInLimits, Cost.rows_cost, Cost.changes_cost}
 use Rattle.hlc_witness.proofs.CostLemmas.{fewest_rows_are_cheapest, fewest_rows_cost}
 use Rattle.hlc_vacuum_draft.specs.Vacuumed.{IsVacuumOf, rows_to}
 use Rattle.hlc_vacuum.specs.Representing.{RowsRepresent, RepresentsAfterVacuum, count_above}
-use Rattle.hlc_vacuum_draft.specs.declared.report.Report.{Report}
-use Rattle.hlc_vacuum_draft.specs.Report.{report_of}
+use Rattle.hlc_vacuum_draft.specs.{declared.report.Report.Report, Report.report_of}
 use Rattle.hlc_columns.specs.Answers.{in_part}
-use Rattle.hlc_vacuum.specs.declared.part.PartPlan.{PartPlan}
-use Rattle.hlc_vacuum.specs.Part.{IsPartVacuum}
+use Rattle.hlc_vacuum.specs.{declared.part.PartPlan.PartPlan, Part.IsPartVacuum}
 use Rattle.hlc_vacuum.proofs.RepresentingLemmas.{vacuums_compose, vacuums_are_certified}
 use Rattle.hlc_core.specs.Past.{Step, PartVacuumed, floor, horizon, vacuumed, part_dropped, open_snapshots, writes}
 use Rattle.hlc_core.specs.Past.{vacuum_refusal}
-use Rattle.hlc_core.specs.Stored.{AreVacuumPoints}
+use Rattle.hlc_core.specs.{Stored.AreVacuumPoints, Checkpoint.floor_in, PlanAt.IsPartPlanAt}
 use Rattle.hlc_core.specs.StoreView.{StoreView, with_rows_left, Represents}
-use Rattle.hlc_core.specs.Checkpoint.{floor_in}
-use Rattle.hlc_core.specs.PlanAt.{IsPartPlanAt}
 use Rattle.hlc_core.specs.Parts.{rows_of_keys, VacuumsKeys, VacuumsPart}
 use Rattle.hlc_core.proofs.PastLemmas.{vacuum-above, vacuum-none, writes-limits}
-use Rattle.hlc_core.proofs.CheckpointLemmas.{floor-in}
-use Rattle.hlc_core.proofs.PartLemmas.{represent-of_keys, represent-parts}
+use Rattle.hlc_core.proofs.{CheckpointLemmas.floor-in, PartLemmas.represent-of_keys, PartLemmas.represent-parts}
 use Rattle.hlc_core.proofs.VacuumLemmas.{fewer-open, more-open, low-open}
 
 -- the rows that it left represent the past with it

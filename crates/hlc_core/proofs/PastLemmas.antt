@@ -1,37 +1,28 @@
 -- What is true of a legal past: an item that is not refused has a stamp above its node's head, so no write is accepted
 -- twice, and the floor never falls, so no open snapshot is above it; and its body is allowed, so no accepted write is
 -- out of the limits.
-use Rattle.std.proofs.Common.{◌≡◌, ℕ, ◌+◌, ◌<◌, ◌≤◌, ◌⊎◌, List, [], ◌∷◌, ◌++◌, max, Bool, true}
-use Rattle.std.proofs.Common.{false, Option, Some, None, refl, ap, sym, ◌∙◌, subst, inl, inr, arith, cond}
-use Rattle.std.specs.Prelude.{All, Contains, ◌==◌, ◌≢◌, if◌then◌else◌, not, nat_le, nat_lt}
-use Rattle.std.proofs.lemmas.Bool.{cond-true, cond-false, le-leb, lt-leb, le-ltb, eq-eqb, ne_eqb, cases_lt}
-use Rattle.std.proofs.lemmas.Bool.{cases_eq}
-use Rattle.std.proofs.lemmas.Bool.Decides.{nat_tests}
+use Rattle.std.proofs.Common.{◌≡◌, ℕ, ◌+◌, ◌<◌, ◌≤◌, ◌⊎◌, List, [], ◌∷◌, ◌++◌, max, Bool, true, false, Option, Some}
+use Rattle.std.proofs.Common.{None, refl, ap, sym, ◌∙◌, subst, inl, inr, arith, cond, All, Contains, ◌==◌, ◌≢◌}
+use Rattle.std.proofs.Common.{if◌then◌else◌, not, nat_le, nat_lt, le-leb, le-ltb, eq-eqb, ne_eqb}
+use Rattle.std.proofs.lemmas.Bool.{cond-true, cond-false, lt-leb, cases_lt, cases_eq, Decides.nat_tests}
 use Rattle.std.proofs.lemmas.List.Elements.{Contains-append_cases, All-nil, All-cons, All-weaker, All-push, All-filter}
 use Rattle.std.proofs.lemmas.List.Elements.{All-append, Contains-append_left, Contains-append_right}
 use Rattle.hlc_values.proofs.MemberLemmas.{Contains-none, Contains-cons_cases}
-use Rattle.hlc_rows.specs.declared.row.Row.{Row}
-use Rattle.hlc_node.specs.declared.item.Item.{Item}
-use Rattle.hlc_node.specs.declared.item.Body.{Body}
-use Rattle.hlc_node.specs.declared.item.Body.TheVariants.{Write, Batch}
+use Rattle.hlc_rows.specs.{declared.row.Row.Row, declared.limits.BodyFault.BodyFault, Rows.IsSameVersion, Rows.IsRowSet}
+use Rattle.hlc_node.specs.declared.item.{Item.Item, Body.Body, Body.TheVariants.Write, Body.TheVariants.Batch}
 use Rattle.hlc_intake.specs.declared.intake.LinkFault.TheVariants.{Retired, NotNext, NumbersSpent, StampNotRising}
 use Rattle.hlc_events.specs.declared.fault.CoreFault.{CoreFault}
 use Rattle.hlc_events.specs.declared.fault.CoreFault.TheVariants.{NoNode, Link, AboveFloor, BelowHorizon}
-use Rattle.hlc_rows.specs.declared.limits.BodyFault.{BodyFault}
 use Rattle.hlc_node.specs.Items.{body_refusal, retires}
-use Rattle.hlc_rows.specs.Rows.{IsSameVersion, IsRowSet}
 use Rattle.hlc_rows.proofs.WritesLemmas.{good as writes-good}
-use Rattle.hlc_heads.specs.Low.{low}
+use Rattle.hlc_heads.specs.{Low.low, declared.heads.TheConstants.MAX_NODES}
 use Rattle.hlc_heads.proofs.LowLemmas.{low-is, low-rises, low-joins, low-stays}
 use Rattle.hlc_witness.specs.Cost.{IsInLimits, AreInLimits}
-use Rattle.hlc_core.proofs.BatchLemmas.{rows_written-are, rows_written-set, rows_written-limits}
-use Rattle.hlc_core.proofs.BatchLemmas.{row_set-append}
-use Rattle.hlc_core.specs.Past.{Step, Started, Began, Took, Opened, Closed, Vacuumed, PartVacuumed, Joined}
-use Rattle.hlc_core.specs.Past.{numbered, count, head, retired, top, floor, horizon, vacuumed, open_snapshots}
-use Rattle.hlc_core.specs.Past.{room_refusal, open_refusal, open_after, body_rows}
-use Rattle.hlc_core.specs.Past.{item_rows, writes, link_refusal, of_body, item_refusal, vacuum_refusal, IsLegal}
-use Rattle.hlc_core.specs.Past.{greatest_accepted, join_refusal, join_at_refusal}
-use Rattle.hlc_heads.specs.declared.heads.TheConstants.{MAX_NODES}
+use Rattle.hlc_core.proofs.BatchLemmas.{rows_written-are, rows_written-set, rows_written-limits, row_set-append}
+use Rattle.hlc_core.specs.Past.{Step, Started, Began, Took, Opened, Closed, Vacuumed, PartVacuumed, Joined, numbered}
+use Rattle.hlc_core.specs.Past.{count, head, retired, top, floor, horizon, vacuumed, open_snapshots, room_refusal}
+use Rattle.hlc_core.specs.Past.{open_refusal, open_after, body_rows, item_rows, writes, link_refusal, of_body}
+use Rattle.hlc_core.specs.Past.{item_refusal, vacuum_refusal, IsLegal, greatest_accepted, join_refusal, join_at_refusal}
 use Rattle.hlc_intake.specs.IntakeView.{IntakeView}
 use Rattle.hlc_checkpoint.specs.Checkpoint.{floor_in}
 use Rattle.hlc_core.proofs.BeganLemmas.{link_in-out, floor-began, began-issued, began-retired, began-row, began-under}

@@ -1,16 +1,12 @@
 -- There is one report of a vacuum: its points are one list, and so are its changes and those of the one before.
 use Rattle.std.proofs.Common.{◌≡◌, ℕ, List, [], ◌∷◌, length, ap, sym, ◌∙◌, arith}
 use Rattle.hlc_snapshot.specs.RegistryView.{stamps_to}
-use Rattle.hlc_witness.specs.declared.witness.Witness.{Witness}
-use Rattle.hlc_witness.specs.Changes.{AreChanges}
-use Rattle.hlc_witness.specs.Cost.{changes_cost}
-use Rattle.hlc_witness.specs.AllChanges.{all_changes}
+use Rattle.hlc_witness.specs.{declared.witness.Witness.Witness, AllChanges.all_changes}
+use Rattle.hlc_witness.specs.{Changes.AreChanges, Cost.changes_cost}
 use Rattle.hlc_vacuum_draft.specs.declared.report.Report.{Report}
 use Rattle.hlc_clock.proofs.PointLemmas.{ArePoints-unique, points-ascend}
 use Rattle.hlc_witness.proofs.ChangeLemmas.{changes_are_one}
-use Rattle.hlc_core.specs.Past.{Step, Vacuumed}
-use Rattle.hlc_core.specs.Past.{open_snapshots}
-use Rattle.hlc_core.specs.Past.{writes}
+use Rattle.hlc_core.specs.Past.{Step, Vacuumed, open_snapshots, writes}
 use Rattle.hlc_core.specs.Stored.{AreVacuumPoints, AreLastChanges, IsStoredCount, IsReport}
 
 -- the changes of one vacuum are one list

@@ -1,23 +1,19 @@
 -- A core remains sound: it has its nodes and links of them with possible progress; the top is the greatest head, the
 -- horizon is not above the floor, and an item may write each row.
-use Rattle.std.proofs.Common.{◌≡◌, ℕ, zero, suc, ◌+◌, ◌<◌, ◌≤◌, List, [], ◌∷◌, ◌++◌, length, max, get_or, Bool}
-use Rattle.std.proofs.Common.{None, refl, ap, sym, ◌∙◌, arith, length-set, length-append, replicate}
-use Rattle.std.proofs.Common.{IsPermutation, false}
+use Rattle.std.proofs.Common.{◌≡◌, ℕ, zero, suc, ◌+◌, ◌<◌, ◌≤◌, List, [], ◌∷◌, ◌++◌, length, max, get_or, Bool, None}
+use Rattle.std.proofs.Common.{refl, ap, sym, ◌∙◌, arith, length-set, length-append, replicate, IsPermutation, false}
 use Rattle.std.specs.Prelude.{Contains, slice_set}
-use Rattle.std.proofs.lemmas.List.{length-replicate}
+use Rattle.std.proofs.lemmas.List.{length-replicate, Sorted.All-permutation}
 use Rattle.std.proofs.lemmas.List.Elements.{All-nil, All-weaker, All-contains, All-contains_itself, All-set, All-push}
-use Rattle.std.proofs.lemmas.List.Sorted.{All-permutation}
 use Rattle.hlc_rows.specs.declared.row.Row.{Row}
-use Rattle.hlc_node.specs.declared.item.Body.{Body}
-use Rattle.hlc_node.specs.Items.{body_refusal}
+use Rattle.hlc_node.specs.{declared.item.Body.Body, Items.body_refusal}
 use Rattle.hlc_intake.specs.IntakeView.{IntakeView}
 use Rattle.hlc_heads.specs.Heads.{HeadsView, a_link, no_link, link_at, floor_of, advanced, joined}
 use Rattle.hlc_heads.specs.declared.heads.TheConstants.{MAX_INITIAL_NODES, MAX_NODES}
 use Rattle.hlc_witness.specs.Cost.{IsInLimits}
 use Rattle.hlc_core.specs.Past.{body_rows}
 use Rattle.hlc_core.specs.StoreView.{HasStamps, HasLastItem, IsSound, greatest_head, marks_of}
-use Rattle.hlc_core.proofs.PastLemmas.{limits-body}
-use Rattle.hlc_core.proofs.Consistent.{floor-advanced, floor-joined}
+use Rattle.hlc_core.proofs.{PastLemmas.limits-body, Consistent.floor-advanced, Consistent.floor-joined}
 
 pub greatest-le : (links : List IntakeView) (most : ℕ)
     → ((k : ℕ) (d : IntakeView) → k < length links → (get_or links k d).head ≤ most) → greatest_head links ≤ most

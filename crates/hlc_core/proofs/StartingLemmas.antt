@@ -1,21 +1,13 @@
 -- A new core represents the past of its start, and a checkpoint that which begins with it.
-use Rattle.std.proofs.Common.{◌≡◌, ℕ, zero, suc, ◌<◌, ◌≤◌, [], ◌∷◌, length}
-use Rattle.std.proofs.Common.{false, Some, None, refl}
-use Rattle.std.proofs.Common.{arith, replicate}
-use Rattle.std.specs.Prelude.{slice_get}
-use Rattle.std.proofs.lemmas.List.{length-replicate}
+use Rattle.std.proofs.Common.{◌≡◌, ℕ, zero, suc, ◌<◌, ◌≤◌, [], ◌∷◌, length, false, Some, None, refl, arith, replicate}
+use Rattle.std.{specs.Prelude.slice_get, proofs.lemmas.List.length-replicate, proofs.lemmas.Option.slice_get-get_or}
 use Rattle.std.proofs.lemmas.Bool.{cond-false, ne_eqb, le-ltb, or_from}
 use Rattle.hlc_intake.specs.IntakeView.{IntakeView}
-use Rattle.hlc_heads.specs.Heads.{a_link}
-use Rattle.hlc_heads.specs.declared.heads.TheConstants.{MAX_INITIAL_NODES}
-use Rattle.hlc_core.specs.Past.{Started, Began}
-use Rattle.hlc_core.specs.StoreView.{StoreView, Represents}
-use Rattle.hlc_core.specs.Calls.{new_refusal}
-use Rattle.hlc_core.specs.Checkpoint.{IsCheckpoint}
+use Rattle.hlc_heads.specs.{Heads.a_link, declared.heads.TheConstants.MAX_INITIAL_NODES}
+use Rattle.hlc_core.specs.{Past.Started, Past.Began, StoreView.StoreView, StoreView.Represents}
+use Rattle.hlc_core.specs.{Calls.new_refusal, Checkpoint.IsCheckpoint}
 use Rattle.hlc_vacuum.specs.Representing.{count_above}
-use Rattle.hlc_core.proofs.TakingLemmas.{count-more}
-use Rattle.hlc_core.proofs.BeganLemmas.{began-positive}
-use Rattle.std.proofs.lemmas.Option.{slice_get-get_or}
+use Rattle.hlc_core.proofs.{TakingLemmas.count-more, BeganLemmas.began-positive}
 
 abbrev pub new_core : ℕ → StoreView
 new_core many = record {

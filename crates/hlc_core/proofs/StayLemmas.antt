@@ -1,27 +1,23 @@
 -- What is accepted after a past lies above its floor, so no answer at or below that changes. An id is never used again,
 -- so an open snapshot keeps its stamp, which is not above the floor, and with it its answers.
 use Rattle.std.proofs.Common.{◌≡◌, ℕ, ◌+◌, ◌<◌, ◌≤◌, List, [], ◌∷◌, ◌++◌, Some, None, refl, ap, sym, ◌∙◌, inl, inr}
-use Rattle.std.proofs.Common.{arith, append-nil, subst}
-use Rattle.std.specs.Prelude.{nat_le, Contains, All}
-use Rattle.std.proofs.lemmas.List.Elements.{All-head, All-tail}
+use Rattle.std.proofs.Common.{arith, append-nil, subst, nat_le, Contains, All}
+use Rattle.std.proofs.lemmas.List.Elements.{All-head, All-tail, filter-append}
 use Rattle.hlc_snapshot.specs.declared.snapshot.Snapshot.{Snapshot}
-use Rattle.hlc_snapshot.specs.RegistryView.{stamp_in}
+use Rattle.hlc_snapshot.specs.RegistryView.{stamp_in, RegistryView, Follows, at_once, opening, closing}
 use Rattle.std.proofs.lemmas.Bool.{cond-false, lt-leb, cases_eq}
-use Rattle.std.proofs.lemmas.List.Elements.{filter-append}
 use Rattle.hlc_values.proofs.MemberLemmas.{Contains-first, Contains-rest}
-use Rattle.hlc_rows.specs.declared.row.Row.{Row}
+use Rattle.hlc_rows.specs.{declared.row.Row.Row, Rows.answer, Rows.IsRowSet}
 use Rattle.hlc_node.specs.declared.item.Body.{Body}
-use Rattle.hlc_rows.specs.Rows.{answer, IsRowSet}
-use Rattle.hlc_snapshot.specs.RegistryView.{RegistryView, Follows, at_once, opening, closing}
 use Rattle.hlc_snapshot.proofs.RegisterLemmas.{open_before, stamp_in-push_cases, stamp_in-all, stamp_in-miss}
 use Rattle.hlc_snapshot.proofs.RegisterLemmas.{stamp_in-without_itself, stamp_in-without_other}
 use Rattle.hlc_vacuum_draft.specs.Vacuumed.{rows_to}
 use Rattle.hlc_vacuum_draft.proofs.PartLemmas.{answer-rows_to}
-use Rattle.hlc_core.specs.Past.{Step, Started, Began, Took, Opened, Closed, Joined}
-use Rattle.hlc_core.specs.Past.{floor, last_id, open_snapshots, stamp_of, writes, body_rows, IsLegal}
+use Rattle.hlc_core.specs.Past.{Step, Started, Began, Took, Opened, Closed, Joined, floor, last_id, open_snapshots}
+use Rattle.hlc_core.specs.Past.{stamp_of, writes, body_rows, IsLegal}
 use Rattle.hlc_core.proofs.BeganLemmas.{began-positive}
-use Rattle.hlc_core.proofs.PastLemmas.{older}
-use Rattle.hlc_core.proofs.PastLemmas.{writes-row_set, above_floor, floor-grows, floor-joins, open-low, body_rows-are}
+use Rattle.hlc_core.proofs.PastLemmas.{older, writes-row_set, above_floor, floor-grows, floor-joins, open-low}
+use Rattle.hlc_core.proofs.PastLemmas.{body_rows-are}
 
 -- what took place before a legal past's last steps is legal
 pub legal-before : (past more : List Step) → IsLegal (more ++ past) → IsLegal past

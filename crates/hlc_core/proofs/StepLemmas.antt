@@ -1,31 +1,23 @@
 -- Part of a vacuum is what its event asks for after each past that the core represented, and so is a refusal, which is
 -- never that memory runs out. What a core does after its past is a step of its history.
-use Rattle.std.proofs.Common.{◌≡◌, ◌∙◌, ℕ, List, Option, Some, None, Bool, false, inl, inr}
-use Rattle.std.proofs.Common.{sym, subst, ap}
+use Rattle.std.proofs.Common.{◌≡◌, ◌∙◌, ℕ, List, Option, Some, None, Bool, false, inl, inr, sym, subst, ap}
 use Rattle.std.specs.Prelude.{Ok, Err, ◌≢◌, Result, IfOk, OnErr, if◌then◌else◌}
 use Rattle.std.specs.declared.alloc.AllocError.{AllocError}
-use Rattle.hlc_node.specs.declared.item.Item.{Item}
+use Rattle.hlc_node.specs.{declared.item.Item.Item, Items.body_refusal}
 use Rattle.hlc_rows.specs.declared.limits.BodyFault.{BodyFault}
-use Rattle.hlc_node.specs.Items.{body_refusal}
 use Rattle.hlc_snapshot.specs.declared.fault.SnapshotFault.TheVariants.{TooManySnapshots, NumbersSpent as no_ids}
 use Rattle.hlc_heads.specs.declared.heads.JoinFault.TheVariants.{TooManyNodes, BelowFloor}
 use Rattle.hlc_intake.specs.declared.intake.LinkFault.TheVariants.{Retired, NotNext, NumbersSpent, StampNotRising}
 use Rattle.hlc_events.specs.declared.fault.CoreFault.{CoreFault}
 use Rattle.hlc_events.specs.declared.fault.CoreFault.TheVariants.{NoMemory, NoNode, Link, AboveFloor, BelowHorizon}
 use Rattle.hlc_events.specs.declared.fault.CoreFault.TheVariants.{Join as joining}
-use Rattle.hlc_events.specs.declared.event.CoreEvent.TheVariants.{Accept}
-use Rattle.hlc_core.specs.declared.reply.CoreReply.TheVariants.{Refused}
-use Rattle.hlc_events.specs.declared.event.CoreEvent.{CoreEvent}
-use Rattle.hlc_events.specs.declared.event.CoreEvent.TheVariants.{VacuumPart}
+use Rattle.hlc_events.specs.declared.event.CoreEvent.{TheVariants.Accept, TheVariants.VacuumPart, CoreEvent}
+use Rattle.hlc_core.specs.declared.reply.CoreReply.{TheVariants.Refused, TheVariants.VacuumedPart, CoreReply}
 use Rattle.hlc_vacuum_draft.specs.declared.report.Report.{Report}
-use Rattle.hlc_core.specs.declared.reply.CoreReply.{CoreReply}
-use Rattle.hlc_core.specs.declared.reply.CoreReply.TheVariants.{VacuumedPart}
-use Rattle.hlc_core.specs.StoreView.{StoreView, Represents}
-use Rattle.hlc_core.specs.Parts.{VacuumsPart}
-use Rattle.hlc_core.specs.Calls.{IsRefusal}
+use Rattle.hlc_core.specs.{StoreView.StoreView, StoreView.Represents, Parts.VacuumsPart, Calls.IsRefusal}
 use Rattle.hlc_core.specs.Past.{Step, of_body, of_room, item_refusal, join_at_refusal, open_refusal}
-use Rattle.hlc_core.specs.History.{RepresentsHistory, IsStep, Steps, IsMove, Moves, MayRunOutOfMemory}
-use Rattle.hlc_core.specs.History.{past_of, expected_refusal}
+use Rattle.hlc_core.specs.History.{RepresentsHistory, IsStep, Steps, IsMove, Moves, MayRunOutOfMemory, past_of}
+use Rattle.hlc_core.specs.History.{expected_refusal}
 
 pub part_is_move : (past : List Step) (old new : StoreView) (at : ℕ) (after : List ℕ) (limit : ℕ) (report : Report)
     (end : Option (List ℕ)) → Represents old past → VacuumsPart old new at after limit past (Ok (report, end))

@@ -1,30 +1,22 @@
 -- An item that is not refused is accepted: the core represents one more item.
-use Rattle.std.proofs.Common.{◌≡◌, ℕ, ◌+◌, ◌<◌, ◌≤◌, List, [], ◌∷◌, ◌++◌, length, max, refl, subst}
-use Rattle.std.proofs.Common.{None, ap, sym, ◌∙◌}
+use Rattle.std.proofs.Common.{◌≡◌, ℕ, ◌+◌, ◌<◌, ◌≤◌, List, [], ◌∷◌, ◌++◌, length, max, refl, subst, None, ap, sym, ◌∙◌}
 use Rattle.std.proofs.Common.{arith, length-set, length-append}
 use Rattle.std.specs.Prelude.{Contains, filter, nat_lt, slice_set}
-use Rattle.std.proofs.lemmas.Bool.{lt-ltb}
-use Rattle.std.proofs.lemmas.List.{append-nil, append_assoc}
-use Rattle.std.proofs.lemmas.List.Elements.{filter-append}
+use Rattle.std.proofs.lemmas.{Bool.lt-ltb, List.append-nil, List.append_assoc, List.Elements.filter-append}
 use Rattle.hlc_values.proofs.MemberLemmas.{Contains-first, Contains-rest}
-use Rattle.hlc_rows.specs.declared.row.Row.{Row}
-use Rattle.hlc_node.specs.declared.item.Item.{Item}
-use Rattle.hlc_node.specs.declared.item.Body.{Body}
-use Rattle.hlc_node.specs.Items.{retires}
-use Rattle.hlc_rows.specs.Rows.{IsRowSet}
+use Rattle.hlc_rows.specs.{declared.row.Row.Row, Rows.IsRowSet}
+use Rattle.hlc_node.specs.{declared.item.Item.Item, declared.item.Body.Body, Items.retires}
 use Rattle.hlc_intake.specs.IntakeView.{IntakeView}
-use Rattle.hlc_core.specs.Past.{Step, Took, numbered, count, head, retired, horizon, vacuumed, part_dropped}
-use Rattle.hlc_core.specs.Past.{writes, body_rows, open_snapshots, item_refusal}
-use Rattle.hlc_core.specs.Past.{IsLegal}
+use Rattle.hlc_core.specs.Past.{Step, Took, numbered, count, head, retired, horizon, vacuumed, part_dropped, writes}
+use Rattle.hlc_core.specs.Past.{body_rows, open_snapshots, item_refusal, IsLegal}
 use Rattle.hlc_core.specs.StoreView.{StoreView, Represents}
 use Rattle.hlc_vacuum.specs.Representing.{RowsRepresent, count_above}
 use Rattle.hlc_vacuum.proofs.RepresentingLemmas.{writes_keep_representing}
 use Rattle.hlc_snapshot.specs.RegistryView.{stamps}
-use Rattle.hlc_core.proofs.PastLemmas.{admissible, on_link, inside}
-use Rattle.hlc_core.proofs.PastLemmas.{above-horizon, vacuumed-low, writes-row_set, body_rows-are}
-use Rattle.hlc_core.proofs.BatchLemmas.{row_set-front}
+use Rattle.hlc_core.proofs.PastLemmas.{admissible, on_link, inside, above-horizon, vacuumed-low, writes-row_set}
+use Rattle.hlc_core.proofs.PastLemmas.{body_rows-are}
+use Rattle.hlc_core.proofs.{BatchLemmas.row_set-front, Links.links-took, Links.after_item}
 use Rattle.hlc_heads.specs.Heads.{a_link}
-use Rattle.hlc_core.proofs.Links.{links-took, after_item}
 
 -- rows above the horizon are stored with the others
 rows-more : (stored all more : List Row) (horizon : ℕ) (opened : List ℕ) → RowsRepresent stored all horizon opened

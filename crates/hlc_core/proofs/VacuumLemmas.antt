@@ -2,32 +2,25 @@
 -- rows at or below the stamp are the fewest. The answers of the open snapshots above the stamp do not change, since all
 -- rows above it stay.
 use Rattle.std.proofs.Common.{◌≡◌, ℕ, ◌+◌, ◌≤◌, List, ◌∷◌, length, leb, None, Contains, refl, ap, sym, ◌∙◌, subst, inl}
-use Rattle.std.proofs.Common.{inr, arith}
-use Rattle.std.specs.List.Sorted.{IsPermutation}
+use Rattle.std.proofs.Common.{inr, arith, IsPermutation, le-leb}
 use Rattle.hlc_rows.specs.declared.row.Row.{Row}
-use Rattle.std.proofs.lemmas.Bool.{cases_lt, le-leb}
-use Rattle.std.proofs.lemmas.List.Elements.{All-contains}
+use Rattle.std.proofs.lemmas.{Bool.cases_lt, List.Elements.All-contains}
 use Rattle.hlc_values.proofs.MemberLemmas.{Contains-from_filter, Contains-filter}
-use Rattle.hlc_snapshot.specs.declared.snapshot.Snapshot.{Snapshot}
-use Rattle.hlc_snapshot.specs.RegistryView.{stamps, stamps_to}
+use Rattle.hlc_snapshot.specs.{declared.snapshot.Snapshot.Snapshot, RegistryView.stamps, RegistryView.stamps_to}
 use Rattle.hlc_snapshot.proofs.RegisterLemmas.{stamps_to-low}
 use Rattle.hlc_clock.specs.Points.{PointsAscend}
-use Rattle.hlc_witness.specs.Fewest.{Fewest}
-use Rattle.hlc_witness.specs.Cost.{Cheapest, rows_cost}
-use Rattle.hlc_vacuum_draft.specs.Vacuumed.{IsVacuumOf, rows_to}
+use Rattle.hlc_witness.specs.{Fewest.Fewest, Cost.Cheapest, Cost.rows_cost}
+use Rattle.hlc_vacuum_draft.specs.{Vacuumed.IsVacuumOf, Vacuumed.rows_to, declared.report.Report.Report}
 use Rattle.hlc_vacuum.specs.Representing.{RowsRepresent, RepresentsAfterVacuum, count_above, count_between}
 use Rattle.hlc_witness.proofs.CostLemmas.{fewest_rows_are_cheapest, fewest_rows_cost}
 use Rattle.hlc_vacuum.proofs.RepresentingLemmas.{vacuums_compose, representing_rows_are_fewest, vacuums_are_certified}
 use Rattle.hlc_vacuum.proofs.RepresentingLemmas.{rows_above_are_counted}
-use Rattle.hlc_vacuum_draft.specs.declared.report.Report.{Report}
 use Rattle.hlc_core.specs.Past.{Step, Vacuumed, horizon, vacuumed, part_dropped, open_snapshots, writes, vacuum_refusal}
-use Rattle.hlc_core.specs.Stored.{AreVacuumPoints, IsReport, LeavesFewest}
+use Rattle.hlc_core.specs.{Stored.AreVacuumPoints, Stored.IsReport, Stored.LeavesFewest, Calls.Vacuums}
 use Rattle.hlc_core.specs.StoreView.{StoreView, with_rows_left, Represents}
-use Rattle.hlc_core.specs.Calls.{Vacuums}
 use Rattle.hlc_core.proofs.PastLemmas.{vacuum-above, vacuumed-low, writes-limits}
 use Rattle.hlc_table_column.proofs.FlagLemmas.{filter-IsRowSet}
-use Rattle.hlc_core.proofs.Opening.{fewer-stamps}
-use Rattle.hlc_core.proofs.ReportLemmas.{one-changes}
+use Rattle.hlc_core.proofs.{Opening.fewer-stamps, ReportLemmas.one-changes}
 use Rattle.hlc_clock.proofs.PointLemmas.{points-ascend, points-last}
 
 -- with fewer snapshots open

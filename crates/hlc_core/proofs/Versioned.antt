@@ -1,11 +1,7 @@
 -- The stored rows of a key are accepted writes, and above the horizon they are all of them.
-use Rattle.std.proofs.Common.{ℕ, ◌≤◌, List, arith}
-use Rattle.std.specs.Prelude.{Contains}
-use Rattle.hlc_table_column.specs.Cells.{Cell}
-use Rattle.hlc_table_column.specs.Rows.{row_of}
-use Rattle.hlc_table_column.specs.Versions.{AreVersions}
-use Rattle.hlc_core.specs.Past.{Step, writes, horizon}
-use Rattle.hlc_core.specs.StoreView.{StoreView, Represents}
+use Rattle.std.{proofs.Common.ℕ, proofs.Common.◌≤◌, proofs.Common.List, proofs.Common.arith, specs.Prelude.Contains}
+use Rattle.hlc_table_column.specs.{Cells.Cell, Rows.row_of, Versions.AreVersions}
+use Rattle.hlc_core.specs.{Past.Step, Past.writes, Past.horizon, StoreView.StoreView, StoreView.Represents}
 
 pub versions-accepted : (kept : StoreView) (past : List Step) (key : List ℕ) (from to : ℕ) (versions : List Cell)
     → Represents kept past → AreVersions kept.rows key from to versions → (version : Cell)

@@ -1,25 +1,19 @@
 -- The effect of each call of a core, for one past that the core represented.
-use Rattle.std.specs.Prelude.{◌≡◌, ℕ, ◌<◌, ◌≤◌, ◌+◌, ◌⊎◌, List, [], ◌∷◌, ◌==◌, ◌||◌, nat_lt, Option}
-use Rattle.std.specs.Prelude.{Some, None, if◌then◌else◌, Result, Ok, Err, MatchResult, ⊤}
+use Rattle.std.specs.Prelude.{◌≡◌, ℕ, ◌<◌, ◌≤◌, ◌+◌, ◌⊎◌, List, [], ◌∷◌, ◌==◌, ◌||◌, nat_lt, Option, Some, None}
+use Rattle.std.specs.Prelude.{if◌then◌else◌, Result, Ok, Err, MatchResult, ⊤}
 use Rattle.hlc_rows.specs.declared.row.Row.{Row}
-use Rattle.hlc_node.specs.declared.item.Item.{Item}
-use Rattle.hlc_node.specs.declared.item.Body.{Body}
+use Rattle.hlc_node.specs.declared.item.{Item.Item, Body.Body}
 use Rattle.hlc_node.specs.declared.item.Body.TheVariants.{Write, Batch, Report, Retire}
-use Rattle.hlc_events.specs.declared.fault.CoreFault.{CoreFault}
+use Rattle.hlc_events.specs.declared.fault.{CoreFault.CoreFault, NoNode.NoNode as NoSuchNode}
 use Rattle.hlc_events.specs.declared.fault.CoreFault.TheVariants.{NoMemory, NoNode, NoSnapshot}
-use Rattle.hlc_events.specs.declared.fault.NoNode.{NoNode as NoSuchNode}
 use Rattle.hlc_snapshot.specs.declared.fault.NoSnapshot.{NoSnapshot as NoSuchSnapshot}
-use Rattle.hlc_core.specs.declared.listing.Pair.{Pair}
-use Rattle.hlc_heads.specs.Heads.{AcceptedView}
-use Rattle.hlc_heads.specs.declared.heads.TheConstants.{MAX_INITIAL_NODES}
-use Rattle.hlc_vacuum_draft.specs.declared.report.Numbers.{Numbers}
-use Rattle.hlc_vacuum_draft.specs.declared.report.Report.{Report as AReport}
+use Rattle.hlc_core.specs.{declared.listing.Pair.Pair, Listing.IsListing}
+use Rattle.hlc_heads.specs.{Heads.AcceptedView, declared.heads.TheConstants.MAX_INITIAL_NODES}
+use Rattle.hlc_vacuum_draft.specs.declared.report.{Numbers.Numbers, Report.Report as AReport}
 use Rattle.hlc_vacuum_draft.specs.Report.{numbers_of}
-use Rattle.hlc_core.specs.Listing.{IsListing}
 use Rattle.hlc_core.specs.Past.{Step, Started, Took, Opened, Closed, Vacuumed, Joined, numbered, count, floor, last_id}
-use Rattle.hlc_core.specs.Past.{stamp_of}
-use Rattle.hlc_core.specs.Past.{writes, item_refusal, join_refusal, join_at_refusal, room_refusal, open_refusal}
-use Rattle.hlc_core.specs.Past.{vacuum_refusal}
+use Rattle.hlc_core.specs.Past.{stamp_of, writes, item_refusal, join_refusal, join_at_refusal, room_refusal}
+use Rattle.hlc_core.specs.Past.{open_refusal, vacuum_refusal}
 pub use Rattle.hlc_checkpoint.specs.Sorted.{AreRowsTo}
 pub use Rattle.hlc_columns.specs.Sizes.{AreSizes}
 pub use Rattle.hlc_table_column.specs.Versions.{AreVersions}

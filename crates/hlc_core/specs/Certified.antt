@@ -1,16 +1,12 @@
 -- The certificate of the stored rows at or below a stamp: what a vacuum to it would show that drops none of them.
 use Rattle.std.specs.Prelude.{◌≡◌, ℕ, ◌<◌, List, length, None, Result, Ok, Err, ⊤}
-use Rattle.hlc_rows.specs.declared.row.Row.{Row}
-use Rattle.hlc_rows.specs.Rows.{IsRowSet}
+use Rattle.hlc_rows.specs.{declared.row.Row.Row, Rows.IsRowSet}
 use Rattle.hlc_witness.specs.Fewest.{Alike}
-use Rattle.hlc_vacuum_draft.specs.Vacuumed.{rows_to}
-use Rattle.hlc_vacuum_draft.specs.declared.report.Report.{Report}
+use Rattle.hlc_vacuum_draft.specs.{Vacuumed.rows_to, declared.report.Report.Report}
 use Rattle.hlc_events.specs.declared.certificate_fault.CertificateFault.{CertificateFault}
 use Rattle.hlc_events.specs.declared.certificate_fault.CertificateFault.TheVariants.{Vacuum, NotFewest}
-use Rattle.hlc_core.specs.Past.{Step, writes, vacuum_refusal}
-use Rattle.hlc_core.specs.Stored.{AreVacuumPoints}
-use Rattle.hlc_core.specs.StoreView.{StoreView, with_rows_left}
-use Rattle.hlc_core.specs.Calls.{IsRefusal, Vacuums}
+use Rattle.hlc_core.specs.{Past.Step, Past.writes, Past.vacuum_refusal, StoreView.StoreView, StoreView.with_rows_left}
+use Rattle.hlc_core.specs.{Stored.AreVacuumPoints, Calls.IsRefusal, Calls.Vacuums}
 
 -- This is the report of a vacuum to the stamp that leaves all of these stored rows and moves only the horizon. So the
 -- rows at or below the stamp are the fewest, and the cheapest, that answer as all accepted writes do at the snapshots

@@ -1,7 +1,6 @@
 -- The differences between two open snapshots, and a listing with changes made to it.
 use Rattle.std.specs.Prelude.{◌≡◌, ◌⊎◌, ℕ, List, [], ◌∷◌, ◌++◌, Option, Some, None}
-use Rattle.std.specs.Cmp.Lexicographic.{slice_cmp}
-use Rattle.std.specs.Ordering.{nat_cmp, match_ordering}
+use Rattle.std.specs.{Cmp.Lexicographic.slice_cmp, Ordering.nat_cmp, Ordering.match_ordering}
 pub use Rattle.hlc_columns.specs.Differences.{Difference, AreDifferences}
 use Rattle.hlc_core.specs.declared.listing.Pair.{Pair}
 use Rattle.hlc_core.specs.Past.{Step, stamp_of, writes}

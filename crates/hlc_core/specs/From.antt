@@ -1,20 +1,15 @@
 -- Histories of a store that began with a past, as that of a state; and what is promised of them.
 use Rattle.std.specs.Prelude.{◌≡◌, ℕ, ◌≤◌, List, [], ◌∷◌, Contains, length, Option, Some, ⊤}
 use Rattle.hlc_columns.specs.Answers.{in_part}
-use Rattle.hlc_rows.specs.declared.row.Row.{Row}
-use Rattle.hlc_rows.specs.Rows.{answer, IsRowSet}
+use Rattle.hlc_rows.specs.{declared.row.Row.Row, Rows.answer, Rows.IsRowSet}
 use Rattle.hlc_node.specs.declared.item.Item.{Item}
-use Rattle.hlc_witness.specs.Fewest.{Alike}
-use Rattle.hlc_witness.specs.Cost.{rows_cost}
+use Rattle.hlc_witness.specs.{Fewest.Alike, Cost.rows_cost}
 use Rattle.hlc_vacuum_draft.specs.declared.report.Report.{Report}
-use Rattle.hlc_events.specs.declared.event.CoreEvent.{CoreEvent}
-use Rattle.hlc_events.specs.declared.event.CoreEvent.TheVariants.{Read, VacuumPart}
-use Rattle.hlc_core.specs.declared.reply.CoreReply.{CoreReply}
+use Rattle.hlc_events.specs.declared.event.CoreEvent.{CoreEvent, TheVariants.Read, TheVariants.VacuumPart}
+use Rattle.hlc_core.specs.{declared.reply.CoreReply.CoreReply, Stored.IsReport, Stored.LeavesFewest}
 use Rattle.hlc_core.specs.declared.reply.CoreReply.TheVariants.{Answer, Vacuumed, VacuumedPart}
 use Rattle.hlc_core.specs.Past.{Step, Took, stamp_of, writes}
-use Rattle.hlc_core.specs.Stored.{IsReport, LeavesFewest}
-use Rattle.hlc_core.specs.StoreView.{StoreView, Represents}
-use Rattle.hlc_core.specs.Parts.{IsPartReport, rows_of_keys}
+use Rattle.hlc_core.specs.{StoreView.StoreView, StoreView.Represents, Parts.IsPartReport, Parts.rows_of_keys}
 use Rattle.hlc_core.specs.History.{step_of, with_step, IsExpected, LeavesPart}
 use Rattle.hlc_core.specs.Headline.{IsMoment, SnapshotsStay, IsSeenWhole, vacuum_stamp}
 

@@ -1,6 +1,5 @@
 -- How the state of a store changes, from one call to a later one.
-use Rattle.std.specs.Prelude.{◌≡◌, ℕ, List, ◌∷◌, ◌++◌}
-use Rattle.std.specs.List.Sorted.{IsPermutation}
+use Rattle.std.specs.{Prelude.◌≡◌, Prelude.ℕ, Prelude.List, Prelude.◌∷◌, Prelude.◌++◌, List.Sorted.IsPermutation}
 use Rattle.hlc_node.specs.declared.item.Item.{Item}
 use Rattle.hlc_vacuum.specs.Representing.{IsWithin}
 use Rattle.hlc_core.specs.Past.{Step, Took, Joined, Opened, Closed, Vacuumed, PartVacuumed, item_rows}

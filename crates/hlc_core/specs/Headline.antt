@@ -2,22 +2,17 @@
 -- accepted before it, whatever vacuums dropped.
 use Rattle.std.specs.Prelude.{◌≡◌, ℕ, ◌<◌, ◌≤◌, List, ◌∷◌, ◌++◌, Contains, length, Option, Some, None}
 use Rattle.hlc_columns.specs.Answers.{in_part}
-use Rattle.hlc_rows.specs.declared.row.Row.{Row}
-use Rattle.hlc_rows.specs.Rows.{answer, newest, IsNoLater, IsRowSet}
+use Rattle.hlc_rows.specs.{declared.row.Row.Row, Rows.answer, Rows.newest, Rows.IsNoLater, Rows.IsRowSet}
 use Rattle.hlc_node.specs.declared.item.Item.{Item}
-use Rattle.hlc_witness.specs.Fewest.{Alike}
-use Rattle.hlc_witness.specs.Cost.{rows_cost}
+use Rattle.hlc_witness.specs.{Fewest.Alike, Cost.rows_cost}
 use Rattle.hlc_vacuum_draft.specs.declared.report.Report.{Report}
 use Rattle.hlc_events.specs.declared.event.CoreEvent.{CoreEvent}
-use Rattle.hlc_events.specs.declared.event.CoreEvent.TheVariants.{Read, List as ListAll, Vacuum, VacuumTo}
-use Rattle.hlc_events.specs.declared.event.CoreEvent.TheVariants.{VacuumPart}
-use Rattle.hlc_core.specs.declared.listing.Pair.{Pair}
-use Rattle.hlc_core.specs.declared.reply.CoreReply.{CoreReply}
+use Rattle.hlc_events.specs.declared.event.CoreEvent.TheVariants.{Read, List as ListAll, Vacuum, VacuumTo, VacuumPart}
+use Rattle.hlc_core.specs.declared.{listing.Pair.Pair, reply.CoreReply.CoreReply}
 use Rattle.hlc_core.specs.declared.reply.CoreReply.TheVariants.{Answer, Listing, Vacuumed, VacuumedPart}
 use Rattle.hlc_core.specs.Past.{Step, Took, floor, stamp_of, item_rows, writes}
-use Rattle.hlc_core.specs.Stored.{IsReport, LeavesFewest}
+use Rattle.hlc_core.specs.{Stored.IsReport, Stored.LeavesFewest, History.past_of}
 use Rattle.hlc_core.specs.Parts.{IsPartReport, rows_of_keys}
-use Rattle.hlc_core.specs.History.{past_of}
 
 -- at some moment of the history it was exactly this one
 pub record IsMoment (history before : List (CoreEvent × CoreReply)) : Type 0 where

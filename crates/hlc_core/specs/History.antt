@@ -1,24 +1,20 @@
 -- What a store is expected to return: the reply to an event after what took place, and the histories in which each
 -- event got the expected reply.
 use Rattle.std.specs.Prelude.{◌≡◌, ◌≢◌, ℕ, ◌+◌, List, [], ◌∷◌, Option, Some, None, Result, Ok, Err, ⊤}
-use Rattle.hlc_rows.specs.declared.row.Row.{Row}
-use Rattle.hlc_rows.specs.Rows.{answer}
+use Rattle.hlc_rows.specs.{declared.row.Row.Row, Rows.answer}
 use Rattle.hlc_columns.specs.Answers.{in_part}
 use Rattle.hlc_node.specs.Items.{retires}
-use Rattle.hlc_events.specs.declared.fault.CoreFault.{CoreFault}
-use Rattle.hlc_events.specs.declared.event.CoreEvent.{CoreEvent}
+use Rattle.hlc_events.specs.declared.{fault.CoreFault.CoreFault, event.CoreEvent.CoreEvent}
 use Rattle.hlc_events.specs.declared.event.CoreEvent.TheVariants.{Accept, Join, OpenAt, OpenFloor, Read}
-use Rattle.hlc_events.specs.declared.event.CoreEvent.TheVariants.{List as ListAll}
-use Rattle.hlc_events.specs.declared.event.CoreEvent.TheVariants.{Close, Vacuum, JoinAt, VacuumTo, VacuumPart}
-use Rattle.hlc_core.specs.declared.reply.CoreReply.{CoreReply}
+use Rattle.hlc_events.specs.declared.event.CoreEvent.TheVariants.{List as ListAll, Close, Vacuum, JoinAt, VacuumTo}
+use Rattle.hlc_events.specs.declared.event.CoreEvent.TheVariants.{VacuumPart}
+use Rattle.hlc_core.specs.{declared.reply.CoreReply.CoreReply, Stored.IsReport, Stored.LeavesFewest}
 use Rattle.hlc_core.specs.declared.reply.CoreReply.TheVariants.{Accepted, Joined, Opened, Answer, Listing, Closed}
 use Rattle.hlc_core.specs.declared.reply.CoreReply.TheVariants.{Vacuumed, VacuumedPart, Refused}
 use Rattle.hlc_core.specs.Past.{Step, Started, Took, Joined as JoinedAt, Opened as OpenedAt, Closed as ClosedOf}
 use Rattle.hlc_core.specs.Past.{Vacuumed as VacuumedTo, PartVacuumed, numbered, floor, last_id, stamp_of, writes}
 use Rattle.hlc_core.specs.Past.{item_refusal, join_refusal, join_at_refusal, room_refusal, open_refusal, vacuum_refusal}
-use Rattle.hlc_core.specs.Stored.{IsReport, LeavesFewest}
-use Rattle.hlc_core.specs.StoreView.{StoreView, Represents}
-use Rattle.hlc_core.specs.Calls.{IsWrite, IsListed, list_refusal}
+use Rattle.hlc_core.specs.{StoreView.StoreView, StoreView.Represents, Calls.IsWrite, Calls.IsListed, Calls.list_refusal}
 use Rattle.hlc_core.specs.Parts.{MayVacuumPart, VacuumsPart, rows_of_keys}
 
 -- Below, a history is the list of the events with their replies, the last one first. Out of memory is no reply: an

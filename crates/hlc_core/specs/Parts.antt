@@ -1,19 +1,14 @@
 -- Part of a vacuum: rows of the keys of one kind are dropped, and all other rows stay.
-use Rattle.std.specs.Prelude.{◌≡◌, ℕ, ◌+◌, List, ◌∷◌, length, filter, Bool, not, Option, None, Result, Ok}
-use Rattle.std.specs.Prelude.{Err, ⊤}
+use Rattle.std.specs.Prelude.{◌≡◌, ℕ, ◌+◌, List, ◌∷◌, length, filter, Bool, not, Option, None, Result, Ok, Err, ⊤}
 use Rattle.hlc_rows.specs.declared.row.Row.{Row}
-use Rattle.hlc_witness.specs.Changes.{AreChanges}
-use Rattle.hlc_witness.specs.Cost.{changes_cost}
-use Rattle.hlc_vacuum_draft.specs.declared.report.Numbers.{Numbers}
-use Rattle.hlc_vacuum_draft.specs.declared.report.Report.{Report}
-use Rattle.hlc_vacuum_draft.specs.Report.{numbers_of}
+use Rattle.hlc_witness.specs.{Changes.AreChanges, Cost.changes_cost}
+use Rattle.hlc_vacuum_draft.specs.{declared.report.Numbers.Numbers, declared.report.Report.Report, Report.numbers_of}
 use Rattle.hlc_columns.specs.Answers.{AreNext, in_part, part_end}
 use Rattle.hlc_table_column.specs.Rows.{KeyCells}
 use Rattle.hlc_events.specs.declared.fault.CoreFault.{CoreFault}
-use Rattle.hlc_core.specs.Calls.{IsRefusal}
+use Rattle.hlc_core.specs.{Calls.IsRefusal, StoreView.StoreView, StoreView.Represents}
 use Rattle.hlc_core.specs.Past.{Step, PartVacuumed, writes, vacuum_refusal}
 use Rattle.hlc_core.specs.Stored.{AreVacuumPoints, LeavesFewest}
-use Rattle.hlc_core.specs.StoreView.{StoreView, Represents}
 
 -- among some rows, those of the keys of a kind
 abbrev pub rows_of_keys : (List ℕ → Bool) → List Row → List Row

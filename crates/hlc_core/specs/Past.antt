@@ -2,25 +2,16 @@
 use Rattle.std.specs.Prelude.{◌≡◌, ◌≢◌, ℕ, ◌+◌, ◌≤◌, List, [], ◌∷◌, ◌++◌, length, max, Bool, false, ◌==◌, not, nat_le}
 use Rattle.std.specs.Prelude.{nat_lt, slice_index_or, Option, Some, None, if◌then◌else◌, ⊤}
 use Rattle.hlc_intake.specs.IntakeView.{IntakeView}
-use Rattle.hlc_heads.specs.Heads.{a_link}
-use Rattle.hlc_checkpoint.specs.StoreView.{StoreView}
-use Rattle.hlc_checkpoint.specs.Checkpoint.{IsCheckpoint}
-use Rattle.hlc_node.specs.declared.item.Item.{Item}
-use Rattle.hlc_rows.specs.declared.row.Row.{Row}
-use Rattle.hlc_node.specs.declared.item.Body.{Body}
+use Rattle.hlc_heads.specs.{Heads.a_link, Low.low, declared.heads.TheConstants.MAX_NODES}
+use Rattle.hlc_checkpoint.specs.{StoreView.StoreView, Checkpoint.IsCheckpoint}
+use Rattle.hlc_node.specs.{declared.item.Item.Item, declared.item.Body.Body, Items.body_refusal, Items.retires}
+use Rattle.hlc_rows.specs.{declared.row.Row.Row, declared.limits.BodyFault.BodyFault, Writes.rows_written}
 use Rattle.hlc_node.specs.declared.item.Body.TheVariants.{Write, Batch, Report, Retire}
-use Rattle.hlc_rows.specs.declared.limits.BodyFault.{BodyFault}
-use Rattle.hlc_rows.specs.Writes.{rows_written}
-use Rattle.hlc_node.specs.Items.{body_refusal, retires}
-use Rattle.hlc_heads.specs.Low.{low}
-use Rattle.hlc_heads.specs.declared.heads.TheConstants.{MAX_NODES}
 use Rattle.hlc_heads.specs.declared.heads.JoinFault.TheVariants.{TooManyNodes, BelowFloor}
 use Rattle.hlc_intake.specs.declared.intake.LinkFault.TheVariants.{Retired, NotNext, NumbersSpent, StampNotRising}
 use Rattle.hlc_values.specs.declared.bounds.TheConstants.{NUMBER_BOUND}
-use Rattle.hlc_events.specs.Faults.{of_registry}
-use Rattle.hlc_events.specs.declared.fault.CoreFault.{CoreFault}
-use Rattle.hlc_snapshot.specs.declared.snapshot.Snapshot.{Snapshot}
-use Rattle.hlc_snapshot.specs.declared.fault.SnapshotFault.{SnapshotFault}
+use Rattle.hlc_events.specs.{Faults.of_registry, declared.fault.CoreFault.CoreFault}
+use Rattle.hlc_snapshot.specs.declared.{snapshot.Snapshot.Snapshot, fault.SnapshotFault.SnapshotFault}
 use Rattle.hlc_snapshot.specs.RegistryView.{stamp_in, without, room_refusal as room_in}
 use Rattle.hlc_events.specs.declared.fault.CoreFault.TheVariants.{NoNode, Link, Body as bad_body, Join, AboveFloor}
 use Rattle.hlc_events.specs.declared.fault.CoreFault.TheVariants.{BelowHorizon}

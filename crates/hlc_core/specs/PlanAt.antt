@@ -3,8 +3,7 @@ use Rattle.std.specs.Prelude.{◌≡◌, ℕ, List}
 use Rattle.hlc_snapshot.specs.RegistryView.{stamps_to}
 use Rattle.hlc_clock.specs.Points.{ArePoints}
 use Rattle.hlc_vacuum_draft.specs.Plan.{PlanView, TallyView, IsPlanOf, tally_of}
-use Rattle.hlc_vacuum.specs.declared.part.PartPlan.{PartPlan}
-use Rattle.hlc_vacuum.specs.declared.part.PartTally.{PartTally}
+use Rattle.hlc_vacuum.specs.declared.part.{PartPlan.PartPlan, PartTally.PartTally}
 use Rattle.hlc_vacuum.specs.Part.{IsPartOf, with_plan}
 use Rattle.hlc_core.specs.StoreView.{StoreView}
 

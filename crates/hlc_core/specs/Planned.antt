@@ -4,15 +4,11 @@ use Rattle.hlc_events.specs.declared.event.CoreEvent.{CoreEvent}
 use Rattle.hlc_events.specs.declared.event.CoreEvent.TheVariants.{Vacuum, VacuumTo, VacuumPart}
 use Rattle.hlc_vacuum.specs.declared.part.PartPlan.{PartPlan}
 use Rattle.hlc_vacuum_draft.specs.Report.{report_of}
-use Rattle.hlc_core.specs.declared.planned.Planned.{Planned}
+use Rattle.hlc_core.specs.declared.{planned.Planned.Planned, reply.CoreReply.CoreReply}
 use Rattle.hlc_core.specs.declared.planned.Planned.TheVariants.{Whole, Part, Refused as RefusedFor}
-use Rattle.hlc_core.specs.declared.reply.CoreReply.{CoreReply}
 use Rattle.hlc_core.specs.declared.reply.CoreReply.TheVariants.{Vacuumed, VacuumedPart, Refused}
-use Rattle.hlc_core.specs.Checkpoint.{floor_in}
-use Rattle.hlc_core.specs.Past.{Step, floor}
-use Rattle.hlc_core.specs.PlanAt.{IsPlanAt, IsPartPlanAt}
-use Rattle.hlc_core.specs.StoreView.{StoreView, Represents}
-use Rattle.hlc_core.specs.History.{IsReplyTo, expected_refusal}
+use Rattle.hlc_core.specs.{Checkpoint.floor_in, Past.Step, Past.floor, History.IsReplyTo, History.expected_refusal}
+use Rattle.hlc_core.specs.{PlanAt.IsPlanAt, PlanAt.IsPartPlanAt, StoreView.StoreView, StoreView.Represents}
 
 -- the event asks for a vacuum, or part of one, to this stamp: the floor, or its own
 abbrev pub IsAsked : StoreView → CoreEvent → ℕ → Type 0

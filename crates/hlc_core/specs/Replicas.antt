@@ -1,8 +1,7 @@
 -- What replicas of one log have in common: the same items of each node, and the same nodes that joined at the same
 -- starts, in any order between the links, with any snapshots and vacuums between.
 use Rattle.std.specs.Prelude.{◌≡◌, ℕ, Bool, false, List, [], ◌∷◌, ◌++◌, ◌==◌, if◌then◌else◌}
-use Rattle.hlc_node.specs.declared.item.Item.{Item}
-use Rattle.hlc_node.specs.Items.{retires}
+use Rattle.hlc_node.specs.{declared.item.Item.Item, Items.retires}
 use Rattle.hlc_core.specs.Past.{Step, Began, initial_nodes, Took, Joined, IsLegal}
 use Rattle.hlc_core.specs.StoreView.{StoreView}
 

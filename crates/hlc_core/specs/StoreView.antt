@@ -4,8 +4,7 @@ use Rattle.hlc_intake.specs.IntakeView.{IntakeView}
 use Rattle.hlc_snapshot.specs.RegistryView.{stamps}
 use Rattle.hlc_vacuum.specs.Representing.{RowsRepresent}
 use Rattle.hlc_core.specs.Past.{Step, initial_nodes, numbered, count, head, retired, top, horizon, last_id}
-use Rattle.hlc_core.specs.Past.{open_snapshots, writes}
-use Rattle.hlc_core.specs.Past.{IsLegal}
+use Rattle.hlc_core.specs.Past.{open_snapshots, writes, IsLegal}
 use Rattle.hlc_core.specs.Stored.{IsStoredCount}
 pub use Rattle.hlc_checkpoint.specs.StoreView.{StoreView, marks_of, with_rows, with_rows_left, without_snapshots}
 pub use Rattle.hlc_checkpoint.specs.StoreView.{greatest_head, HasNodes, HasStamps, HasLastItem, IsUnderHead}

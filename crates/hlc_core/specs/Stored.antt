@@ -1,18 +1,13 @@
 -- The accepted writes that vacuums keep, and their reports.
-use Rattle.std.specs.Prelude.{◌≡◌, ℕ, ◌+◌, List, [], ◌∷◌, length}
-use Rattle.std.specs.List.Sorted.{IsPermutation}
-use Rattle.hlc_rows.specs.declared.row.Row.{Row}
-use Rattle.hlc_rows.specs.Rows.{IsRowSet}
+use Rattle.std.specs.Prelude.{◌≡◌, ℕ, ◌+◌, List, [], ◌∷◌, length, IsPermutation}
+use Rattle.hlc_rows.specs.{declared.row.Row.Row, Rows.IsRowSet}
 use Rattle.hlc_snapshot.specs.RegistryView.{stamps_to}
 use Rattle.hlc_clock.specs.Points.{ArePoints}
-use Rattle.hlc_witness.specs.declared.witness.Witness.{Witness}
-use Rattle.hlc_witness.specs.Changes.{AreChanges}
-use Rattle.hlc_witness.specs.Fewest.{Fewest}
+use Rattle.hlc_witness.specs.{declared.witness.Witness.Witness, Changes.AreChanges, Fewest.Fewest}
 use Rattle.hlc_witness.specs.Cost.{Cheapest, changes_cost, rows_cost}
-use Rattle.hlc_vacuum_draft.specs.Vacuumed.{rows_to}
+use Rattle.hlc_vacuum_draft.specs.{Vacuumed.rows_to, declared.report.Report.Report}
 use Rattle.hlc_vacuum.specs.Representing.{count_above, count_between}
 use Rattle.hlc_witness.specs.Certificate.{RowsAscend, IsCertificate}
-use Rattle.hlc_vacuum_draft.specs.declared.report.Report.{Report}
 use Rattle.hlc_core.specs.Past.{Step, Vacuumed, vacuumed, part_dropped, open_snapshots, writes}
 
 -- the points of a vacuum to a stamp after this past: the stamps of the open snapshots at or below it, and the stamp

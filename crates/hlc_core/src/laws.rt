@@ -1,7 +1,7 @@
 //! What is true of every legal past, and of cores that represent one.
 ghost use Rattle.std.specs.Prelude.{◌≡◌, ◌+◌, ◌<◌, ◌≤◌, ◌⊎◌, true, false, ℕ, List, [], ◌∷◌, ◌++◌, Some, None, All};
 ghost use Rattle.std.specs.Prelude.{length};
-ghost use Rattle.hlc_rows.specs.Rows.{IsRowSet, answer};
+ghost use Rattle.hlc_rows.specs.{Rows.IsRowSet, Rows.answer, declared.row.Row.Row as ARow};
 ghost use Rattle.hlc_core.specs.Past.{Step, Began, Took, Joined, IsLegal, initial_nodes, numbered, retired, top};
 ghost use Rattle.hlc_core.specs.Past.{writes, head, floor, open_snapshots, item_refusal, join_refusal, join_at_refusal};
 ghost use Rattle.hlc_core.specs.Past.{greatest_accepted, stamp_of};
@@ -10,15 +10,11 @@ ghost use Rattle.hlc_core.specs.Checkpoint.{IsCheckpoint, IsCopyOf, IsFirstReaso
 ghost use Rattle.hlc_witness.specs.Certificate.{RowsAscend};
 ghost use Rattle.hlc_heads.specs.declared.heads.TheConstants.{MAX_INITIAL_NODES};
 ghost use Rattle.hlc_checkpoint.specs.declared.checkpoint.RestoreFault.{RestoreFault as AFault};
-ghost use Rattle.hlc_core.specs.Listing.{IsListing};
+ghost use Rattle.hlc_core.specs.{Listing.IsListing, Headline.IsFaithful, History.RepresentsHistory};
 ghost use Rattle.hlc_core.specs.Differences.{Difference, AreDifferences, patched};
-ghost use Rattle.hlc_core.specs.History.{RepresentsHistory};
-ghost use Rattle.hlc_core.specs.Headline.{IsFaithful};
 ghost use Rattle.hlc_events.specs.declared.event.CoreEvent.{CoreEvent as AnEvent};
-ghost use Rattle.hlc_core.specs.declared.reply.CoreReply.{CoreReply as AReply};
-ghost use Rattle.hlc_core.specs.declared.listing.Pair.{Pair as APair};
+ghost use Rattle.hlc_core.specs.declared.{reply.CoreReply.CoreReply as AReply, listing.Pair.Pair as APair};
 ghost use Rattle.hlc_node.specs.declared.item.Item.{Item as AnItem};
-ghost use Rattle.hlc_rows.specs.declared.row.Row.{Row as ARow};
 
 /// No two accepted writes are alike in key, stamp and node, so a read has one answer.
 pub fn accepted_writes_are_a_row_set()

@@ -1,13 +1,11 @@
 //! Vacuums that events ask for: planned first, and then carried out, which needs no memory.
 ghost use Rattle.std.specs.Prelude.{◌≡◌, ℕ, List, None, Some, IfOk, IfErr, OnErr};
-ghost use Rattle.hlc_core.specs.Past.{Step};
-ghost use Rattle.hlc_core.specs.StoreView.{Represents};
+ghost use Rattle.hlc_core.specs.{Past.Step, StoreView.Represents};
 ghost use Rattle.hlc_core.specs.History.{RepresentsHistory, IsStep, IsMove, IsVacuum, IsRefused, IsReplyTo};
 ghost use Rattle.hlc_core.specs.History.{expected_refusal};
 ghost use Rattle.hlc_core.specs.Planned.{IsAsked, IsPossible, IsPlannedFor, reply_of};
 ghost use Rattle.hlc_events.specs.declared.event.CoreEvent.{CoreEvent as AnEvent};
-ghost use Rattle.hlc_core.specs.declared.reply.CoreReply.{CoreReply as AReply};
-ghost use Rattle.hlc_core.specs.declared.reply.CoreReply.TheVariants.{Refused as refused_by};
+ghost use Rattle.hlc_core.specs.declared.reply.CoreReply.{CoreReply as AReply, TheVariants.Refused as refused_by};
 ghost use Rattle.hlc_vacuum.specs.Representing.{IsWithin};
 
 use crate::reply::CoreReply;

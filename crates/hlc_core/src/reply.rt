@@ -1,13 +1,10 @@
 //! The replies of a store to events.
 ghost use Rattle.std.specs.Prelude.{◌≡◌, ◌↔◌, IsTrue, List};
-ghost use Rattle.std.specs.Cmp.Lexicographic.{pointwise_decides};
-ghost use Rattle.std.proofs.Common.{rules};
-ghost use Rattle.std.proofs.lemmas.Grind.{common_steps};
+ghost use Rattle.std.{specs.Cmp.Lexicographic.pointwise_decides, proofs.Common.rules, proofs.lemmas.Grind.common_steps};
 ghost use Rattle.hlc_vacuum_draft.specs.declared.report.Report.{Report as AReport};
 ghost use Rattle.hlc_vacuum_draft.specs.contracts.exact.ReportExact.TheImpl.Laws.{equal-law as report_equal};
-ghost use Rattle.hlc_core.specs.declared.listing.Pair.{Pair as APair};
+ghost use Rattle.hlc_core.specs.{declared.listing.Pair.Pair as APair, History.IsPlain};
 ghost use Rattle.hlc_core.specs.contracts.exact.PairExact.TheImpl.Laws.{equal-law as pair_equal};
-ghost use Rattle.hlc_core.specs.History.{IsPlain};
 
 use crate::listing::Listing;
 use hlc_clock::Stamp;

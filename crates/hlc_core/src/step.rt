@@ -1,11 +1,9 @@
 //! The calls of a core by cases, as events with replies.
 ghost use Rattle.std.specs.Prelude.{◌≡◌, ◌≢◌, ℕ, List, IfOk, IfErr, OnOk, OnErr};
-ghost use Rattle.hlc_core.specs.Past.{Step};
-ghost use Rattle.hlc_core.specs.StoreView.{Represents};
+ghost use Rattle.hlc_core.specs.{Past.Step, StoreView.Represents, declared.reply.CoreReply.CoreReply as AReply};
 ghost use Rattle.hlc_core.specs.History.{RepresentsHistory, Steps, Moves, IsQuestion, IsVacuum, IsRefused, IsPlain};
 ghost use Rattle.hlc_core.specs.History.{IsReplyTo};
 ghost use Rattle.hlc_events.specs.declared.event.CoreEvent.{CoreEvent as AnEvent};
-ghost use Rattle.hlc_core.specs.declared.reply.CoreReply.{CoreReply as AReply};
 ghost use Rattle.hlc_vacuum.specs.Representing.{IsWithin};
 
 use crate::reply::CoreReply;

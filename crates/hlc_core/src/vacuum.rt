@@ -1,11 +1,8 @@
 //! The vacuums of a store.
 ghost use Rattle.std.specs.Prelude.{◌≡◌, ◌≤◌, IfOk, OnOk, OnErr, List};
-ghost use Rattle.hlc_core.specs.Past.{Step, floor};
-ghost use Rattle.hlc_core.specs.StoreView.{Represents};
-ghost use Rattle.hlc_core.specs.Parts.{VacuumsPartCounted};
+ghost use Rattle.hlc_core.specs.{Past.Step, Past.floor, StoreView.Represents};
+ghost use Rattle.hlc_core.specs.{Parts.VacuumsPartCounted, Certified.Certifies, Checkpoint.floor_in};
 ghost use Rattle.hlc_core.specs.Calls.{Vacuums, VacuumsTo, VacuumsCounted, VacuumsToCounted};
-ghost use Rattle.hlc_core.specs.Certified.{Certifies};
-ghost use Rattle.hlc_core.specs.Checkpoint.{floor_in};
 ghost use Rattle.hlc_vacuum.specs.Representing.{IsWithin};
 
 use crate::store::Core;

@@ -5,14 +5,12 @@ use Rattle.hlc_clock.specs.Stamp.{stamp_text}
 use Rattle.hlc_heads.specs.Faults.{join_code, join_word, join_text}
 use Rattle.hlc_intake.specs.Faults.{link_code, link_word, link_text}
 use Rattle.hlc_rows.specs.Faults.{body_code, body_text}
-use Rattle.hlc_snapshot.specs.Faults.{snapshot_code, snapshot_text}
-use Rattle.hlc_snapshot.specs.declared.fault.SnapshotFault.{SnapshotFault}
-use Rattle.hlc_snapshot.specs.declared.fault.SnapshotFault.TheVariants as snapshot_fault
-use Rattle.hlc_events.specs.declared.fault.CoreFault.{CoreFault}
+use Rattle.hlc_snapshot.specs.{Faults.snapshot_code, Faults.snapshot_text, declared.fault.SnapshotFault.SnapshotFault}
+use Rattle.hlc_events.specs.declared.{fault.CoreFault.CoreFault, certificate_fault.CertificateFault.CertificateFault}
 use Rattle.hlc_events.specs.declared.fault.CoreFault.TheVariants.{NoNode, Link, Body, Join, AboveFloor, BelowHorizon}
 use Rattle.hlc_events.specs.declared.fault.CoreFault.TheVariants.{Snapshot, NoSnapshot, NoMemory}
-use Rattle.hlc_events.specs.declared.certificate_fault.CertificateFault.{CertificateFault}
 use Rattle.hlc_events.specs.declared.certificate_fault.CertificateFault.TheVariants.{Vacuum, NotFewest}
+use Rattle.hlc_snapshot.specs.declared.fault.SnapshotFault.TheVariants as snapshot_fault
 
 -- the number of a refusal
 abbrev pub core_code : CoreFault → ℕ

@@ -1,7 +1,6 @@
 -- The least value over those that have not retired is the one of the definition. It does not fall when one of them
 -- rises, nor when one is added that is not below it, and is the same for the same values.
-use Rattle.std.proofs.Common.{◌≡◌, ℕ, zero, suc, ◌+◌, ◌<◌, ◌≤◌, true, false, Bool, Some}
-use Rattle.std.proofs.Common.{None, Option, refl, ap, sym}
+use Rattle.std.proofs.Common.{◌≡◌, ℕ, zero, suc, ◌+◌, ◌<◌, ◌≤◌, true, false, Bool, Some, None, Option, refl, ap, sym}
 use Rattle.std.proofs.Common.{◌∙◌, ◌⊎◌, subst, inl, inr, arith, length}
 use Rattle.std.proofs.lemmas.Bool.{cond-true, cond-false, cases_lt, cases_eq, cases_Bool}
 use Rattle.hlc_heads.specs.Low.{lower, least_left, or_else, low}

@@ -1,8 +1,7 @@
 -- Why no node joins: the number, the word and the text of each refusal.
 use Rattle.std.specs.Prelude.{ℕ, List, ◌++◌, codes}
 use Rattle.hlc_clock.specs.Stamp.{stamp_text}
-use Rattle.hlc_heads.specs.declared.heads.JoinFault.{JoinFault}
-use Rattle.hlc_heads.specs.declared.heads.JoinFault.TheVariants.{TooManyNodes, BelowFloor}
+use Rattle.hlc_heads.specs.declared.heads.JoinFault.{JoinFault, TheVariants.TooManyNodes, TheVariants.BelowFloor}
 
 -- the number of a refusal to let a node join
 abbrev pub join_code : JoinFault → ℕ

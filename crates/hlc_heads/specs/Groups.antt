@@ -1,10 +1,8 @@
 -- The least head of each group of nodes that have not retired.
 use Rattle.std.specs.Prelude.{◌≡◌, ◌≢◌, ℕ, ◌+◌, ◌*◌, ◌/◌, ◌<◌, ◌≤◌, true, false, List, length, Option, Some, None}
-use Rattle.std.specs.Prelude.{MatchOption}
-use Rattle.std.specs.Prelude.{slice_index_or}
+use Rattle.std.specs.Prelude.{MatchOption, slice_index_or}
 use Rattle.hlc_intake.specs.IntakeView.{IntakeView}
-use Rattle.hlc_heads.specs.declared.groups.TheConstants.{GROUP}
-use Rattle.hlc_heads.specs.Heads.{link_at}
+use Rattle.hlc_heads.specs.{declared.groups.TheConstants.GROUP, Heads.link_at}
 
 -- the least head of the nodes from the first number on and below the second one that have not retired, if there is one
 abbrev pub IsLeastIn : List IntakeView → ℕ → ℕ → Option ℕ → Type 0

@@ -1,16 +1,12 @@
 -- The links of all nodes, and the floor, which is the least of their heads.
 use Rattle.std.specs.Prelude.{◌≡◌, ℕ, ◌+◌, ◌==◌, ◌<◌, ◌≤◌, ◌⊎◌, ◌++◌, if◌then◌else◌, Bool, true, false, List, [], ◌∷◌}
-use Rattle.std.specs.Prelude.{length}
-use Rattle.std.specs.Prelude.{max, replicate}
-use Rattle.std.specs.Prelude.{slice_set, slice_index_or, Result, Ok, Err}
+use Rattle.std.specs.Prelude.{length, max, replicate, slice_set, slice_index_or, Result, Ok, Err}
 use Rattle.std.specs.declared.alloc.AllocError.{AllocError}
 use Rattle.hlc_intake.specs.IntakeView.{IntakeView}
 use Rattle.hlc_values.specs.declared.bounds.TheConstants.{NUMBER_BOUND}
-use Rattle.hlc_heads.specs.Low.{low}
+use Rattle.hlc_heads.specs.{Low.low, declared.heads.NodesOutOfRange.NodesOutOfRange}
 use Rattle.hlc_heads.specs.declared.heads.TheConstants.{MAX_INITIAL_NODES, MAX_NODES}
-use Rattle.hlc_heads.specs.declared.heads.NodesOutOfRange.{NodesOutOfRange}
-use Rattle.hlc_heads.specs.declared.heads.JoinFault.{JoinFault}
-use Rattle.hlc_heads.specs.declared.heads.JoinFault.TheVariants.{TooManyNodes, BelowFloor}
+use Rattle.hlc_heads.specs.declared.heads.JoinFault.{JoinFault, TheVariants.TooManyNodes, TheVariants.BelowFloor}
 
 -- the receipt of an accepted item: its node, its stamp, and whether it was the node's last one
 pub record AcceptedView : Type 0 where

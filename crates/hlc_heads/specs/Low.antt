@@ -1,6 +1,5 @@
 -- The least of some values, over those whose node has not retired.
-use Rattle.std.specs.Prelude.{ℕ, zero, suc, Bool, Option, Some}
-use Rattle.std.specs.Prelude.{None, min, if◌then◌else◌}
+use Rattle.std.specs.Prelude.{ℕ, zero, suc, Bool, Option, Some, None, min, if◌then◌else◌}
 
 -- the lower of the two, or the one
 abbrev pub lower : Option ℕ → ℕ → ℕ

@@ -1,7 +1,6 @@
 //! The receiving end of a link: the order of its items.
 ghost use Rattle.std.specs.Prelude.{◌≡◌, false};
-ghost use Rattle.hlc_intake.specs.Faults.{link_code, link_word};
-ghost use Rattle.hlc_intake.specs.IntakeView.{Admits};
+ghost use Rattle.hlc_intake.specs.{Faults.link_code, Faults.link_word, IntakeView.Admits};
 
 use hlc_clock::Stamp;
 use hlc_values::NUMBER_BOUND;

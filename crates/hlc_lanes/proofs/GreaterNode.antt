@@ -2,8 +2,7 @@
 -- otherwise.
 use Rattle.std.proofs.Common.{◌≡◌, ℕ, ◌+◌, ◌<◌, ◌≤◌, ◌∙◌, sym, max, get_or, subst, List, Option, Some, None, arith, inl}
 use Rattle.std.proofs.Common.{inr}
-use Rattle.std.specs.Prelude.{unwrap_or}
-use Rattle.std.proofs.lemmas.Bool.{cases_lt, cases_eq}
+use Rattle.std.{specs.Prelude.unwrap_or, proofs.lemmas.Bool.cases_lt, proofs.lemmas.Bool.cases_eq}
 use Rattle.hlc_lanes.specs.Places.{IsGreatestNodeBelow}
 
 more : (P : ℕ → Type 0) (i : ℕ) → ((k : ℕ) → k < i → P k) → P i → (k : ℕ) → k < i + 1 → P k

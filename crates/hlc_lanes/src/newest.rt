@@ -4,8 +4,7 @@
 //! 0: then a search decides whether 0 itself is among the stamps.
 ghost use Rattle.std.specs.Prelude.{◌≡◌, ◌+◌, ◌≤◌, length, max, map};
 ghost use Rattle.std.specs.Simd.Lanes.{chunk};
-ghost use Rattle.hlc_lanes.specs.Newest.{IsNewest};
-ghost use Rattle.hlc_lanes.specs.Greatest.{within, greatest};
+ghost use Rattle.hlc_lanes.specs.{Newest.IsNewest, Greatest.within, Greatest.greatest};
 
 use std::simd::prelude::*;
 

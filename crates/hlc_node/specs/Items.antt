@@ -1,10 +1,8 @@
 -- An item, and what its body may be.
 use Rattle.std.specs.Prelude.{ℕ, ◌≤◌, ⊤, Bool, true, false, length, Option, None}
-use Rattle.hlc_rows.specs.declared.limits.BodyFault.{BodyFault}
+use Rattle.hlc_rows.specs.{declared.limits.BodyFault.BodyFault, Writes.batch_refusal}
 use Rattle.hlc_rows.specs.Limits.{write_refusal, IsShortValue}
-use Rattle.hlc_rows.specs.Writes.{batch_refusal}
-use Rattle.hlc_node.specs.declared.item.Item.{Item}
-use Rattle.hlc_node.specs.declared.item.Body.{Body}
+use Rattle.hlc_node.specs.declared.item.{Item.Item, Body.Body}
 use Rattle.hlc_node.specs.declared.item.Body.TheVariants.{Write, Batch, Report, Retire}
 
 -- the first reason to refuse a body: that of its write, or of its writes

@@ -1,14 +1,11 @@
 -- The state of a node, and its reply to each event.
 use Rattle.std.specs.Prelude.{ℕ, Bool, ◌+◌, List, [], ◌∷◌, ◌==◌, Option, Some, None, Result, Ok, Err, if◌then◌else◌}
 use Rattle.hlc_values.specs.declared.bounds.TheConstants.{NUMBER_BOUND}
-use Rattle.hlc_clock.specs.NextStamp.{expected_stamp}
-use Rattle.hlc_clock.specs.declared.clock.ClockFault.{ClockFault}
-use Rattle.hlc_node.specs.declared.item.Item.{Item}
-use Rattle.hlc_node.specs.declared.item.Body.{Body}
+use Rattle.hlc_clock.specs.{NextStamp.expected_stamp, declared.clock.ClockFault.ClockFault}
+use Rattle.hlc_node.specs.declared.item.{Item.Item, Body.Body}
 use Rattle.hlc_rows.specs.declared.limits.BodyFault.{BodyFault}
-use Rattle.hlc_node.specs.declared.node.NodeFault.{NodeFault}
-use Rattle.hlc_node.specs.declared.node.NodeFault.TheVariants.{Retired, Body as bad_body, NumbersSpent}
-use Rattle.hlc_node.specs.declared.node.NodeFault.TheVariants.{Clock as no_stamp}
+use Rattle.hlc_node.specs.declared.node.NodeFault.{NodeFault, TheVariants.Retired, TheVariants.Body as bad_body}
+use Rattle.hlc_node.specs.declared.node.NodeFault.{TheVariants.NumbersSpent, TheVariants.Clock as no_stamp}
 use Rattle.hlc_node.specs.Items.{an_item, body_refusal, retires}
 
 -- a node: its own number, the stamp of its last event or else of its start, the link number of its next item, and

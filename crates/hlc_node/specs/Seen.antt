@@ -1,11 +1,9 @@
 -- The body of an item over slices.
 use Rattle.std.specs.Prelude.{◌≡◌, ◌⊎◌, option_copied}
-use Rattle.hlc_node.specs.declared.item.Body.{Body}
-use Rattle.hlc_node.specs.declared.item.Body.TheVariants as a_body
-use Rattle.hlc_node.specs.declared.item_ref.BodyRef.{BodyRef}
+use Rattle.hlc_node.specs.declared.{item.Body.Body, item_ref.BodyRef.BodyRef}
 use Rattle.hlc_node.specs.declared.item_ref.BodyRef.TheVariants.{Write, Batch, Report, Retire}
-use Rattle.hlc_node.specs.declared.item_ref.Content.{Content}
-use Rattle.hlc_node.specs.declared.item_ref.Content.TheVariants.{Nothing, One, Many}
+use Rattle.hlc_node.specs.declared.item_ref.Content.{Content, TheVariants.Nothing, TheVariants.One, TheVariants.Many}
+use Rattle.hlc_node.specs.declared.item.Body.TheVariants as a_body
 
 -- the body whose keys and values are in these slices
 abbrev pub body_seen : BodyRef → Body

@@ -1,8 +1,6 @@
 //! `==` of these types is true exactly on equal values, and each copy is equal.
-ghost use Rattle.std.proofs.Common.{rules};
-ghost use Rattle.std.proofs.lemmas.Grind.{common_steps};
+ghost use Rattle.std.{proofs.Common.rules, proofs.lemmas.Grind.common_steps, specs.Cmp.Lexicographic.pointwise_decides};
 ghost use Rattle.std.specs.Prelude.{◌≡◌, ◌↔◌, IsTrue, List};
-ghost use Rattle.std.specs.Cmp.Lexicographic.{pointwise_decides};
 ghost use Rattle.hlc_rows.specs.contracts.exact.WriteExact.TheImpl.Laws.{equal-law as write_equal};
 ghost use Rattle.hlc_rows.specs.declared.write.Write.{Write as AWrite};
 

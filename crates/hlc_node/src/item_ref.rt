@@ -1,7 +1,6 @@
 //! An item that borrows its keys and values.
 ghost use Rattle.std.specs.Prelude.{◌≡◌, option_copied};
-ghost use Rattle.hlc_node.specs.Items.{an_item, body_refusal, retires};
-ghost use Rattle.hlc_node.specs.Seen.{IsContent};
+ghost use Rattle.hlc_node.specs.{Items.an_item, Items.body_refusal, Items.retires, Seen.IsContent};
 ghost use Rattle.hlc_node.specs.declared.item.Body.TheVariants as body;
 
 use hlc_clock::Stamp;

@@ -1,15 +1,13 @@
 -- What a run began with stays: the numbers of the items of each link go on from it, and its rows are accepted writes.
-use Rattle.std.proofs.Common.{◌≡◌, ◌⊎◌, ℕ, zero, suc, ◌+◌, ◌<◌, List, [], ◌∷◌, length, refl, ap, sym, ◌∙◌}
-use Rattle.std.proofs.Common.{subst, inl, inr, arith}
-use Rattle.std.specs.Prelude.{Contains}
-use Rattle.std.proofs.lemmas.Bool.{cases_eq, cases_lt}
+use Rattle.std.proofs.Common.{◌≡◌, ◌⊎◌, ℕ, zero, suc, ◌+◌, ◌<◌, List, [], ◌∷◌, length, refl, ap, sym, ◌∙◌, subst, inl}
+use Rattle.std.proofs.Common.{inr, arith}
+use Rattle.std.{specs.Prelude.Contains, proofs.lemmas.Bool.cases_eq, proofs.lemmas.Bool.cases_lt}
 use Rattle.std.proofs.lemmas.List.Elements.{Contains-append_left, Contains-append_right, Contains-append_cases}
 use Rattle.hlc_values.proofs.MemberLemmas.{Contains-none, Contains-cons_cases}
 use Rattle.hlc_rows.specs.declared.row.Row.{Row}
 use Rattle.hlc_core.specs.Past.{Step, Started, Took, count, head, retired, writes, IsLegal as IsLegalPast}
 use Rattle.hlc_core.specs.Replicas.{items_of}
-use Rattle.hlc_ranges.specs.Run.{Layout, Turn, Stepped, past_of, ends_with, CanBegin}
-use Rattle.hlc_ranges.specs.Run.{IsLegal, begun_writes}
+use Rattle.hlc_ranges.specs.Run.{Layout, Turn, Stepped, past_of, ends_with, CanBegin, IsLegal, begun_writes}
 use Rattle.hlc_ranges.proofs.Pasts.{IsOfItem, of-more, of-step, step-writes, step-keeps, items-untaken, count-step}
 use Rattle.hlc_ranges.proofs.Pasts.{retired-step}
 use Rattle.hlc_ranges.proofs.Turns.{past-same, past-other, stepped-none}

@@ -4,34 +4,27 @@ use Rattle.std.proofs.Common.{◌≡◌, ℕ, ◌+◌, ◌<◌, ◌≤◌, Bool,
 use Rattle.std.proofs.Common.{refl, ap, sym, ◌∙◌, subst, inl, inr, arith, append_assoc, append-nil}
 use Rattle.std.specs.Prelude.{Contains, filter, not, ◌==◌, if◌then◌else◌, option_and_then}
 use Rattle.std.proofs.lemmas.Bool.{cases_eq, cases_lt}
-use Rattle.std.proofs.lemmas.List.{map-append}
-use Rattle.std.proofs.lemmas.List.Elements.{Contains-append_left, Contains-append_right, Contains-append_cases}
-use Rattle.std.proofs.lemmas.List.Elements.{Contains-push_cases}
-use Rattle.hlc_values.proofs.MemberLemmas.{Contains-first, Contains-rest, Contains-cons_cases}
-use Rattle.hlc_values.proofs.MemberLemmas.{Contains-filter, Contains-from_filter}
-use Rattle.hlc_rows.specs.declared.row.Row.{Row}
-use Rattle.hlc_rows.specs.Rows.{is_candidate, later, newest, answer}
+use Rattle.std.proofs.lemmas.List.{map-append, Elements.Contains-append_left, Elements.Contains-append_right}
+use Rattle.std.proofs.lemmas.List.{Elements.Contains-append_cases, Elements.Contains-push_cases}
+use Rattle.hlc_values.proofs.MemberLemmas.{Contains-first, Contains-rest, Contains-cons_cases, Contains-filter}
+use Rattle.hlc_values.proofs.MemberLemmas.{Contains-from_filter}
+use Rattle.hlc_rows.specs.{declared.row.Row.Row, Rows.is_candidate, Rows.later, Rows.newest, Rows.answer}
 use Rattle.hlc_rows.proofs.NewestLemmas.{newest_is_greatest, no_newest_no_row, newest_is_unique, no_later_stamp}
 use Rattle.hlc_rows.proofs.NewestLemmas.{answer_none, answer_some, answer_stays}
 use Rattle.hlc_node.specs.declared.item.Item.{Item}
-use Rattle.hlc_snapshot.specs.declared.snapshot.Snapshot.{Snapshot}
-use Rattle.hlc_snapshot.specs.RegistryView.{stamps}
-use Rattle.hlc_core.specs.Past.{Step, Began, Took, Opened, Closed, Vacuumed, PartVacuumed, floor}
-use Rattle.hlc_core.specs.Past.{horizon, open_snapshots, last_id, writes, item_rows, IsLegal as IsLegalPast}
-use Rattle.hlc_core.specs.Replicas.{begun}
-use Rattle.hlc_core.specs.Parts.{rows_of_keys}
-use Rattle.hlc_core.specs.Checkpoint.{floor_in}
+use Rattle.hlc_snapshot.specs.{declared.snapshot.Snapshot.Snapshot, RegistryView.stamps}
+use Rattle.hlc_core.specs.Past.{Step, Began, Took, Opened, Closed, Vacuumed, PartVacuumed, floor, horizon}
+use Rattle.hlc_core.specs.Past.{open_snapshots, last_id, writes, item_rows, IsLegal as IsLegalPast}
+use Rattle.hlc_core.specs.{Replicas.begun, Parts.rows_of_keys, Checkpoint.floor_in}
 use Rattle.hlc_core.proofs.BeganLemmas.{floor-began}
 use Rattle.hlc_core.proofs.CheckpointLemmas.{floor-in}
 use Rattle.hlc_core.proofs.PartLemmas.{answer-of_keys}
 use Rattle.hlc_core.proofs.PastLemmas.{above_floor, horizon-low, open-above, vacuum-above, writes-row_set}
-use Rattle.hlc_ranges.specs.Run.{Layout, Turn, Issued, Stepped, past_of, issued, begun_writes}
-use Rattle.hlc_ranges.specs.Run.{issued_since, issued_writes, IsLegal}
-use Rattle.hlc_ranges.specs.Cut.{IsAccepted}
+use Rattle.hlc_ranges.specs.{Run.Layout, Run.Turn, Run.Issued, Run.Stepped, Run.past_of, Run.issued, Run.begun_writes}
+use Rattle.hlc_ranges.specs.{Run.issued_since, Run.issued_writes, Run.IsLegal, Cut.IsAccepted}
 use Rattle.hlc_ranges.specs.Change.{IsReadable, past_with, IsDrained, TakesOver, LeadsTo, went_on, taken_over}
 use Rattle.hlc_ranges.proofs.Turns.{past-same, past-other, past-legal, can-begin, stepped-none}
-use Rattle.hlc_ranges.proofs.Begins.{begun-stay, begun-inside}
-use Rattle.hlc_ranges.proofs.Cuts.{complete-in}
+use Rattle.hlc_ranges.proofs.{Begins.begun-stay, Begins.begun-inside, Cuts.complete-in}
 use Rattle.hlc_ranges.proofs.NewestWrites.{answer-in_part, begun-here, issued-here, rows-from}
 use Rattle.hlc_ranges.proofs.Later.{step-legal, floor-later, reads-below}
 

@@ -1,17 +1,12 @@
 -- The calls of nodes and of stores extend a legal run.
-use Rattle.std.proofs.Common.{◌≡◌, ℕ, Bool, true, false, ◌+◌, ◌<◌, ◌≤◌, List, ◌∷◌, length, Ok, Result}
-use Rattle.std.proofs.Common.{refl, ap, sym, ◌∙◌, inl, inr, arith}
+use Rattle.std.proofs.Common.{◌≡◌, ℕ, Bool, true, false, ◌+◌, ◌<◌, ◌≤◌, List, ◌∷◌, length, Ok, Result, refl, ap, sym}
+use Rattle.std.proofs.Common.{◌∙◌, inl, inr, arith}
 use Rattle.std.proofs.lemmas.Bool.{cases_eq}
 use Rattle.hlc_node.specs.Node.{NodeView, next_item, expected_issue, unless_retired}
-use Rattle.hlc_node.specs.declared.item.Body.{Body}
-use Rattle.hlc_node.specs.declared.item.Item.{Item}
-use Rattle.hlc_node.specs.declared.node.NodeFault.{NodeFault}
-use Rattle.hlc_core.specs.Past.{Step, count, retired}
-use Rattle.hlc_core.specs.StoreView.{StoreView, Represents}
+use Rattle.hlc_node.specs.declared.{item.Body.Body, item.Item.Item, node.NodeFault.NodeFault}
+use Rattle.hlc_core.specs.{Past.Step, Past.count, Past.retired, Past.floor, StoreView.StoreView, StoreView.Represents}
 use Rattle.hlc_ranges.specs.Run.{Layout, Turn, Issued, Stepped, past_of, issued, ends_with, last_stamp, IsRouted}
-use Rattle.hlc_ranges.specs.Run.{IsIssuedStep, IsLegal}
-use Rattle.hlc_core.specs.Past.{floor}
-use Rattle.hlc_ranges.specs.Run.{Sent, Received, Observed, IsMessage}
+use Rattle.hlc_ranges.specs.Run.{IsIssuedStep, IsLegal, Sent, Received, Observed, IsMessage}
 use Rattle.hlc_ranges.specs.Calls.{IsNodeOf, HasClock, Extends}
 use Rattle.hlc_ranges.proofs.Turns.{raised-same, issued-same, issued-other, issued-other_node}
 

@@ -1,20 +1,14 @@
 -- The floor of each store never falls, and what it accepts later lies above, so a cut stays one and its reads stay.
 use Rattle.std.proofs.Common.{◌≡◌, ℕ, ◌<◌, ◌≤◌, List, [], ◌∷◌, ◌++◌, sym, subst, inl, inr, arith}
-use Rattle.std.specs.Prelude.{Contains}
-use Rattle.std.proofs.lemmas.Bool.{cases_eq}
+use Rattle.std.{specs.Prelude.Contains, proofs.lemmas.Bool.cases_eq}
 use Rattle.hlc_values.proofs.MemberLemmas.{Contains-none}
-use Rattle.hlc_rows.specs.declared.row.Row.{Row}
-use Rattle.hlc_rows.specs.Rows.{answer}
-use Rattle.hlc_core.specs.Past.{Step, Took, floor}
-use Rattle.hlc_core.specs.Past.{writes}
-use Rattle.hlc_core.specs.Past.{IsLegal as IsLegalPast}
+use Rattle.hlc_rows.specs.{declared.row.Row.Row, Rows.answer}
+use Rattle.hlc_core.specs.Past.{Step, Took, floor, writes, IsLegal as IsLegalPast}
 use Rattle.hlc_core.proofs.StayLemmas.{floor-never_falls}
 use Rattle.hlc_core.proofs.PastLemmas.{above_floor, body_rows-are, writes-row_set}
-use Rattle.hlc_ranges.specs.Run.{Layout, Turn, Stepped, past_of, step_rows, IsLegal}
-use Rattle.hlc_ranges.specs.Cut.{IsCut}
+use Rattle.hlc_ranges.specs.{Run.Layout, Run.Turn, Run.Stepped, Run.past_of, Run.step_rows, Run.IsLegal, Cut.IsCut}
 use Rattle.hlc_ranges.proofs.Turns.{past-same, past-other, past-legal, stepped-none}
-use Rattle.hlc_ranges.proofs.Pasts.{step-writes, step-keeps}
-use Rattle.hlc_ranges.proofs.NewestWrites.{answer-in_part}
+use Rattle.hlc_ranges.proofs.{Pasts.step-writes, Pasts.step-keeps, NewestWrites.answer-in_part}
 
 -- the legal step of a store
 pub step-legal : (layout : Layout) (t s : ℕ) (step : Step) (run : List Turn) → t ≡ s

@@ -1,12 +1,10 @@
 -- One link of a store: its accepted items are its first ones, and all others are above its head.
-use Rattle.std.proofs.Common.{◌≡◌, ℕ, Bool, false, ◌+◌, ◌<◌, ◌≤◌, List, [], ◌∷◌, ◌++◌, length, refl, ap, sym}
-use Rattle.std.proofs.Common.{◌∙◌, subst, inl, inr, arith, append_assoc}
-use Rattle.std.specs.Prelude.{Contains}
-use Rattle.std.proofs.lemmas.List.Elements.{Contains-append_left}
+use Rattle.std.proofs.Common.{◌≡◌, ℕ, Bool, false, ◌+◌, ◌<◌, ◌≤◌, List, [], ◌∷◌, ◌++◌, length, refl, ap, sym, ◌∙◌}
+use Rattle.std.proofs.Common.{subst, inl, inr, arith, append_assoc}
+use Rattle.std.{specs.Prelude.Contains, proofs.lemmas.List.Elements.Contains-append_left}
 use Rattle.hlc_values.proofs.MemberLemmas.{Contains-none, Contains-cons_cases}
 use Rattle.hlc_node.specs.declared.item.Item.{Item}
-use Rattle.hlc_ranges.specs.Run.{ends_with}
-use Rattle.hlc_ranges.proofs.Chains.{IsChain, chain-next, chain-rises}
+use Rattle.hlc_ranges.{specs.Run.ends_with, proofs.Chains.IsChain, proofs.Chains.chain-next, proofs.Chains.chain-rises}
 
 -- the issued items of a node, the last one first, and what the store accepted of them
 pub record IsLink (base : ℕ) (ended : Bool) (last many n : ℕ) (items taken : List Item) (top : ℕ) : Type 0 where

@@ -1,31 +1,24 @@
 -- A key's rows are all in its store, so its newest row there is the newest of all; and at or below a cut all issued
 -- rows were accepted.
-use Rattle.std.proofs.Common.{◌≡◌, ℕ, ◌≤◌, ◌⊎◌, List, [], ◌∷◌, Some, None, refl, ap, sym, ◌∙◌}
-use Rattle.std.proofs.Common.{subst, inl, inr, arith}
+use Rattle.std.proofs.Common.{◌≡◌, ℕ, ◌≤◌, ◌⊎◌, List, [], ◌∷◌, Some, None, refl, ap, sym, ◌∙◌, subst, inl, inr, arith}
 use Rattle.std.specs.Prelude.{Contains, All}
-use Rattle.std.proofs.lemmas.Bool.{cases_eq}
-use Rattle.std.proofs.lemmas.List.Elements.{Contains-append_left, Contains-append_right, Contains-append_cases}
-use Rattle.std.proofs.lemmas.List.Elements.{All-head, All-tail}
+use Rattle.std.proofs.lemmas.{Bool.cases_eq, List.Elements.Contains-append_left, List.Elements.Contains-append_right}
+use Rattle.std.proofs.lemmas.{List.Elements.Contains-append_cases, List.Elements.All-head, List.Elements.All-tail}
 use Rattle.hlc_values.proofs.MemberLemmas.{Contains-none, Contains-first, Contains-rest, Contains-cons_cases}
-use Rattle.hlc_rows.specs.declared.row.Row.{Row}
-use Rattle.hlc_rows.specs.declared.write.Write.{Write as AWrite}
-use Rattle.hlc_rows.specs.Writes.{row_written, rows_written}
-use Rattle.hlc_node.specs.declared.item.Item.{Item}
-use Rattle.hlc_node.specs.declared.item.Body.{Body}
+use Rattle.hlc_rows.specs.declared.{row.Row.Row, write.Write.Write as AWrite}
+use Rattle.hlc_rows.specs.{Writes.row_written, Writes.rows_written, Rows.newest, Rows.answer, Rows.IsRowSet}
+use Rattle.hlc_node.specs.declared.item.{Item.Item, Body.Body}
 use Rattle.hlc_node.specs.declared.item.Body.TheVariants.{Write, Batch, Report, Retire}
-use Rattle.hlc_rows.specs.Rows.{newest, answer, IsRowSet}
 use Rattle.hlc_rows.proofs.NewestLemmas.{newest_is_greatest, no_newest_no_row, newest_is_unique, answer_none}
 use Rattle.hlc_rows.proofs.NewestLemmas.{answer_some}
 use Rattle.hlc_core.specs.Past.{Step, Took, writes, body_rows, item_rows}
 use Rattle.hlc_core.proofs.PastLemmas.{body_rows-are, took-writes, writes-row_set}
-use Rattle.hlc_ranges.specs.Run.{Layout, Turn, Issued, Stepped, past_of, issued, IsRouted}
-use Rattle.hlc_ranges.specs.Run.{IsIssuedStep, IsLegal, step_rows, begun_writes, issued_since, issued_writes}
-use Rattle.hlc_ranges.specs.Run.{accepted_writes}
+use Rattle.hlc_ranges.specs.Run.{Layout, Turn, Issued, Stepped, past_of, issued, IsRouted, IsIssuedStep, IsLegal}
+use Rattle.hlc_ranges.specs.Run.{step_rows, begun_writes, issued_since, issued_writes, accepted_writes}
 use Rattle.hlc_ranges.specs.Cut.{IsComplete, AreNewestAccepted, AreNewestIssued, IsConsistent}
-use Rattle.hlc_ranges.specs.Change.{IsCutOfOthers}
-use Rattle.hlc_ranges.proofs.Pasts.{of-step, step-writes}
-use Rattle.hlc_ranges.proofs.Turns.{past-same, past-other, issued-same, issued-other_node, issued-other}
-use Rattle.hlc_ranges.proofs.Turns.{past-legal, can-begin, stepped-none}
+use Rattle.hlc_ranges.{specs.Change.IsCutOfOthers, proofs.Pasts.of-step, proofs.Pasts.step-writes}
+use Rattle.hlc_ranges.proofs.Turns.{past-same, past-other, issued-same, issued-other_node, issued-other, past-legal}
+use Rattle.hlc_ranges.proofs.Turns.{can-begin, stepped-none}
 use Rattle.hlc_ranges.proofs.Begins.{rows-since, begun-stay, begun-from, begun-inside}
 use Rattle.hlc_ranges.proofs.Cuts.{issued-keeps, issued-from, complete, closed}
 

@@ -1,19 +1,16 @@
 -- Every link of a legal run is one of its machine and its store: the store accepted the first of its items, and all
 -- others are above its head.
-use Rattle.std.proofs.Common.{◌≡◌, ℕ, Bool, false, ◌+◌, ◌<◌, ◌≤◌, List, [], ◌∷◌, length, Some, max, refl, ap, sym}
-use Rattle.std.proofs.Common.{◌∙◌, subst, inl, inr, arith}
-use Rattle.std.specs.Prelude.{Contains}
-use Rattle.std.proofs.lemmas.Bool.{cases_eq}
+use Rattle.std.proofs.Common.{◌≡◌, ℕ, Bool, false, ◌+◌, ◌<◌, ◌≤◌, List, [], ◌∷◌, length, Some, max, refl, ap, sym, ◌∙◌}
+use Rattle.std.proofs.Common.{subst, inl, inr, arith}
+use Rattle.std.{specs.Prelude.Contains, proofs.lemmas.Bool.cases_eq}
 use Rattle.hlc_node.specs.declared.item.Item.{Item}
-use Rattle.hlc_core.specs.Past.{Step, Started, Began, Took, Joined, numbered}
-use Rattle.hlc_core.specs.Past.{count, head, retired, IsLegal as IsLegalPast}
-use Rattle.hlc_core.specs.Replicas.{items_of, begun}
+use Rattle.hlc_core.specs.{Past.Step, Past.Started, Past.Began, Past.Took, Past.Joined, Past.numbered, Past.count}
+use Rattle.hlc_core.specs.{Past.head, Past.retired, Past.IsLegal as IsLegalPast, Replicas.items_of, Replicas.begun}
 use Rattle.hlc_core.proofs.PastLemmas.{inside, on_link, admissible, head-same, head-other, head-joined}
 use Rattle.hlc_core.proofs.PastLemmas.{head-joined_other}
 use Rattle.hlc_replicas.proofs.ReplicaLemmas.{items-same, items-other}
-use Rattle.hlc_ranges.specs.Run.{Layout, Turn, Issued, Stepped, past_of, issued, mark_of}
-use Rattle.hlc_ranges.specs.Run.{raised_by, last_stamp, ends_with, has_ended, next_number, IsIssuedStep, IsAllowed}
-use Rattle.hlc_ranges.specs.Run.{IsLegal}
+use Rattle.hlc_ranges.specs.Run.{Layout, Turn, Issued, Stepped, past_of, issued, mark_of, raised_by, last_stamp}
+use Rattle.hlc_ranges.specs.Run.{ends_with, has_ended, next_number, IsIssuedStep, IsAllowed, IsLegal}
 use Rattle.hlc_ranges.proofs.Links.{IsLink, link-begins, link-rises, link-issue, link-took, link-more, link-start}
 use Rattle.hlc_ranges.proofs.Turns.{raised-same, clock-grows, past-same, past-other, issued-same, issued-other_node}
 use Rattle.hlc_ranges.proofs.Turns.{issued-other, stepped-none}

@@ -1,14 +1,12 @@
 -- What the accepted items of a node say of its link in a past.
-use Rattle.std.proofs.Common.{◌≡◌, ◌⊎◌, ℕ, ◌+◌, List, [], ◌∷◌, length, Bool, refl, ap, sym, ◌∙◌, subst, inl, inr}
-use Rattle.std.proofs.Common.{arith}
+use Rattle.std.proofs.Common.{◌≡◌, ◌⊎◌, ℕ, ◌+◌, List, [], ◌∷◌, length, Bool, refl, ap, sym, ◌∙◌, subst, inl, inr, arith}
 use Rattle.std.specs.Prelude.{Contains, ◌==◌}
 use Rattle.std.proofs.lemmas.Bool.{cases_eq, cond-true, eq-eqb}
 use Rattle.std.proofs.lemmas.List.Elements.{Contains-append_cases, Contains-append_left}
 use Rattle.hlc_values.proofs.MemberLemmas.{Contains-none, Contains-first, Contains-rest, Contains-cons_cases}
 use Rattle.hlc_rows.specs.declared.row.Row.{Row}
 use Rattle.hlc_node.specs.declared.item.Item.{Item}
-use Rattle.hlc_core.specs.Past.{Step, Began, Took}
-use Rattle.hlc_core.specs.Past.{count, retired, writes, item_rows}
+use Rattle.hlc_core.specs.Past.{Step, Began, Took, count, retired, writes, item_rows}
 use Rattle.hlc_core.specs.Replicas.{items_of, begun}
 use Rattle.hlc_core.proofs.PastLemmas.{retired-same, retired-other, count-other}
 use Rattle.hlc_replicas.proofs.ReplicaLemmas.{items-same, items-other}

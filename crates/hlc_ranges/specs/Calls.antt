@@ -1,7 +1,6 @@
 -- A node of a store, as the run knows it: what a machine keeps for one of its links.
 use Rattle.std.specs.Prelude.{◌≡◌, ℕ, ◌<◌, ◌≤◌, List, ◌∷◌}
-use Rattle.hlc_node.specs.Node.{NodeView, next_item, after_issue}
-use Rattle.hlc_node.specs.declared.item.Body.{Body}
+use Rattle.hlc_node.specs.{Node.NodeView, Node.next_item, Node.after_issue, declared.item.Body.Body}
 use Rattle.hlc_core.specs.Past.{numbered}
 use Rattle.hlc_ranges.specs.Run.{Layout, Turn, Issued, past_of, next_number, has_ended, last_stamp, IsLegal}
 

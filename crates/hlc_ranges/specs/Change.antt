@@ -4,9 +4,7 @@ use Rattle.hlc_rows.specs.declared.row.Row.{Row}
 use Rattle.hlc_node.specs.declared.item.Item.{Item}
 use Rattle.hlc_snapshot.specs.RegistryView.{stamps}
 use Rattle.hlc_core.specs.Past.{Step, Began, floor, horizon, open_snapshots}
-use Rattle.hlc_core.specs.Parts.{rows_of_keys}
-use Rattle.hlc_core.specs.StoreView.{StoreView, Represents}
-use Rattle.hlc_core.specs.Checkpoint.{floor_in}
+use Rattle.hlc_core.specs.{Parts.rows_of_keys, Checkpoint.floor_in, StoreView.StoreView, StoreView.Represents}
 use Rattle.hlc_ranges.specs.Run.{Layout, Turn, past_of, issued, issued_since, IsLegal}
 use Rattle.hlc_ranges.specs.Cut.{IsAccepted}
 

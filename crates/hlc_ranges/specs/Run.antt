@@ -3,10 +3,8 @@
 use Rattle.std.specs.Prelude.{◌≡◌, ◌≢◌, ℕ, zero, suc, Bool, false, ◌+◌, ◌<◌, ◌≤◌, List, [], ◌∷◌, ◌++◌, length, max}
 use Rattle.std.specs.Prelude.{Option, Some, None, ◌==◌, if◌then◌else◌, ⊤, Contains, All}
 use Rattle.hlc_rows.specs.declared.row.Row.{Row}
-use Rattle.hlc_node.specs.declared.item.Item.{Item}
-use Rattle.hlc_node.specs.declared.item.Body.{Body}
+use Rattle.hlc_node.specs.{declared.item.Item.Item, declared.item.Body.Body, Items.retires}
 use Rattle.hlc_node.specs.declared.item.Body.TheVariants.{Write, Batch, Report, Retire}
-use Rattle.hlc_node.specs.Items.{retires}
 use Rattle.hlc_core.specs.Past.{Step, Started, Took, Joined, numbered, count, head, retired, floor, writes, item_rows}
 use Rattle.hlc_core.specs.Past.{IsLegal as IsLegalPast}
 

@@ -2,15 +2,12 @@
 #![tactic(auto)]
 
 ghost use Rattle.std.specs.Prelude.{◌≡◌, ◌≢◌, ◌<◌, ◌≤◌, ◌∷◌, ◌++◌, ℕ, List, Ok, None, Contains};
-ghost use Rattle.hlc_rows.specs.declared.row.Row.{Row as ARow};
-ghost use Rattle.hlc_rows.specs.Rows.{answer};
+ghost use Rattle.hlc_rows.specs.{declared.row.Row.Row as ARow, Rows.answer};
 ghost use Rattle.hlc_node.specs.Node.{NodeView, expected_issue};
-ghost use Rattle.hlc_node.specs.declared.item.Body.{Body as ABody};
-ghost use Rattle.hlc_node.specs.declared.item.Item.{Item as AnItem};
-ghost use Rattle.hlc_core.specs.Past.{Step, floor, writes};
-ghost use Rattle.hlc_core.specs.StoreView.{StoreView, Represents};
-ghost use Rattle.hlc_ranges.specs.Run.{Layout, Turn, Issued, Sent, Received, Observed, Stepped, past_of};
-ghost use Rattle.hlc_ranges.specs.Run.{issued, last_stamp, issued_writes, IsLegal, IsMessage, IsRouted, IsIssuedStep};
+ghost use Rattle.hlc_node.specs.declared.item.{Body.Body as ABody, Item.Item as AnItem};
+ghost use Rattle.hlc_core.specs.{Past.Step, Past.floor, Past.writes, StoreView.StoreView, StoreView.Represents};
+ghost use Rattle.hlc_ranges.specs.Run.{Layout, Turn, Issued, Sent, Received, Observed, Stepped, past_of, issued};
+ghost use Rattle.hlc_ranges.specs.Run.{last_stamp, issued_writes, IsLegal, IsMessage, IsRouted, IsIssuedStep};
 ghost use Rattle.hlc_ranges.specs.Change.{IsReadable, IsCutOfOthers, past_with, LeadsTo};
 ghost use Rattle.hlc_ranges.specs.Before.{HappenedBefore, IsStamped};
 ghost use Rattle.hlc_ranges.specs.Calls.{IsNodeOf, HasClock, Extends};

@@ -1,10 +1,7 @@
 -- Two pasts that are alike: the same nodes at the start and that joined, the same links, floor and snapshots, whatever
 -- their writes and their vacuums.
-use Rattle.std.proofs.Common.{◌≡◌, ℕ, ◌+◌, Bool, List, ◌∷◌, max, refl, ap, ap₂}
-use Rattle.std.specs.Prelude.{◌==◌, if◌then◌else◌}
-use Rattle.hlc_node.specs.declared.item.Item.{Item}
-use Rattle.hlc_node.specs.declared.item.Body.{Body}
-use Rattle.hlc_node.specs.Items.{an_item, retires}
+use Rattle.std.proofs.Common.{◌≡◌, ℕ, ◌+◌, Bool, List, ◌∷◌, max, refl, ap, ap₂, ◌==◌, if◌then◌else◌}
+use Rattle.hlc_node.specs.{declared.item.Item.Item, declared.item.Body.Body, Items.an_item, Items.retires}
 use Rattle.hlc_heads.proofs.LowLemmas.{low-same}
 use Rattle.hlc_snapshot.specs.RegistryView.{without}
 use Rattle.hlc_core.specs.Past.{Step, Started, Began, Took, Opened, Closed, Joined, initial_nodes, numbered, count}

@@ -1,27 +1,21 @@
 -- The same of histories of a store that began with a past.
 use Rattle.std.proofs.Common.{◌≡◌, ℕ, ◌≤◌, List, [], ◌∷◌, ◌++◌, length, Option, Some, None, refl, ap, sym, ◌∙◌, subst}
-use Rattle.std.proofs.Common.{arith}
-use Rattle.std.specs.Prelude.{Contains}
-use Rattle.hlc_rows.specs.declared.row.Row.{Row}
-use Rattle.hlc_rows.specs.Rows.{answer, newest, IsNoLater}
+use Rattle.std.proofs.Common.{arith, Contains}
+use Rattle.hlc_rows.specs.{declared.row.Row.Row, Rows.answer, Rows.newest, Rows.IsNoLater}
 use Rattle.hlc_rows.proofs.NewestLemmas.{newest_is_greatest, no_newest_no_row}
 use Rattle.hlc_witness.specs.Cost.{changes_cost, rows_cost}
 use Rattle.hlc_witness.proofs.ChangeLemmas.{changes_force_rows}
 use Rattle.hlc_witness.proofs.CostLemmas.{changes_force_bytes}
 use Rattle.hlc_core.specs.Past.{Step, floor, stamp_of, writes, IsLegal}
 use Rattle.hlc_vacuum_draft.specs.declared.report.Report.{Report}
-use Rattle.hlc_core.specs.Stored.{IsReport, LeavesFewest}
-use Rattle.hlc_core.specs.StoreView.{StoreView, Represents}
+use Rattle.hlc_core.specs.{Stored.IsReport, Stored.LeavesFewest, Listing.IsListing, Calls.IsListed}
+use Rattle.hlc_core.specs.{StoreView.StoreView, StoreView.Represents, Parts.IsPartReport, Parts.rows_of_keys}
 use Rattle.hlc_events.specs.declared.event.CoreEvent.{CoreEvent}
 use Rattle.hlc_events.specs.declared.event.CoreEvent.TheVariants.{Accept, Join, OpenAt, OpenFloor, Read}
-use Rattle.hlc_events.specs.declared.event.CoreEvent.TheVariants.{List as ListAll}
-use Rattle.hlc_events.specs.declared.event.CoreEvent.TheVariants.{Close, Vacuum, JoinAt, VacuumTo, VacuumPart}
-use Rattle.hlc_core.specs.declared.listing.Pair.{Pair}
-use Rattle.hlc_core.specs.declared.reply.CoreReply.{CoreReply}
+use Rattle.hlc_events.specs.declared.event.CoreEvent.TheVariants.{List as ListAll, Close, Vacuum, JoinAt, VacuumTo}
+use Rattle.hlc_events.specs.declared.event.CoreEvent.TheVariants.{VacuumPart}
+use Rattle.hlc_core.specs.declared.{listing.Pair.Pair, reply.CoreReply.CoreReply}
 use Rattle.hlc_core.specs.declared.reply.CoreReply.TheVariants.{Answer, Listing, Vacuumed, VacuumedPart}
-use Rattle.hlc_core.specs.Listing.{IsListing}
-use Rattle.hlc_core.specs.Calls.{IsListed}
-use Rattle.hlc_core.specs.Parts.{IsPartReport, rows_of_keys}
 use Rattle.hlc_columns.specs.Answers.{in_part}
 use Rattle.hlc_core.proofs.ListingLemmas.{one-listing}
 use Rattle.hlc_core.proofs.PastLemmas.{body_rows-are, took-writes}
@@ -30,9 +24,8 @@ use Rattle.hlc_core.proofs.VacuumLemmas.{leaves-fewest}
 use Rattle.hlc_core.specs.History.{step_of, with_step, IsAnswer, IsExpected}
 use Rattle.hlc_core.specs.Headline.{IsMoment, SnapshotsStay, vacuum_stamp}
 use Rattle.hlc_core.specs.From.{past_from, IsLegalFrom, RepresentsFrom, IsLeftFrom, ReadsAreNewestFrom}
-use Rattle.hlc_core.specs.From.{VacuumsAreFewestFrom}
-use Rattle.hlc_core.specs.From.{VacuumsAreCheapestFrom, FewestAreLeftFrom, IsFaithfulFrom, PartsAreFewestFrom}
-use Rattle.hlc_core.specs.From.{FewestAreLeftByPartsFrom, SnapshotsShowWholeFrom}
+use Rattle.hlc_core.specs.From.{VacuumsAreFewestFrom, VacuumsAreCheapestFrom, FewestAreLeftFrom, IsFaithfulFrom}
+use Rattle.hlc_core.specs.From.{PartsAreFewestFrom, FewestAreLeftByPartsFrom, SnapshotsShowWholeFrom}
 
 before-legal : (start : List Step) (later before : List (CoreEvent × CoreReply)) → IsLegalFrom start (later ++ before)
     → IsLegalFrom start before

@@ -1,7 +1,7 @@
 -- A past that begins with the state which another past led to goes on as that one: it refuses the same steps, and its
 -- writes answer alike from the other's horizon on and at the snapshots that were open.
-use Rattle.std.proofs.Common.{◌≡◌, ℕ, ◌+◌, ◌<◌, ◌≤◌, List, [], ◌∷◌, ◌++◌, length, refl, ap, sym, ◌∙◌, subst}
-use Rattle.std.proofs.Common.{inl, inr, arith, false}
+use Rattle.std.proofs.Common.{◌≡◌, ℕ, ◌+◌, ◌<◌, ◌≤◌, List, [], ◌∷◌, ◌++◌, length, refl, ap, sym, ◌∙◌, subst, inl, inr}
+use Rattle.std.proofs.Common.{arith, false}
 use Rattle.std.proofs.lemmas.Bool.{cases_lt}
 use Rattle.hlc_intake.specs.IntakeView.{IntakeView}
 use Rattle.hlc_node.specs.declared.item.Item.{Item}
@@ -9,10 +9,9 @@ use Rattle.hlc_heads.specs.Heads.{a_link}
 use Rattle.hlc_snapshot.specs.RegistryView.{stamps, stamp_in}
 use Rattle.hlc_vacuum.specs.Representing.{RowsRepresent}
 use Rattle.hlc_core.specs.Past.{Step, Started, Began, Took, Opened, Closed, Vacuumed, PartVacuumed, Joined, numbered}
-use Rattle.hlc_core.specs.Past.{head, floor, horizon, open_snapshots, writes, item_refusal}
-use Rattle.hlc_core.specs.Past.{open_refusal, vacuum_refusal, IsLegal, initial_nodes}
-use Rattle.hlc_core.specs.StoreView.{StoreView, Represents}
-use Rattle.hlc_core.specs.Checkpoint.{IsCheckpoint}
+use Rattle.hlc_core.specs.Past.{head, floor, horizon, open_snapshots, writes, item_refusal, open_refusal}
+use Rattle.hlc_core.specs.Past.{vacuum_refusal, IsLegal, initial_nodes}
+use Rattle.hlc_core.specs.{StoreView.StoreView, StoreView.Represents, Checkpoint.IsCheckpoint}
 use Rattle.hlc_core.proofs.BeganLemmas.{link_in-out}
 use Rattle.hlc_core.proofs.PastLemmas.{fresh, inside, head-other, head-joined_other, above_floor, horizon-low}
 use Rattle.hlc_core.proofs.PastLemmas.{writes-row_set}

@@ -1,8 +1,7 @@
 -- What refuses an item or a join depends on the log alone, so a store that is behind can take what it lacks.
 use Rattle.std.proofs.Common.{◌≡◌, ℕ, ◌+◌, ◌<◌, ◌≤◌, List, [], ◌∷◌, ◌++◌, max, refl, ap, sym, ◌∙◌, subst, arith, Bool}
 use Rattle.std.specs.Prelude.{◌==◌, if◌then◌else◌}
-use Rattle.hlc_node.specs.declared.item.Item.{Item}
-use Rattle.hlc_node.specs.Items.{retires}
+use Rattle.hlc_node.specs.{declared.item.Item.Item, Items.retires}
 use Rattle.hlc_heads.proofs.LowLemmas.{low-same}
 use Rattle.hlc_core.specs.Past.{Step, Started, Began, Took, Opened, Closed, Vacuumed, PartVacuumed, Joined}
 use Rattle.hlc_core.specs.Past.{initial_nodes, numbered, count, head, retired, top, floor, item_refusal, IsLegal}

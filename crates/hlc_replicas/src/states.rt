@@ -1,12 +1,11 @@
 //! What is true of stores that begin with a state.
 ghost use Rattle.std.specs.Prelude.{◌≡◌, ◌++◌, ◌∷◌, [], ℕ, List};
-ghost use Rattle.hlc_core.specs.Checkpoint.{IsCheckpoint};
+ghost use Rattle.hlc_core.specs.{Checkpoint.IsCheckpoint, History.RepresentsHistory, History.IsMove};
 ghost use Rattle.hlc_events.specs.declared.event.CoreEvent.{CoreEvent as AnEvent};
 ghost use Rattle.hlc_snapshot.specs.RegistryView.{stamps};
 ghost use Rattle.hlc_vacuum.specs.Representing.{RowsRepresent};
 ghost use Rattle.hlc_core.specs.declared.reply.CoreReply.{CoreReply as AReply};
 ghost use Rattle.hlc_core.specs.From.{RepresentsFrom, IsFaithfulFrom, past_from};
-ghost use Rattle.hlc_core.specs.History.{RepresentsHistory, IsMove};
 ghost use Rattle.hlc_core.specs.Past.{Step, Started, Began, IsLegal, floor, horizon, open_snapshots, writes};
 ghost use Rattle.hlc_core.specs.StoreView.{StoreView, Represents};
 

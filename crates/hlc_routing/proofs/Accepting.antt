@@ -1,13 +1,11 @@
 -- What a store's acceptance says of all stores.
 use Rattle.std.proofs.Common.{◌≡◌, ℕ, List, ◌∷◌, Some, Ok, Err, Result, sym, ◌∙◌, subst}
-use Rattle.std.specs.Prelude.{OnOk, IfErr, slice_get}
-use Rattle.std.proofs.lemmas.Option.{slice_get_within}
+use Rattle.std.{specs.Prelude.OnOk, specs.Prelude.IfErr, specs.Prelude.slice_get, proofs.lemmas.Option.slice_get_within}
 use Rattle.hlc_node.specs.declared.item.Item.{Item}
 use Rattle.hlc_heads.specs.Heads.{AcceptedView}
 use Rattle.hlc_events.specs.declared.fault.CoreFault.{CoreFault}
-use Rattle.hlc_core.specs.Past.{Step, Took, Opened, Closed}
+use Rattle.hlc_core.specs.{Past.Step, Past.Took, Past.Opened, Past.Closed, Calls.Accepts, Calls.Opens, Calls.Closes}
 use Rattle.hlc_core.specs.StoreView.{StoreView, Represents as CoreRepresents}
-use Rattle.hlc_core.specs.Calls.{Accepts, Opens, Closes}
 use Rattle.hlc_ranges.specs.Run.{Layout, Turn, Stepped, past_of, IsIssuedStep}
 use Rattle.hlc_routing.specs.Ranges.{RangesView, Represents, IsOfStore, IsRefusedFor, HasTaken, OpensIn, ClosesIn}
 use Rattle.hlc_routing.specs.declared.fault.RangesFault.TheVariants.{Store}

@@ -1,8 +1,7 @@
 -- An event of one machine leaves the others as they are.
 use Rattle.std.proofs.Common.{◌≡◌, ℕ, ◌≤◌, List, ◌∷◌, Some, refl, ap, ap₂, ◌∙◌, arith}
 use Rattle.std.proofs.lemmas.Bool.{cond-false, ne_eqb}
-use Rattle.hlc_node.specs.Node.{NodeView}
-use Rattle.hlc_node.specs.declared.item.Item.{Item}
+use Rattle.hlc_node.specs.{Node.NodeView, declared.item.Item.Item}
 use Rattle.hlc_ranges.specs.Run.{Layout, Turn, Issued, Sent, Received, Observed, last_stamp, raised_by, mark_of}
 use Rattle.hlc_ranges.specs.Calls.{IsNodeOf}
 use Rattle.hlc_ranges.proofs.ExtendingLemmas.{other-stays}

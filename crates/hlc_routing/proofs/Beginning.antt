@@ -1,9 +1,7 @@
 -- A run of stores begins with new nodes, or with the states of stores.
-use Rattle.std.proofs.Common.{◌≡◌, ℕ, ◌+◌, ◌≤◌, List, [], ◌∷◌, length, Some, None, Option, refl, ap, sym, subst}
-use Rattle.std.proofs.Common.{inl, inr, arith}
-use Rattle.std.specs.Prelude.{slice_get, Contains}
-use Rattle.std.proofs.lemmas.Option.{slice_get_past}
-use Rattle.std.proofs.lemmas.List.Elements.{All-contains}
+use Rattle.std.proofs.Common.{◌≡◌, ℕ, ◌+◌, ◌≤◌, List, [], ◌∷◌, length, Some, None, Option, refl, ap, sym, subst, inl}
+use Rattle.std.proofs.Common.{inr, arith, slice_get, Contains}
+use Rattle.std.proofs.lemmas.{Option.slice_get_past, List.Elements.All-contains}
 use Rattle.hlc_values.proofs.MemberLemmas.{Contains-none, Contains-cons_cases}
 use Rattle.hlc_rows.specs.declared.row.Row.{Row}
 use Rattle.hlc_node.specs.declared.item.Item.{Item}
@@ -12,8 +10,7 @@ use Rattle.hlc_core.specs.StoreView.{StoreView, Represents as CoreRepresents}
 use Rattle.hlc_core.proofs.StartingLemmas.{begins}
 use Rattle.hlc_ranges.specs.Run.{Layout, CanBegin, issued}
 use Rattle.hlc_ranges.proofs.TurnLemmas.{new-begin}
-use Rattle.hlc_routing.specs.Division.{store_of}
-use Rattle.hlc_routing.specs.Ranges.{RangesView, Represents}
+use Rattle.hlc_routing.specs.{Division.store_of, Ranges.RangesView, Ranges.Represents}
 use Rattle.hlc_routing.specs.Machine.{MachineView, IsMachineOf}
 use Rattle.hlc_routing.specs.Beginning.{begun_with, layout_from, AreStates, IsFirstMachine}
 

@@ -1,7 +1,6 @@
 -- Neighbours among ascending boundaries.
 use Rattle.std.proofs.Common.{◌≡◌, ℕ, ◌+◌, ◌-◌, ◌<◌, List, length, get_or, Less, nat_cmp, ap, ap₂, sym, ◌∙◌, arith}
-use Rattle.std.proofs.lemmas.List.{get_or_read}
-use Rattle.std.specs.Cmp.Lexicographic.{slice_cmp}
+use Rattle.std.{proofs.lemmas.List.get_or_read, specs.Cmp.Lexicographic.slice_cmp}
 use Rattle.hlc_routing.specs.Division.{AreAscending}
 
 pub neighbours : (boundaries : List (List ℕ)) (i : ℕ) (a b : List ℕ) → 0 < i → i < length boundaries

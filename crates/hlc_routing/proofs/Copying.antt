@@ -1,15 +1,11 @@
 -- Checkpoints of the stores, one after another.
-use Rattle.std.proofs.Common.{◌≡◌, ℕ, ◌+◌, ◌<◌, ◌≤◌, List, [], ◌∷◌, ◌++◌, length, Some}
-use Rattle.std.proofs.Common.{ap, sym, ◌∙◌, subst, inl, inr, arith, length-append}
-use Rattle.std.specs.Prelude.{slice_get}
-use Rattle.std.proofs.lemmas.Bool.{cases_lt}
-use Rattle.std.proofs.lemmas.Option.{slice_get_within}
-use Rattle.hlc_core.specs.Past.{Step}
+use Rattle.std.proofs.Common.{◌≡◌, ℕ, ◌+◌, ◌<◌, ◌≤◌, List, [], ◌∷◌, ◌++◌, length, Some, ap, sym, ◌∙◌, subst, inl, inr}
+use Rattle.std.proofs.Common.{arith, length-append}
+use Rattle.std.{specs.Prelude.slice_get, proofs.lemmas.Bool.cases_lt, proofs.lemmas.Option.slice_get_within}
+use Rattle.hlc_core.specs.{Past.Step, Checkpoint.IsCheckpointOf}
 use Rattle.hlc_core.specs.StoreView.{StoreView, Represents as CoreRepresents}
-use Rattle.hlc_core.specs.Checkpoint.{IsCheckpointOf}
 use Rattle.hlc_ranges.specs.Run.{Layout, Turn, past_of}
-use Rattle.hlc_routing.specs.Ranges.{RangesView, Represents}
-use Rattle.hlc_routing.specs.All.{AreCheckpoints}
+use Rattle.hlc_routing.specs.{Ranges.RangesView, Ranges.Represents, All.AreCheckpoints}
 use Rattle.hlc_routing.proofs.Stepping.{get-some, get-push_before, get-push_here, some-same}
 
 -- the checkpoint is the store's, and represents what the store does

@@ -1,13 +1,12 @@
 -- The run after each of the first stores took a step: the past of each, and one store more.
-use Rattle.std.proofs.Common.{◌≡◌, ℕ, zero, suc, ◌+◌, ◌<◌, ◌≤◌, List, ◌∷◌, None, Option, refl, ap, sym}
-use Rattle.std.proofs.Common.{◌∙◌, subst, inl, inr, arith, add-one}
+use Rattle.std.proofs.Common.{◌≡◌, ℕ, zero, suc, ◌+◌, ◌<◌, ◌≤◌, List, ◌∷◌, None, Option, refl, ap, sym, ◌∙◌, subst, inl}
+use Rattle.std.proofs.Common.{inr, arith, add-one}
 use Rattle.std.proofs.lemmas.Bool.{cases_eq}
 use Rattle.hlc_events.specs.declared.fault.CoreFault.{CoreFault}
 use Rattle.hlc_core.specs.Past.{Step}
 use Rattle.hlc_ranges.specs.Run.{Layout, Turn, Stepped, past_of}
 use Rattle.hlc_ranges.proofs.TurnLemmas.{past-same, past-other}
-use Rattle.hlc_routing.specs.Ranges.{RangesView, Represents}
-use Rattle.hlc_routing.specs.All.{each_stepped, HaveStepped}
+use Rattle.hlc_routing.specs.{Ranges.RangesView, Ranges.Represents, All.each_stepped, All.HaveStepped}
 
 -- the others' pasts stay
 pub past-after : (layout : Layout) (step : ℕ → Step) (n s : ℕ) (run : List Turn) → n ≤ s

@@ -1,13 +1,9 @@
 -- The least floor of the stores so far, and of all.
-use Rattle.std.proofs.Common.{◌≡◌, ℕ, ◌+◌, ◌<◌, ◌≤◌, List, length, Some, min, ap, sym, ◌∙◌, inl, inr, arith}
-use Rattle.std.specs.Prelude.{slice_get}
-use Rattle.std.proofs.lemmas.Bool.{cases_eq, cases_lt}
-use Rattle.std.proofs.lemmas.Option.{slice_get_within}
-use Rattle.hlc_core.specs.Past.{Step, floor}
+use Rattle.std.proofs.Common.{◌≡◌, ℕ, ◌+◌, ◌<◌, ◌≤◌, List, length, Some, min, ap, sym, ◌∙◌, inl, inr, arith, slice_get}
+use Rattle.std.proofs.lemmas.{Bool.cases_eq, Bool.cases_lt, Option.slice_get_within}
+use Rattle.hlc_core.specs.{Past.Step, Past.floor, Checkpoint.floor_in}
 use Rattle.hlc_core.specs.StoreView.{StoreView, Represents as CoreRepresents}
-use Rattle.hlc_core.specs.Checkpoint.{floor_in}
-use Rattle.hlc_ranges.specs.Run.{Layout, Turn, past_of}
-use Rattle.hlc_ranges.specs.Cut.{IsCut}
+use Rattle.hlc_ranges.specs.{Run.Layout, Run.Turn, Run.past_of, Cut.IsCut}
 use Rattle.hlc_routing.specs.Ranges.{RangesView, Represents, IsFloorOfOne, IsLeastFloor}
 use Rattle.hlc_routing.proofs.Stepping.{some-same}
 

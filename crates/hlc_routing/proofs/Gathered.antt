@@ -3,37 +3,27 @@
 -- they are sorted they ascend, since no two of them have one key.
 use Rattle.std.proofs.Common.{◌≡◌, ℕ, ◌+◌, ◌<◌, List, [], ◌∷◌, ◌++◌, length, get_or, map, Option, Some, None, Bool}
 use Rattle.std.proofs.Common.{true, false, refl, ap, sym, ◌∙◌, subst, inl, inr, arith, Contains, IsPermutation}
-use Rattle.std.proofs.Common.{IsSorted}
-use Rattle.std.proofs.Common.{Ordering, Less, Equal, Greater, nat_cmp, is_lt, ap₂}
-use Rattle.std.specs.Ordering.{eq_by_cmp, ordering_reverse, is_eq}
-use Rattle.std.specs.List.{IsDistinct, AllByRecursion}
-use Rattle.std.specs.List.Sorted.{IsStrictlySortedBy}
-use Rattle.std.specs.Cmp.Lexicographic.{slice_cmp}
+use Rattle.std.proofs.Common.{IsSorted, Ordering, Less, Equal, Greater, nat_cmp, is_lt, ap₂}
+use Rattle.std.specs.{Ordering.eq_by_cmp, Ordering.ordering_reverse, Ordering.is_eq, Cmp.Lexicographic.slice_cmp}
+use Rattle.std.specs.List.{IsDistinct, AllByRecursion, Sorted.IsStrictlySortedBy}
 use Rattle.std.specs.FinMap.{slice_cmp-IsAntisymmetric, nat_cmp-IsAntisymmetric}
 use Rattle.std.proofs.lemmas.Bool.{cases_eq, cases_lt, cases_Bool}
-use Rattle.std.proofs.lemmas.Cmp.{nat_list_cmp_total, eq_by_cmp_equiv}
+use Rattle.std.proofs.lemmas.{Cmp.nat_list_cmp_total, Cmp.eq_by_cmp_equiv, Map.Views.tells_apart}
 use Rattle.std.proofs.lemmas.List.{map-append, length-map, get_or-map}
 use Rattle.std.proofs.lemmas.List.Elements.{Contains-append_left, Contains-append_right, Contains-append_cases}
 use Rattle.std.proofs.lemmas.List.Sorted.{IsPermutation-map, IsPermutation-sym, Contains-permutation}
 use Rattle.std.proofs.lemmas.Map.Keys.{IsDistinct-from_sorted, IsDistinct-cons, IsDistinct-head, IsDistinct-tail}
 use Rattle.std.proofs.lemmas.Map.Keys.{IsDistinct-IsPermutation, apart_from_distinct, sorted_from_all_adjacent}
-use Rattle.std.proofs.lemmas.Map.Views.{tells_apart}
 use Rattle.hlc_values.proofs.MemberLemmas.{Contains-none, Contains-first, Contains-rest, Contains-cons_cases}
 use Rattle.hlc_values.proofs.MemberLemmas.{Contains-map}
-use Rattle.hlc_rows.specs.declared.row.Row.{Row}
-use Rattle.hlc_rows.specs.Rows.{answer}
+use Rattle.hlc_rows.specs.{declared.row.Row.Row, Rows.answer}
 use Rattle.hlc_rows.proofs.NewestLemmas.{answer_none}
 use Rattle.hlc_table_column.proofs.FirstLemmas.{newest_nil}
-use Rattle.hlc_columns.specs.Answers.{IsBetween, AreAnswers}
-use Rattle.hlc_columns.specs.View.{Seen}
-use Rattle.hlc_core.specs.Past.{Step, writes, stamp_of}
-use Rattle.hlc_core.specs.View.{Views}
-use Rattle.hlc_core.specs.declared.listing.Pair.{Pair}
-use Rattle.hlc_ranges.specs.Run.{Layout, Turn, past_of, issued_writes, IsLegal}
-use Rattle.hlc_ranges.specs.Cut.{AreNewestIssued}
+use Rattle.hlc_columns.specs.{Answers.IsBetween, Answers.AreAnswers, View.Seen}
+use Rattle.hlc_core.specs.{Past.Step, Past.writes, Past.stamp_of, View.Views, declared.listing.Pair.Pair}
+use Rattle.hlc_ranges.specs.{Run.Layout, Run.Turn, Run.past_of, Run.issued_writes, Run.IsLegal, Cut.AreNewestIssued}
 use Rattle.hlc_routing.specs.Listing.{IsListingBetween, HaveKeysApart, of_pair, ArePairsOf}
-use Rattle.hlc_routing.proofs.Stepping.{some-same}
-use Rattle.hlc_routing.proofs.Closing.{past-none}
+use Rattle.hlc_routing.proofs.{Stepping.some-same, Closing.past-none}
 
 -- whether two keys are equal
 abbrev same : List ℕ → List ℕ → Bool

@@ -1,18 +1,14 @@
 -- A node joins one store after another.
-use Rattle.std.proofs.Common.{◌≡◌, ℕ, ◌+◌, ◌<◌, ◌≤◌, List, [], ◌∷◌, ◌++◌, length, Some, Ok, Err}
-use Rattle.std.proofs.Common.{ap, sym, ◌∙◌, subst, inl, inr, arith, length-append}
-use Rattle.std.specs.Prelude.{slice_get}
-use Rattle.std.proofs.lemmas.Bool.{cases_eq}
-use Rattle.std.proofs.lemmas.Option.{slice_get_within}
+use Rattle.std.proofs.Common.{◌≡◌, ℕ, ◌+◌, ◌<◌, ◌≤◌, List, [], ◌∷◌, ◌++◌, length, Some, Ok, Err, ap, sym, ◌∙◌, subst}
+use Rattle.std.proofs.Common.{inl, inr, arith, length-append}
+use Rattle.std.{specs.Prelude.slice_get, proofs.lemmas.Bool.cases_eq, proofs.lemmas.Option.slice_get_within}
 use Rattle.hlc_events.specs.declared.fault.CoreFault.{CoreFault}
 use Rattle.hlc_core.specs.Past.{Step, Joined, join_refusal, numbered, floor}
-use Rattle.hlc_core.specs.StoreView.{StoreView}
-use Rattle.hlc_core.specs.Calls.{Joins}
+use Rattle.hlc_core.specs.{StoreView.StoreView, Calls.Joins}
 use Rattle.hlc_ranges.specs.Run.{Layout, Turn, Stepped, past_of}
-use Rattle.hlc_routing.specs.Ranges.{RangesView, Represents}
+use Rattle.hlc_routing.specs.{Ranges.RangesView, Ranges.Represents, declared.fault.RangesFault.RangesFault}
 use Rattle.hlc_routing.specs.All.{each_stepped, HaveStepped, HaveStopped, AreJoins, JoinsIn, join_refusals, join_step}
 use Rattle.hlc_routing.specs.All.{next_join, IsStoreRefusal}
-use Rattle.hlc_routing.specs.declared.fault.RangesFault.{RangesFault}
 use Rattle.hlc_routing.specs.declared.fault.RangesFault.TheVariants.{NoStore, WrongStore, Store}
 use Rattle.hlc_routing.proofs.Stepping.{steps, with_store, get-push_before, get-push_here}
 use Rattle.hlc_routing.proofs.Each.{past-after, none-stepped, one-stepped}

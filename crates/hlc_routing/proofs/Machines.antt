@@ -1,27 +1,20 @@
 -- What the events of a machine do to a run.
-use Rattle.std.proofs.Common.{◌≡◌, ℕ, ◌+◌, ◌<◌, ◌≤◌, List, [], ◌∷◌, ◌++◌, length, max, set, Some, None, Option}
-use Rattle.std.proofs.Common.{Ok, Err, Result, refl, ap, sym, ◌∙◌, subst, inl, inr, arith, length-set}
-use Rattle.std.specs.Prelude.{slice_get, IfOk, ◌≢◌}
-use Rattle.std.specs.Option.{option_map}
+use Rattle.std.proofs.Common.{◌≡◌, ℕ, ◌+◌, ◌<◌, ◌≤◌, List, [], ◌∷◌, ◌++◌, length, max, set, Some, None, Option, Ok, Err}
+use Rattle.std.proofs.Common.{Result, refl, ap, sym, ◌∙◌, subst, inl, inr, arith, length-set}
+use Rattle.std.specs.{Prelude.slice_get, Prelude.IfOk, Prelude.◌≢◌, Option.option_map}
 use Rattle.std.proofs.lemmas.Bool.{cases_eq, cond-true, cond-false, eq-eqb, ne_eqb}
-use Rattle.std.proofs.lemmas.Option.{slice_get_within}
-use Rattle.std.proofs.lemmas.List.Elements.{All-head, All-tail}
-use Rattle.hlc_clock.specs.NextStamp.{IsClockAnswer}
-use Rattle.hlc_clock.specs.declared.clock.ClockFault.{ClockFault}
+use Rattle.std.proofs.lemmas.{Option.slice_get_within, List.Elements.All-head, List.Elements.All-tail}
+use Rattle.hlc_clock.specs.{NextStamp.IsClockAnswer, declared.clock.ClockFault.ClockFault}
 use Rattle.hlc_node.specs.Node.{NodeView, next_item, after_issue, expected_issue}
-use Rattle.hlc_node.specs.declared.item.Item.{Item}
-use Rattle.hlc_node.specs.declared.item.Body.{Body}
-use Rattle.hlc_node.specs.declared.item.Body.TheVariants.{Report}
-use Rattle.hlc_core.specs.Past.{Step, count, retired, floor, numbered}
-use Rattle.hlc_core.specs.Replicas.{begun}
+use Rattle.hlc_node.specs.declared.item.{Item.Item, Body.Body, Body.TheVariants.Report}
+use Rattle.hlc_core.specs.{Past.Step, Past.count, Past.retired, Past.floor, Past.numbered, Replicas.begun}
 use Rattle.hlc_ranges.specs.Run.{Layout, Turn, Issued, Sent, Received, Observed, past_of, issued, last_stamp, raised_by}
 use Rattle.hlc_ranges.specs.Run.{Stepped, mark_of, start_of, turn_at, IsLegal, IsRouted, ends_with}
 use Rattle.hlc_ranges.specs.Calls.{IsNodeOf, HasClock, Extends}
 use Rattle.hlc_ranges.proofs.ExtendingLemmas.{node-extends, other-stays}
 use Rattle.hlc_routing.specs.Machine.{MachineView, raised, acting, moved, Issues, Reports, IsMachineOf, GoesOn}
 use Rattle.hlc_routing.specs.Machine.{issued_from, none, one}
-use Rattle.hlc_routing.proofs.Stepping.{get-set_same, get-set_other, some-same, numbered-grows}
-use Rattle.hlc_routing.proofs.Stepping.{numbered-later}
+use Rattle.hlc_routing.proofs.Stepping.{get-set_same, get-set_other, some-same, numbered-grows, numbered-later}
 
 acts-some : (o : Option NodeView) (last : ℕ) (node : NodeView) → option_map (raised last) o ≡ Some node
     → (kept : NodeView) × (o ≡ Some kept) × (raised last kept ≡ node)

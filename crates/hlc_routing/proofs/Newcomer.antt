@@ -1,10 +1,8 @@
 -- A machine made of nodes that just joined all stores is the run's: none of its nodes has issued an item, and its clock
 -- is at or above their starts.
-use Rattle.std.proofs.Common.{◌≡◌, ℕ, zero, suc, ◌+◌, ◌<◌, ◌≤◌, List, [], ◌∷◌, length, max, Some, refl, ap}
-use Rattle.std.proofs.Common.{sym, ◌∙◌, subst, inl, inr, arith}
-use Rattle.std.specs.Prelude.{slice_get}
-use Rattle.std.proofs.lemmas.Bool.{cases_eq, cond-true, cond-false, eq-eqb, ne_eqb}
-use Rattle.std.proofs.lemmas.Option.{slice_get_within}
+use Rattle.std.proofs.Common.{◌≡◌, ℕ, zero, suc, ◌+◌, ◌<◌, ◌≤◌, List, [], ◌∷◌, length, max, Some, refl, ap, sym, ◌∙◌}
+use Rattle.std.proofs.Common.{subst, inl, inr, arith, slice_get, eq-eqb, ne_eqb}
+use Rattle.std.proofs.lemmas.{Bool.cases_eq, Bool.cond-true, Bool.cond-false, Option.slice_get_within}
 use Rattle.hlc_node.specs.Node.{NodeView}
 use Rattle.hlc_core.specs.Past.{Step, count, retired, numbered}
 use Rattle.hlc_core.proofs.PastLemmas.{fresh as fresh-node}
@@ -13,8 +11,7 @@ use Rattle.hlc_ranges.specs.Run.{raised_by, ends_with, IsLegal}
 use Rattle.hlc_ranges.proofs.TurnLemmas.{can-begin}
 use Rattle.hlc_routing.specs.All.{each_stepped, join_step, next_join, AreJoins}
 use Rattle.hlc_routing.specs.Machine.{MachineView, IsMachineOf, IsNewMachine}
-use Rattle.hlc_routing.proofs.Stepping.{some-same, numbered-legal, numbered-later}
-use Rattle.hlc_routing.proofs.Each.{past-within}
+use Rattle.hlc_routing.proofs.{Stepping.some-same, Stepping.numbered-legal, Stepping.numbered-later, Each.past-within}
 
 -- a node that has not joined yet has issued nothing
 issued-none : (layout : Layout) (run : List Turn) (s n : ℕ) → IsLegal layout run

@@ -1,14 +1,12 @@
 -- A snapshot is open in all stores just if it has as many ids, and each store has it open under its id.
-use Rattle.std.proofs.Common.{◌≡◌, ℕ, ◌+◌, ◌<◌, ◌≤◌, List, length, get_or, Some, None, Option, Result, Ok, Err}
-use Rattle.std.proofs.Common.{true, false, ap, sym, ◌∙◌, subst, inl, inr, arith}
-use Rattle.std.specs.Prelude.{slice_get, MatchOption, IsErr, IsOkAnd, IfOk, OnErr, nat_lt, is_some}
-use Rattle.std.proofs.lemmas.Bool.{cases_eq, cases_lt, lt-ltb}
-use Rattle.std.proofs.lemmas.Option.{slice_get-get_or, get_or_from_slice_get}
+use Rattle.std.proofs.Common.{◌≡◌, ℕ, ◌+◌, ◌<◌, ◌≤◌, List, length, get_or, Some, None, Option, Result, Ok, Err, true}
+use Rattle.std.proofs.Common.{false, ap, sym, ◌∙◌, subst, inl, inr, arith, slice_get, MatchOption, IsErr, IsOkAnd, IfOk}
+use Rattle.std.proofs.Common.{OnErr, nat_lt, is_some, lt-ltb}
+use Rattle.std.proofs.lemmas.{Bool.cases_eq, Bool.cases_lt, Option.slice_get-get_or, Option.get_or_from_slice_get}
 use Rattle.hlc_core.specs.Past.{stamp_of}
 use Rattle.hlc_ranges.specs.Run.{Layout, Turn, past_of}
-use Rattle.hlc_routing.specs.Ranges.{RangesView, Represents}
+use Rattle.hlc_routing.{specs.Ranges.RangesView, specs.Ranges.Represents, proofs.Closing.past-none}
 use Rattle.hlc_routing.specs.All.{SnapshotView, IsOpenAll, IsOpenAt, IsIdAt}
-use Rattle.hlc_routing.proofs.Closing.{past-none}
 
 -- the first stores have it open, at its stamp
 abbrev pub IsOpenUpto : Layout → SnapshotView → List Turn → ℕ → Type 0

@@ -1,21 +1,18 @@
 -- A snapshot opened in one store after another, and closed again.
 use Rattle.std.proofs.Common.{◌≡◌, ℕ, ◌+◌, ◌<◌, ◌≤◌, List, [], ◌∷◌, ◌++◌, length, get_or, Some, None, Ok, Err, Result}
 use Rattle.std.proofs.Common.{refl, ap, sym, ◌∙◌, subst, inl, inr, arith, length-append}
-use Rattle.std.proofs.lemmas.Bool.{cases_eq}
-use Rattle.std.proofs.lemmas.List.{get_or_append_left, get_or_push}
+use Rattle.std.proofs.lemmas.{Bool.cases_eq, List.get_or_append_left, List.get_or_push}
 use Rattle.hlc_core.specs.Past.{Step, Opened, Closed, last_id, open_snapshots, stamp_of, open_refusal, floor}
 use Rattle.hlc_core.specs.Past.{IsLegal as IsLegalPast}
 use Rattle.hlc_core.proofs.CheckpointLemmas.{register-of}
 use Rattle.hlc_core.proofs.PastLemmas.{open-below, open-low}
 use Rattle.hlc_snapshot.proofs.RegisterLemmas.{opened-here, stamp_in-all}
-use Rattle.hlc_ranges.specs.Run.{Layout, Turn, Stepped, past_of}
-use Rattle.hlc_ranges.specs.Cut.{IsCut}
+use Rattle.hlc_ranges.specs.{Run.Layout, Run.Turn, Run.Stepped, Run.past_of, Cut.IsCut}
 use Rattle.hlc_routing.specs.Ranges.{RangesView, Represents, OpensIn, ClosesIn}
 use Rattle.hlc_routing.specs.All.{SnapshotView, each_stepped, HaveStepped, HaveOpened, HaveClosedAgain, IsOpenAll}
 use Rattle.hlc_routing.specs.All.{HasOpenedTo, HasOpenedSome, AreOpenTo, open_refusals, next_id, IsStoreRefusal}
-use Rattle.hlc_routing.specs.declared.fault.RangesFault.{RangesFault}
+use Rattle.hlc_routing.{specs.declared.fault.RangesFault.RangesFault, proofs.Stepping.get-some}
 use Rattle.hlc_routing.specs.declared.fault.RangesFault.TheVariants.{NoStore, WrongStore, Store}
-use Rattle.hlc_routing.proofs.Stepping.{get-some}
 use Rattle.hlc_routing.proofs.Each.{past-after, past-within, each-same, none-stepped, one-stepped}
 
 -- the step at which a store opens the snapshot

@@ -1,30 +1,24 @@
 -- Parts of a checkpoint, and what two are joined into, are states with which stores begin, and take over the keys.
-use Rattle.std.proofs.Common.{◌≡◌, ℕ, zero, suc, ◌+◌, ◌≤◌, Bool, true, false, cond, List, [], ◌∷◌, ◌++◌, length}
-use Rattle.std.proofs.Common.{Some, None, refl, ap, sym, ◌∙◌, subst, inl, inr, arith, append-nil}
-use Rattle.std.specs.Prelude.{slice_get, Contains, not}
-use Rattle.std.proofs.lemmas.Bool.{cond-true, cond-false, cases_lt}
+use Rattle.std.proofs.Common.{◌≡◌, ℕ, zero, suc, ◌+◌, ◌≤◌, Bool, true, false, cond, List, [], ◌∷◌, ◌++◌, length, Some}
+use Rattle.std.proofs.Common.{None, refl, ap, sym, ◌∙◌, subst, inl, inr, arith, append-nil, slice_get, Contains, not}
+use Rattle.std.proofs.lemmas.{Bool.cond-true, Bool.cond-false, Bool.cases_lt, Option.slice_get_past}
 use Rattle.std.proofs.lemmas.List.Elements.{All-nil, All-cons, All-append, All-contains, filter-append}
-use Rattle.std.proofs.lemmas.Option.{slice_get_past}
 use Rattle.hlc_values.proofs.MemberLemmas.{Contains-first, Contains-rest}
 use Rattle.hlc_rows.specs.declared.row.Row.{Row}
 use Rattle.hlc_intake.specs.IntakeView.{IntakeView}
 use Rattle.hlc_checkpoint.specs.StoreView.{marks_of, greatest_head}
 use Rattle.hlc_heads.specs.Heads.{floor_of}
-use Rattle.hlc_core.specs.Past.{Step, Began, link_in}
-use Rattle.hlc_core.specs.Parts.{rows_of_keys}
+use Rattle.hlc_core.specs.{Past.Step, Past.Began, Past.link_in, Parts.rows_of_keys}
 use Rattle.hlc_core.specs.StoreView.{StoreView, with_rows, Represents as CoreRepresents}
 use Rattle.hlc_core.specs.Checkpoint.{IsCheckpoint, floor_in}
 use Rattle.hlc_split.specs.Split.{part_of, is_under, is_from}
 use Rattle.hlc_split.specs.Merge.{AreDivided, AreJoinable, is_of_left}
 use Rattle.hlc_split.proofs.StateLemmas.{part-is_checkpoint, joined-is_checkpoint}
-use Rattle.hlc_ranges.specs.Run.{Layout, Turn, past_of}
-use Rattle.hlc_ranges.specs.Change.{IsDrained, TakesOver}
+use Rattle.hlc_ranges.specs.{Run.Layout, Run.Turn, Run.past_of, Change.IsDrained, Change.TakesOver}
 use Rattle.hlc_routing.specs.Division.{DivisionView, ByKeys, store_of}
-use Rattle.hlc_routing.specs.Placing.{ArePlaced}
-use Rattle.hlc_routing.specs.Ranges.{RangesView, Represents}
+use Rattle.hlc_routing.specs.{Placing.ArePlaced, Ranges.RangesView, Ranges.Represents}
 use Rattle.hlc_routing.specs.Beginning.{layout_from, begun_with, halves_of, AreStates, AreRestored}
-use Rattle.hlc_routing.proofs.Beginning.{begin-with}
-use Rattle.hlc_routing.proofs.Stepping.{some-same, get-some}
+use Rattle.hlc_routing.proofs.{Beginning.begin-with, Stepping.some-same, Stepping.get-some}
 
 -- rows of a kind are of one that each key of the kind is of
 kind-placed : (division : DivisionView) (s : ℕ) (is_of : List ℕ → Bool) (rows : List Row)

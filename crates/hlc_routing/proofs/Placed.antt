@@ -1,18 +1,14 @@
 -- The rows of a store, column by column: those of the columns so far are placed, and the next one's.
 use Rattle.std.proofs.Common.{◌≡◌, ℕ, zero, suc, ◌+◌, ◌<◌, ◌≤◌, ◌⊎◌, List, [], ◌∷◌, ◌++◌, length, take, drop, Some}
-use Rattle.std.proofs.Common.{Bool, true, false}
-use Rattle.std.proofs.Common.{refl, ap, sym, ◌∙◌, subst, inl, inr, arith, append_assoc, append-nil, add-one}
-use Rattle.std.specs.Prelude.{slice_get, ◌↔◌, IsTrue}
-use Rattle.std.proofs.lemmas.Bool.{cases_eq, cases_lt}
-use Rattle.std.proofs.lemmas.Grind.{flat_map-append}
+use Rattle.std.proofs.Common.{Bool, true, false, refl, ap, sym, ◌∙◌, subst, inl, inr, arith, append_assoc, append-nil}
+use Rattle.std.proofs.Common.{add-one, slice_get, ◌↔◌, IsTrue}
+use Rattle.std.proofs.lemmas.{Bool.cases_eq, Bool.cases_lt, Grind.flat_map-append}
 use Rattle.std.proofs.lemmas.List.Elements.{All-nil, All-append, All-map}
 use Rattle.hlc_rows.specs.declared.row.Row.{Row}
-use Rattle.hlc_table_column.specs.Cells.{Cell}
-use Rattle.hlc_table_column.specs.Rows.{KeyCells, row_of, rows_of, rows_in_one, rows_in}
+use Rattle.hlc_table_column.specs.{Cells.Cell, Rows.KeyCells, Rows.row_of, Rows.rows_of, Rows.rows_in_one, Rows.rows_in}
 use Rattle.hlc_columns.specs.Table.{columns_in}
-use Rattle.hlc_routing.specs.Division.{DivisionView, store_of}
+use Rattle.hlc_routing.{specs.Division.DivisionView, specs.Division.store_of, proofs.Stepping.some-same}
 use Rattle.hlc_routing.specs.Placing.{ArePlaced, IsFirstOther, IsOther, IsOtherAt, IsOtherOf}
-use Rattle.hlc_routing.proofs.Stepping.{some-same}
 
 split-at : {X : Type 0} (xs : List X) (i : ℕ) (x : X) → slice_get xs i ≡ Some x
     → xs ≡ take i xs ++ x ∷ drop (suc i) xs

@@ -3,8 +3,7 @@ use Rattle.std.proofs.Common.{◌≡◌, ℕ, ◌≤◌, List, Some, Option, Res
 use Rattle.std.specs.Prelude.{MatchOption, IsErr, IsOkAnd}
 use Rattle.hlc_rows.specs.Rows.{answer}
 use Rattle.hlc_core.specs.Past.{stamp_of, writes}
-use Rattle.hlc_ranges.specs.Run.{Layout, Turn, past_of, issued_writes}
-use Rattle.hlc_ranges.specs.Cut.{AreNewestIssued}
+use Rattle.hlc_ranges.specs.{Run.Layout, Run.Turn, Run.past_of, Run.issued_writes, Cut.AreNewestIssued}
 
 pub newest : {T E : Type 0} (layout : Layout) (run : List Turn) (s id stamp : ℕ) (key : List ℕ) (result : Result T E)
     (f : T → Option (List ℕ)) → layout.store_of key ≡ s → stamp_of id (past_of layout s run) ≡ Some stamp

@@ -1,14 +1,10 @@
 -- A step of one store extends the run: the others, and their pasts, stay.
-use Rattle.std.proofs.Common.{◌≡◌, ℕ, zero, suc, ◌<◌, ◌≤◌, List, [], ◌∷◌, ◌++◌, length, Some, set, refl, ap, sym}
-use Rattle.std.proofs.Common.{◌∙◌, subst}
-use Rattle.std.proofs.Common.{inl, inr, arith, length-set}
-use Rattle.std.specs.Prelude.{slice_get}
-use Rattle.std.proofs.lemmas.Bool.{cases_eq}
-use Rattle.std.proofs.lemmas.Option.{slice_get_within}
+use Rattle.std.proofs.Common.{◌≡◌, ℕ, zero, suc, ◌<◌, ◌≤◌, List, [], ◌∷◌, ◌++◌, length, Some, set, refl, ap, sym, ◌∙◌}
+use Rattle.std.proofs.Common.{subst, inl, inr, arith, length-set}
+use Rattle.std.{specs.Prelude.slice_get, proofs.lemmas.Bool.cases_eq, proofs.lemmas.Option.slice_get_within}
 use Rattle.hlc_core.specs.Past.{Step, Started, Began, Took, Opened, Closed, Vacuumed, PartVacuumed, Joined, numbered}
 use Rattle.hlc_core.specs.Past.{IsLegal as IsLegalPast}
-use Rattle.hlc_core.specs.Replicas.{begun}
-use Rattle.hlc_core.specs.StoreView.{StoreView, Represents as CoreRepresents}
+use Rattle.hlc_core.specs.{Replicas.begun, StoreView.StoreView, StoreView.Represents as CoreRepresents}
 use Rattle.hlc_ranges.specs.Run.{Layout, Turn, Stepped, past_of, IsIssuedStep}
 use Rattle.hlc_ranges.proofs.TurnLemmas.{past-same, past-other}
 use Rattle.hlc_routing.specs.Ranges.{RangesView, Represents}

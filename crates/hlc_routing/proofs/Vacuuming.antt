@@ -1,20 +1,15 @@
 -- One store after another is vacuumed to a stamp.
-use Rattle.std.proofs.Common.{◌≡◌, ◌≢◌, ℕ, ◌+◌, ◌<◌, ◌≤◌, List, [], ◌∷◌, ◌++◌, length, Some, Ok, Err}
-use Rattle.std.proofs.Common.{ap, sym, ◌∙◌, subst, inl, inr, arith, length-append}
-use Rattle.std.specs.Prelude.{slice_get}
-use Rattle.std.proofs.lemmas.Bool.{cases_lt}
-use Rattle.std.proofs.lemmas.Option.{slice_get_within}
+use Rattle.std.proofs.Common.{◌≡◌, ◌≢◌, ℕ, ◌+◌, ◌<◌, ◌≤◌, List, [], ◌∷◌, ◌++◌, length, Some, Ok, Err, ap, sym, ◌∙◌}
+use Rattle.std.proofs.Common.{subst, inl, inr, arith, length-append}
+use Rattle.std.{specs.Prelude.slice_get, proofs.lemmas.Bool.cases_lt, proofs.lemmas.Option.slice_get_within}
 use Rattle.hlc_vacuum_draft.specs.declared.report.Report.{Report}
 use Rattle.hlc_events.specs.declared.fault.CoreFault.{CoreFault}
 use Rattle.hlc_core.specs.Past.{Step, Vacuumed, vacuum_refusal, writes}
-use Rattle.hlc_core.specs.StoreView.{StoreView}
-use Rattle.hlc_core.specs.Stored.{IsReport, LeavesFewest}
-use Rattle.hlc_core.specs.Calls.{VacuumsTo}
+use Rattle.hlc_core.specs.{StoreView.StoreView, Calls.VacuumsTo, Stored.IsReport, Stored.LeavesFewest}
 use Rattle.hlc_ranges.specs.Run.{Layout, Turn, past_of}
-use Rattle.hlc_routing.specs.Ranges.{RangesView, Represents}
+use Rattle.hlc_routing.specs.{Ranges.RangesView, Ranges.Represents, declared.fault.RangesFault.RangesFault}
 use Rattle.hlc_routing.specs.All.{each_stepped, HaveStepped, HaveStopped, AreReports, IsVacuumedIn, VacuumsIn}
 use Rattle.hlc_routing.specs.All.{vacuum_refusals, IsStoreRefusal}
-use Rattle.hlc_routing.specs.declared.fault.RangesFault.{RangesFault}
 use Rattle.hlc_routing.specs.declared.fault.RangesFault.TheVariants.{NoStore, WrongStore, Store}
 use Rattle.hlc_routing.proofs.Stepping.{steps, with_store, some-same, get-set_same, get-push_before, get-push_here}
 use Rattle.hlc_routing.proofs.Each.{past-after, none-stepped, one-stepped}

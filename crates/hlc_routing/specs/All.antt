@@ -1,19 +1,14 @@
 -- Calls of all stores: what they do to the run that the stores represent.
 use Rattle.std.specs.Prelude.{◌≡◌, ℕ, zero, suc, ◌+◌, ◌<◌, ◌≤◌, ◌⊎◌, List, [], ◌∷◌, length, Option, Some, None, get_or}
-use Rattle.std.specs.Prelude.{slice_get}
-use Rattle.std.specs.Prelude.{Result, Ok, Err, ⊤}
-use Rattle.hlc_events.specs.declared.fault.CoreFault.{CoreFault}
-use Rattle.hlc_events.specs.declared.fault.CoreFault.TheVariants.{NoMemory}
+use Rattle.std.specs.Prelude.{slice_get, Result, Ok, Err, ⊤}
+use Rattle.hlc_events.specs.declared.fault.CoreFault.{CoreFault, TheVariants.NoMemory}
 use Rattle.hlc_vacuum_draft.specs.declared.report.Report.{Report}
 use Rattle.hlc_core.specs.Past.{Step, Opened, Closed, Vacuumed, Joined, open_refusal, vacuum_refusal, join_refusal}
 use Rattle.hlc_core.specs.Past.{last_id, stamp_of, numbered, floor, writes}
-use Rattle.hlc_core.specs.StoreView.{StoreView}
+use Rattle.hlc_core.specs.{StoreView.StoreView, Calls.IsRefusal, Checkpoint.IsCheckpointOf}
 use Rattle.hlc_core.specs.Stored.{IsReport, LeavesFewest}
-use Rattle.hlc_core.specs.Calls.{IsRefusal}
-use Rattle.hlc_core.specs.Checkpoint.{IsCheckpointOf}
 use Rattle.hlc_ranges.specs.Run.{Layout, Turn, Stepped, past_of}
-use Rattle.hlc_routing.specs.Ranges.{RangesView, Represents}
-use Rattle.hlc_routing.specs.declared.fault.RangesFault.{RangesFault}
+use Rattle.hlc_routing.specs.{Ranges.RangesView, Ranges.Represents, declared.fault.RangesFault.RangesFault}
 use Rattle.hlc_routing.specs.declared.fault.RangesFault.TheVariants.{NoStore, WrongStore, Store}
 
 -- a snapshot of all stores: its stamp, and its id in each store

@@ -2,14 +2,11 @@
 use Rattle.std.specs.Prelude.{◌≡◌, ℕ, ◌<◌, ◌≤◌, List, [], ◌∷◌, length, Option, Some, None, slice_get}
 use Rattle.hlc_node.specs.Node.{NodeView}
 use Rattle.hlc_core.specs.Past.{Step, Started, Began, numbered, count, retired, link_in}
-use Rattle.hlc_core.specs.StoreView.{StoreView, Represents as CoreRepresents}
-use Rattle.hlc_core.specs.Checkpoint.{IsCheckpoint}
+use Rattle.hlc_core.specs.{StoreView.StoreView, StoreView.Represents as CoreRepresents, Checkpoint.IsCheckpoint}
 use Rattle.hlc_ranges.specs.Run.{Layout}
 use Rattle.hlc_split.specs.Split.{part_of, is_under, is_from}
-use Rattle.hlc_routing.specs.Division.{ByKeys, store_of}
-use Rattle.hlc_routing.specs.Ranges.{RangesView}
-use Rattle.hlc_routing.specs.Placing.{AreAllPlaced}
-use Rattle.hlc_routing.specs.Machine.{MachineView}
+use Rattle.hlc_routing.specs.{Division.ByKeys, Division.store_of, Placing.AreAllPlaced}
+use Rattle.hlc_routing.specs.{Ranges.RangesView, Machine.MachineView}
 
 -- the past that begins with this state, or with no node where there is no store
 abbrev pub begun_with : Option StoreView → List Step

@@ -1,12 +1,10 @@
 -- Which store has a key: stores have ranges of keys, or the keys of a hash.
 use Rattle.std.specs.Prelude.{◌≡◌, ℕ, ◌+◌, ◌*◌, ◌%◌, ◌^◌, ◌<◌, ◌≤◌, List, [], ◌∷◌, length, get_or, if◌then◌else◌}
 use Rattle.std.specs.Prelude.{bit_xor, All}
-use Rattle.std.specs.Ordering.{is_lt, nat_cmp}
-use Rattle.std.specs.Cmp.Lexicographic.{slice_cmp}
+use Rattle.std.specs.{Ordering.is_lt, Ordering.nat_cmp, Cmp.Lexicographic.slice_cmp}
 use Rattle.std.specs.declared.cmp.Ordering.TheVariants.{Less}
 use Rattle.hlc_rows.specs.declared.write.Write.{Write}
-use Rattle.hlc_routing.specs.declared.division.Kind.{Kind}
-use Rattle.hlc_routing.specs.declared.division.Kind.TheVariants.{Keys, Hash}
+use Rattle.hlc_routing.specs.declared.division.Kind.{Kind, TheVariants.Keys, TheVariants.Hash}
 use Rattle.hlc_routing.specs.declared.division.TheConstants.{MAX_STORES, HASH_START, HASH_PRIME}
 
 -- A division of the keys: by ascending boundary keys, one less than stores; or by a hash, over a number of stores.

@@ -3,14 +3,12 @@
 use Rattle.std.specs.Prelude.{ℕ, List, codes}
 use Rattle.hlc_node.specs.Faults.{node_code, node_text}
 use Rattle.hlc_events.specs.Faults.{core_code, core_text}
-use Rattle.hlc_routing.specs.declared.fault.RangesFault.{RangesFault}
+use Rattle.hlc_routing.specs.declared.{fault.RangesFault.RangesFault, machine.MachineFault.MachineFault}
 use Rattle.hlc_routing.specs.declared.fault.RangesFault.TheVariants.{NoStore, WrongStore, Store}
-use Rattle.hlc_routing.specs.declared.machine.MachineFault.{MachineFault}
-use Rattle.hlc_routing.specs.declared.machine.MachineFault.TheVariants as machine_fault
 use Rattle.hlc_routing.specs.declared.machine.MachineFault.TheVariants.{ManyStores, Node, NoMemory}
-use Rattle.hlc_routing.specs.declared.placing.PlacingFault.{PlacingFault}
+use Rattle.hlc_routing.specs.declared.placing.PlacingFault.{PlacingFault, TheVariants.Number, TheVariants.Key}
+use Rattle.hlc_routing.specs.declared.machine.MachineFault.TheVariants as machine_fault
 use Rattle.hlc_routing.specs.declared.placing.PlacingFault.TheVariants as placing_fault
-use Rattle.hlc_routing.specs.declared.placing.PlacingFault.TheVariants.{Number, Key}
 
 -- the number of a refusal
 abbrev pub ranges_code : RangesFault → ℕ

@@ -1,19 +1,14 @@
 -- The listing of some rows at a stamp, of the keys of a range.
 use Rattle.std.specs.Prelude.{◌≡◌, ◌↔◌, ◌⊎◌, ℕ, ◌<◌, List, Option, Some, map, Contains}
-use Rattle.std.specs.List.Sorted.{IsStrictlySortedBy}
-use Rattle.std.specs.Cmp.Lexicographic.{slice_cmp}
-use Rattle.std.specs.Ordering.{nat_cmp, eq_by_cmp}
-use Rattle.std.specs.List.{IsDistinct}
-use Rattle.hlc_rows.specs.declared.row.Row.{Row}
-use Rattle.hlc_rows.specs.Rows.{answer}
+use Rattle.std.specs.List.{Sorted.IsStrictlySortedBy, IsDistinct}
+use Rattle.std.specs.{Cmp.Lexicographic.slice_cmp, Ordering.nat_cmp, Ordering.eq_by_cmp}
+use Rattle.hlc_rows.specs.{declared.row.Row.Row, Rows.answer}
 use Rattle.hlc_columns.specs.Answers.{IsBetween}
-use Rattle.hlc_core.specs.Past.{writes}
-use Rattle.hlc_core.specs.declared.listing.Pair.{Pair}
+use Rattle.hlc_core.specs.{Past.writes, declared.listing.Pair.Pair}
 use Rattle.hlc_ranges.specs.Run.{Layout, Turn, past_of}
 use Rattle.hlc_events.specs.declared.fault.CoreFault.TheVariants.{NoSnapshot, NoMemory}
 use Rattle.hlc_routing.specs.All.{SnapshotView, IsOpenAll}
-use Rattle.hlc_routing.specs.declared.fault.RangesFault.{RangesFault}
-use Rattle.hlc_routing.specs.declared.fault.RangesFault.TheVariants.{Store}
+use Rattle.hlc_routing.specs.declared.fault.RangesFault.{RangesFault, TheVariants.Store}
 
 -- the keys of a range that have a value at a stamp, each once, in byte order, with that value
 pub record IsListingBetween (rows : List Row) (stamp : ℕ) (from : List ℕ) (to : Option (List ℕ))

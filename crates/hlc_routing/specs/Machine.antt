@@ -1,17 +1,11 @@
 -- A machine that writes to several stores: one clock, and a node in each store.
 use Rattle.std.specs.Prelude.{◌≡◌, ℕ, ◌+◌, ◌<◌, ◌≤◌, List, [], ◌∷◌, ◌++◌, length, max, set, Option, Some, None}
-use Rattle.std.specs.Prelude.{slice_get}
-use Rattle.std.specs.Prelude.{Ok, Err, false, ◌⊎◌}
-use Rattle.std.specs.Option.{option_map}
-use Rattle.hlc_rows.specs.declared.write.Write.{Write}
-use Rattle.hlc_rows.specs.declared.limits.BodyFault.TheVariants.{NoWrites}
+use Rattle.std.specs.Prelude.{slice_get, Ok, Err, false, ◌⊎◌, option_map}
+use Rattle.hlc_rows.specs.declared.{write.Write.Write, limits.BodyFault.TheVariants.NoWrites}
 use Rattle.hlc_node.specs.Node.{NodeView, stamped, next_item, after_issue, expected_issue}
-use Rattle.hlc_node.specs.declared.item.Item.{Item}
-use Rattle.hlc_node.specs.declared.item.Body.{Body}
-use Rattle.hlc_node.specs.declared.item.Body.TheVariants.{Batch, Report}
+use Rattle.hlc_node.specs.declared.item.{Item.Item, Body.Body, Body.TheVariants.Batch, Body.TheVariants.Report}
 use Rattle.hlc_node.specs.declared.node.NodeFault.TheVariants.{Body as bad_body}
-use Rattle.hlc_ranges.specs.Run.{Layout, Turn, Issued, last_stamp, IsLegal}
-use Rattle.hlc_ranges.specs.Calls.{IsNodeOf}
+use Rattle.hlc_ranges.specs.{Run.Layout, Run.Turn, Run.Issued, Run.last_stamp, Run.IsLegal, Calls.IsNodeOf}
 use Rattle.hlc_routing.specs.Division.{DivisionView, store_of, AreOfStore}
 use Rattle.hlc_routing.specs.declared.machine.MachineFault.{MachineFault}
 use Rattle.hlc_routing.specs.declared.machine.MachineFault.TheVariants.{NoStore, ManyStores, Node, NoMemory}

@@ -1,12 +1,10 @@
 -- Stores with one key space, and the run that they represent.
 use Rattle.std.specs.Prelude.{◌≡◌, ◌≢◌, ℕ, ◌<◌, ◌≤◌, ◌+◌, List, ◌∷◌, length, Some, None, slice_get, ⊤, Result, Ok, Err}
-use Rattle.hlc_node.specs.declared.item.Body.{Body}
+use Rattle.hlc_node.specs.declared.item.{Body.Body, Item.Item}
 use Rattle.hlc_node.specs.declared.item.Body.TheVariants.{Write, Batch, Report, Retire}
-use Rattle.hlc_node.specs.declared.item.Item.{Item}
 use Rattle.hlc_core.specs.Past.{Step, Took, Opened, Closed, item_refusal, open_refusal, last_id, stamp_of}
 use Rattle.hlc_core.specs.StoreView.{StoreView, Represents as CoreRepresents}
-use Rattle.hlc_core.specs.Checkpoint.{floor_in}
-use Rattle.hlc_core.specs.Calls.{IsRefusal, IsWrite}
+use Rattle.hlc_core.specs.{Checkpoint.floor_in, Calls.IsRefusal, Calls.IsWrite}
 use Rattle.hlc_ranges.specs.Run.{Layout, Turn, Stepped, past_of, IsLegal}
 use Rattle.hlc_events.specs.declared.fault.CoreFault.TheVariants.{NoSnapshot}
 use Rattle.hlc_routing.specs.Division.{DivisionView, store_of, AreOfStore}

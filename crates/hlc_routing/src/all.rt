@@ -1,17 +1,14 @@
 //! Calls of all stores.
-ghost use Rattle.std.specs.Prelude.{◌≡◌, ◌≤◌, ◌<◌, ◌↔◌, ℕ, List, [], Some, length, vec_capacity};
-ghost use Rattle.std.specs.Prelude.{IsTrue, IfOk, IfErr, OnOk, OnErr, IsOkAnd, option_copied};
+ghost use Rattle.std.specs.Prelude.{◌≡◌, ◌≤◌, ◌<◌, ◌↔◌, ℕ, List, [], Some, length, vec_capacity, IsTrue, IfOk, IfErr};
+ghost use Rattle.std.specs.Prelude.{OnOk, OnErr, IsOkAnd, option_copied};
 ghost use Rattle.hlc_rows.specs.Rows.{answer};
 ghost use Rattle.hlc_core.specs.Past.{Vacuumed, stamp_of, writes};
-ghost use Rattle.hlc_ranges.specs.Run.{Layout, Turn, issued_writes, past_of};
-ghost use Rattle.hlc_ranges.specs.Cut.{IsConsistent};
-ghost use Rattle.hlc_routing.specs.Ranges.{Represents, IsLeastFloor};
-ghost use Rattle.hlc_routing.specs.All.{IsOpenAll, OpensAll, ClosesAll, HaveStopped};
-ghost use Rattle.hlc_routing.specs.All.{AreVacuumed, AreVacuumedSome, HaveJoined, HaveJoinedSome};
-ghost use Rattle.hlc_routing.specs.All.{vacuum_refusals, join_refusals, join_step, AreJoins};
-ghost use Rattle.hlc_routing.specs.All.{HasOpenedTo, HasOpenedSome, AreCheckpoints, each_closed, closed_at};
+ghost use Rattle.hlc_ranges.specs.{Run.Layout, Run.Turn, Run.issued_writes, Run.past_of, Cut.IsConsistent};
+ghost use Rattle.hlc_routing.specs.{Ranges.Represents, Ranges.IsLeastFloor, Division.store_of};
+ghost use Rattle.hlc_routing.specs.All.{IsOpenAll, OpensAll, ClosesAll, HaveStopped, AreVacuumed, AreVacuumedSome};
+ghost use Rattle.hlc_routing.specs.All.{HaveJoined, HaveJoinedSome, vacuum_refusals, join_refusals, join_step};
+ghost use Rattle.hlc_routing.specs.All.{AreJoins, HasOpenedTo, HasOpenedSome, AreCheckpoints, each_closed, closed_at};
 ghost use Rattle.hlc_routing.specs.All.{AreOpenTo, AreOpenIn, IsOpenIn, IsOpenAt};
-ghost use Rattle.hlc_routing.specs.Division.{store_of};
 
 use crate::fault::RangesFault;
 use crate::ranges::Ranges;

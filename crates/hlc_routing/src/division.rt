@@ -1,9 +1,8 @@
 //! Which store has a key.
 ghost use Rattle.std.specs.Prelude.{◌≡◌, ◌<◌, ◌≤◌, ◌↔◌, ◌⊎◌, IsTrue, IfSome, IfNone, length};
-ghost use Rattle.std.specs.Ordering.{is_lt, nat_cmp};
-ghost use Rattle.std.specs.Cmp.Lexicographic.{slice_cmp};
-ghost use Rattle.hlc_routing.specs.Division.{ByKeys, ByHash, AreAscending, AreOfStore, IsDivision, stores_of};
-ghost use Rattle.hlc_routing.specs.Division.{store_of, store_between, hash_after};
+ghost use Rattle.std.specs.{Ordering.is_lt, Ordering.nat_cmp, Cmp.Lexicographic.slice_cmp};
+ghost use Rattle.hlc_routing.specs.Division.{ByKeys, ByHash, AreAscending, AreOfStore, IsDivision, stores_of, store_of};
+ghost use Rattle.hlc_routing.specs.Division.{store_between, hash_after};
 ghost use Rattle.hlc_routing.specs.declared.division.TheConstants.{MAX_STORES, HASH_START, HASH_PRIME};
 
 use hlc_node::{Bytes, Write};

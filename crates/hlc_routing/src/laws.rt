@@ -1,22 +1,19 @@
 //! What events at machines leave of the stores, and steps of stores of the machines.
-ghost use Rattle.std.specs.Prelude.{◌≡◌, ◌≢◌, ◌<◌, ◌≤◌, [], ◌∷◌, ◌++◌, ℕ, Bool, true, not, List, Some};
-ghost use Rattle.std.specs.Prelude.{length, slice_get};
+ghost use Rattle.std.specs.Prelude.{◌≡◌, ◌≢◌, ◌<◌, ◌≤◌, [], ◌∷◌, ◌++◌, ℕ, Bool, true, not, List, Some, length};
+ghost use Rattle.std.specs.Prelude.{slice_get};
 ghost use Rattle.hlc_node.specs.declared.item.Item.{Item as AnItem};
 ghost use Rattle.hlc_core.specs.Past.{Step, Started, Began, link_in};
 ghost use Rattle.hlc_core.specs.StoreView.{StoreView, with_rows, Represents as CoreRepresents};
-ghost use Rattle.hlc_core.specs.Checkpoint.{IsCheckpoint};
-ghost use Rattle.hlc_core.specs.Replicas.{begun};
+ghost use Rattle.hlc_core.specs.{Checkpoint.IsCheckpoint, Replicas.begun};
 ghost use Rattle.hlc_ranges.specs.Run.{Layout, Turn, Issued, Sent, Received, Observed, Stepped, IsLegal, start_of};
 ghost use Rattle.hlc_ranges.specs.Run.{last_stamp, past_of};
 ghost use Rattle.hlc_ranges.specs.Change.{IsDrained, TakesOver};
-ghost use Rattle.hlc_split.specs.Split.{part_of};
-ghost use Rattle.hlc_split.specs.Merge.{AreJoinable, is_of_left};
+ghost use Rattle.hlc_split.specs.{Split.part_of, Merge.AreJoinable, Merge.is_of_left};
 ghost use Rattle.hlc_routing.specs.All.{each_stepped, join_step, next_join, AreJoins};
 ghost use Rattle.hlc_routing.specs.Beginning.{layout_from, halves_of, AreStates, AreRestored, IsFirstMachine};
 ghost use Rattle.hlc_routing.specs.Division.{DivisionView, store_of};
-ghost use Rattle.hlc_routing.specs.Placing.{ArePlaced};
+ghost use Rattle.hlc_routing.specs.{Placing.ArePlaced, Ranges.RangesView, Ranges.Represents};
 ghost use Rattle.hlc_routing.specs.Machine.{MachineView, IsMachineOf, IsNewMachine};
-ghost use Rattle.hlc_routing.specs.Ranges.{RangesView, Represents};
 
 /// The stores represent the run after an event at a machine too: an item that was issued, a message that was sent or
 /// received, or an observation.

@@ -1,16 +1,11 @@
 //! The listing of all stores in a snapshot.
-ghost use Rattle.std.specs.Prelude.{◌≡◌, List, [], map, IfOk, IfErr, OnOk, Some};
-ghost use Rattle.std.specs.Prelude.{option_copied};
-ghost use Rattle.std.specs.List.Sorted.{IsPermutation, IsStrictlySortedBy};
-ghost use Rattle.std.specs.Cmp.Lexicographic.{slice_cmp};
-ghost use Rattle.std.specs.Ordering.{nat_cmp};
+ghost use Rattle.std.specs.Prelude.{◌≡◌, List, [], map, IfOk, IfErr, OnOk, Some, option_copied, IsPermutation};
+ghost use Rattle.std.specs.{List.Sorted.IsStrictlySortedBy, Cmp.Lexicographic.slice_cmp, Ordering.nat_cmp};
 ghost use Rattle.hlc_columns.specs.Answers.{AreAnswers, IsBetween};
 ghost use Rattle.hlc_events.specs.declared.fault.CoreFault.TheVariants.{NoMemory as no_memory};
 ghost use Rattle.hlc_ranges.specs.Run.{Layout, Turn, issued_writes};
-ghost use Rattle.hlc_routing.specs.Ranges.{Represents};
-ghost use Rattle.hlc_routing.specs.All.{IsOpenAll};
+ghost use Rattle.hlc_routing.specs.{Ranges.Represents, All.IsOpenAll, declared.fault.RangesFault.TheVariants.Store};
 ghost use Rattle.hlc_routing.specs.Listing.{IsListingBetween, IsRefusedListing, HaveKeysApart, ArePairsOf, of_pair};
-ghost use Rattle.hlc_routing.specs.declared.fault.RangesFault.TheVariants.{Store};
 
 use crate::fault::RangesFault;
 use crate::ranges::Ranges;

@@ -1,8 +1,7 @@
 //! Where a snapshot of all stores is open.
 ghost use Rattle.std.specs.Prelude.{◌↔◌, List, IsTrue, MatchOption};
 ghost use Rattle.hlc_ranges.specs.Run.{Layout, Turn};
-ghost use Rattle.hlc_routing.specs.Ranges.{Represents};
-ghost use Rattle.hlc_routing.specs.All.{IsIdAt, IsOpenAt, IsOpenAll};
+ghost use Rattle.hlc_routing.specs.{Ranges.Represents, All.IsIdAt, All.IsOpenAt, All.IsOpenAll};
 
 use crate::ranges::Ranges;
 use crate::snapshot::RangesSnapshot;

@@ -2,9 +2,8 @@
 ghost use Rattle.std.specs.Prelude.{◌≡◌, ◌↔◌, IfOk, IfErr, IsTrue, MatchOption};
 ghost use Rattle.hlc_table_column.specs.Rows.{rows_in};
 ghost use Rattle.hlc_columns.specs.Table.{columns_in};
-ghost use Rattle.hlc_routing.specs.Faults.{placing_code};
-ghost use Rattle.hlc_routing.specs.Placing.{ArePlaced, AreAllPlaced, IsFirstOther, IsOther, IsOtherAt};
-ghost use Rattle.hlc_routing.specs.Placing.{IsOtherOf, IsRefusedPlacing};
+ghost use Rattle.hlc_routing.specs.{Faults.placing_code, Placing.ArePlaced, Placing.AreAllPlaced, Placing.IsFirstOther};
+ghost use Rattle.hlc_routing.specs.{Placing.IsOther, Placing.IsOtherAt, Placing.IsOtherOf, Placing.IsRefusedPlacing};
 
 use crate::division::Division;
 use crate::ranges::Ranges;

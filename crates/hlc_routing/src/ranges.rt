@@ -1,15 +1,14 @@
 //! Stores with one key space.
-ghost use Rattle.std.specs.Prelude.{◌≡◌, ◌≢◌, ◌↔◌, ◌∷◌, ◌<◌, List, length, min, IsTrue, IfErr, OnOk, OnErr, IfOk};
-ghost use Rattle.std.specs.Prelude.{ℕ, Some, IfSome, IfNone, IsOkAnd, IsErr, MatchOption, option_copied, slice_get};
+ghost use Rattle.std.specs.Prelude.{◌≡◌, ◌≢◌, ◌↔◌, ◌∷◌, ◌<◌, List, length, min, IsTrue, IfErr, OnOk, OnErr, IfOk, ℕ};
+ghost use Rattle.std.specs.Prelude.{Some, IfSome, IfNone, IsOkAnd, IsErr, MatchOption, option_copied, slice_get};
 ghost use Rattle.hlc_rows.specs.Rows.{answer};
 ghost use Rattle.hlc_node.specs.Items.{retires};
 ghost use Rattle.hlc_core.specs.Past.{Took, stamp_of, writes};
 ghost use Rattle.hlc_ranges.specs.Run.{Layout, Turn, Stepped, IsIssuedStep, past_of, issued_writes};
 ghost use Rattle.hlc_ranges.specs.Cut.{IsCut, IsConsistent};
-ghost use Rattle.hlc_routing.specs.Division.{stores_of, store_of};
-ghost use Rattle.hlc_routing.specs.Ranges.{Represents, IsLeastFloor, IsOfStore, IsRefusedFor, HasTaken};
-ghost use Rattle.hlc_routing.specs.Ranges.{OpensIn, ClosesIn};
-ghost use Rattle.hlc_routing.specs.All.{VacuumsIn, JoinsIn};
+ghost use Rattle.hlc_routing.specs.{Division.stores_of, Division.store_of, All.VacuumsIn, All.JoinsIn};
+ghost use Rattle.hlc_routing.specs.Ranges.{Represents, IsLeastFloor, IsOfStore, IsRefusedFor, HasTaken, OpensIn};
+ghost use Rattle.hlc_routing.specs.Ranges.{ClosesIn};
 
 use crate::division::{Division, are_of_store};
 use crate::fault::RangesFault;

@@ -1,10 +1,7 @@
 -- A row passes the test of a candidate exactly if it is of the key, and at or below the stamp.
-use Rattle.std.proofs.Common.{◌≡◌, ◌≢◌, ℕ, ◌≤◌, List, true, false, inl, inr, nat_le, leb-true, le-leb}
-use Rattle.std.specs.Str.{bytes_eq}
-use Rattle.std.proofs.lemmas.Bool.{cases_Bool, and_parts, and_from}
-use Rattle.std.proofs.lemmas.Slice.Eq.{bytes_eq-Decides}
-use Rattle.hlc_rows.specs.declared.row.Row.{Row}
-use Rattle.hlc_rows.specs.Rows.{is_candidate}
+use Rattle.std.proofs.Common.{◌≡◌, ◌≢◌, ℕ, ◌≤◌, List, true, false, inl, inr, nat_le, leb-true, le-leb, bytes_eq}
+use Rattle.std.proofs.lemmas.{Bool.cases_Bool, Bool.and_parts, Bool.and_from, Slice.Eq.bytes_eq-Decides}
+use Rattle.hlc_rows.specs.{declared.row.Row.Row, Rows.is_candidate}
 
 pub candidate_true : (key : List ℕ) (bound : ℕ) (row : Row) → is_candidate key bound row ≡ true
     → (row.key ≡ key) × (row.stamp ≤ bound)

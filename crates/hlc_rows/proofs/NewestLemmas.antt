@@ -5,9 +5,8 @@ use Rattle.std.proofs.Common.{◌≡◌, ◌≢◌, ℕ, ◌≤◌, List, [], �
 use Rattle.std.proofs.Common.{Contains, option_and_then, if◌then◌else◌, append-nil}
 use Rattle.std.proofs.lemmas.Bool.{cond-false}
 use Rattle.hlc_values.proofs.MemberLemmas.{Contains-first, Contains-rest}
-use Rattle.hlc_rows.specs.declared.row.Row.{Row}
+use Rattle.hlc_rows.{specs.declared.row.Row.Row, proofs.CandidateLemmas.other-misses}
 use Rattle.hlc_rows.specs.Rows.{is_candidate, later, newest, answer, IsNewest, IsNoLater, IsRowSet}
-use Rattle.hlc_rows.proofs.CandidateLemmas.{other-misses}
 use Rattle.hlc_rows.proofs.Newest.{newest-says, newest-from_says, candidate-same}
 
 -- the newest row of a list is the greatest one

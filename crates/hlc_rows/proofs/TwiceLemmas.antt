@@ -3,13 +3,10 @@ use Rattle.std.proofs.Common.{◌≡◌, ◌≢◌, ◌∙◌, ◌⊎◌, ℕ, z
 use Rattle.std.proofs.Common.{append_assoc, take_at, get_or-set_same, get_or-set_other, length-set, take, set, get_or}
 use Rattle.std.proofs.Common.{Bool, true, false, Option, None, Some, bytes_eq, refl, sym, ap, subst, inl, inr, arith}
 use Rattle.std.proofs.Common.{length-append}
-use Rattle.std.proofs.lemmas.Bool.{or_parts, or_cases, or_left, or_right, or_from, false_from_ne_true, false≢true}
-use Rattle.std.proofs.lemmas.Bool.{cases_eq}
-use Rattle.std.proofs.lemmas.Slice.Eq.{bytes_eq-Decides}
-use Rattle.hlc_rows.specs.declared.write.Write.{Write}
-use Rattle.hlc_rows.specs.declared.limits.BodyFault.{BodyFault}
-use Rattle.hlc_rows.specs.Limits.{write_refusal}
-use Rattle.hlc_rows.specs.declared.limits.BodyFault.TheVariants.{KeyTwice}
+use Rattle.std.proofs.lemmas.{Bool.or_parts, Bool.or_cases, Bool.or_left, Bool.or_right, Bool.or_from}
+use Rattle.std.proofs.lemmas.{Bool.false_from_ne_true, Bool.false≢true, Bool.cases_eq, Slice.Eq.bytes_eq-Decides}
+use Rattle.hlc_rows.specs.{declared.write.Write.Write, Limits.write_refusal}
+use Rattle.hlc_rows.specs.declared.limits.BodyFault.{BodyFault, TheVariants.KeyTwice}
 use Rattle.hlc_rows.specs.Writes.{all_refusal, first_of, writes_key, writes_refusal, writes_twice, marks_of}
 
 pub take-more : {A : Type 0} (n : ℕ) (x : A) (xs : List A) → n ≢ 0 → take n (x ∷ xs) ≡ x ∷ take (n - 1) xs

@@ -2,10 +2,8 @@
 use Rattle.std.proofs.Common.{◌≡◌, ◌≤◌, List, Bool, true, false, cond, eqb, ltb, length, Option, Some, None, ltb-false}
 use Rattle.std.proofs.Common.{refl}
 use Rattle.std.proofs.lemmas.Bool.{eqb-false}
-use Rattle.hlc_rows.specs.declared.write.Write.{Write}
-use Rattle.hlc_rows.specs.declared.limits.BodyFault.{BodyFault}
+use Rattle.hlc_rows.specs.declared.{write.Write.Write, limits.BodyFault.BodyFault, limits.TheConstants.MAX_WRITES}
 use Rattle.hlc_rows.specs.declared.limits.BodyFault.TheVariants.{NoWrites, TooManyWrites, KeyTwice}
-use Rattle.hlc_rows.specs.declared.limits.TheConstants.{MAX_WRITES}
 use Rattle.hlc_rows.specs.Writes.{first_of, writes_twice, writes_refusal, batch_refusal}
 
 -- of two reasons there is none

@@ -1,7 +1,6 @@
 -- What a write may be.
 use Rattle.std.specs.Prelude.{ℕ, ◌≤◌, ⊤, List, length, ◌==◌, ◌||◌, nat_lt, Option, Some, None, if◌then◌else◌}
-use Rattle.hlc_rows.specs.declared.limits.BodyFault.{BodyFault}
-use Rattle.hlc_rows.specs.declared.limits.BodyFault.TheVariants.{BadKey, ValueTooLong}
+use Rattle.hlc_rows.specs.declared.limits.BodyFault.{BodyFault, TheVariants.BadKey, TheVariants.ValueTooLong}
 use Rattle.hlc_rows.specs.declared.limits.TheConstants.{MAX_KEY_BYTES, MAX_VALUE_BYTES}
 
 -- why a value is refused: it has more than 65,535 bytes

@@ -1,7 +1,6 @@
 -- Rows, and the newest row of a key at or below a stamp.
 use Rattle.std.specs.Prelude.{◌≡◌, ℕ, ◌<◌, ◌≤◌, ◌⊎◌, List, [], ◌∷◌, Contains, Bool, ◌&&◌, ◌||◌, ◌==◌, nat_lt, nat_le}
-use Rattle.std.specs.Prelude.{Option, Some, None, option_and_then, if◌then◌else◌, ⊤}
-use Rattle.std.specs.Str.{bytes_eq}
+use Rattle.std.specs.Prelude.{Option, Some, None, option_and_then, if◌then◌else◌, ⊤, bytes_eq}
 use Rattle.hlc_rows.specs.declared.row.Row.{Row}
 
 -- no later than the other, by stamp and then by node

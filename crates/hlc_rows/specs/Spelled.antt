@@ -4,9 +4,7 @@
 use Rattle.std.specs.Prelude.{ℕ, zero, suc, List, [], ◌∷◌, take, drop, Option, Some, None, option_copied}
 use Rattle.std.specs.Int.{w16, from_be_bytes}
 use Rattle.hlc_rows.specs.declared.write.Write.{Write}
-use Rattle.hlc_rows.specs.declared.writes.Written.{Written}
-use Rattle.hlc_rows.specs.declared.writes.Form.{Form}
-use Rattle.hlc_rows.specs.declared.writes.Form.TheVariants.{Slice, Bytes}
+use Rattle.hlc_rows.specs.declared.writes.{Written.Written, Form.Form, Form.TheVariants.Slice, Form.TheVariants.Bytes}
 
 -- the key at the front of some bytes, and the bytes after it
 unfoldable pub key_in : List ℕ → List ℕ × List ℕ

@@ -1,13 +1,9 @@
 -- Several writes that have one stamp, and the rows that they make.
 use Rattle.std.specs.Prelude.{ℕ, ◌+◌, ◌-◌, ◌*◌, ◌/◌, ◌%◌, List, [], ◌∷◌, length, map, Bool, false, ◌==◌, ◌||◌, nat_lt}
-use Rattle.std.specs.Prelude.{Option, Some, None, if◌then◌else◌, slice_index}
-use Rattle.std.specs.Str.{bytes_eq}
-use Rattle.hlc_rows.specs.declared.limits.BodyFault.{BodyFault}
+use Rattle.std.specs.Prelude.{Option, Some, None, if◌then◌else◌, slice_index, bytes_eq}
+use Rattle.hlc_rows.specs.declared.limits.{BodyFault.BodyFault, TheConstants.MAX_WRITES}
 use Rattle.hlc_rows.specs.declared.limits.BodyFault.TheVariants.{NoWrites, TooManyWrites, KeyTwice}
-use Rattle.hlc_rows.specs.declared.limits.TheConstants.{MAX_WRITES}
-use Rattle.hlc_rows.specs.declared.row.Row.{Row}
-use Rattle.hlc_rows.specs.declared.write.Write.{Write}
-use Rattle.hlc_rows.specs.Limits.{write_refusal}
+use Rattle.hlc_rows.specs.{declared.row.Row.Row, declared.write.Write.Write, Limits.write_refusal}
 
 -- one of the writes is of this key
 abbrev pub writes_key : List ℕ → List Write → Bool

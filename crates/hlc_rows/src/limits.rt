@@ -1,7 +1,6 @@
 //! What a write may be, and why an item's body is refused.
 ghost use Rattle.std.specs.Prelude.{◌≡◌, option_copied};
-ghost use Rattle.hlc_rows.specs.Limits.{write_refusal};
-ghost use Rattle.hlc_rows.specs.Faults.{body_code};
+ghost use Rattle.hlc_rows.specs.{Limits.write_refusal, Faults.body_code};
 ghost use Rattle.hlc_rows.specs.declared.limits.TheConstants.{
   MAX_KEY_BYTES,
   MAX_VALUE_BYTES,

@@ -1,14 +1,10 @@
 -- The snapshot with an id, found where the lower ids end: the ids ascend, so it is there or nowhere.
-use Rattle.std.proofs.Common.{subst, ◌≡◌, ◌≢◌, ℕ, suc, ◌<◌, ◌≤◌, List, [], ◌∷◌, Some, None, refl, sym}
-use Rattle.std.proofs.Common.{◌∙◌, inl, inr, arith, true, false, zero, get_or}
-use Rattle.std.specs.Prelude.{All, length, nat_lt}
-use Rattle.std.specs.List.{AllPairs}
+use Rattle.std.proofs.Common.{subst, ◌≡◌, ◌≢◌, ℕ, suc, ◌<◌, ◌≤◌, List, [], ◌∷◌, Some, None, refl, sym, ◌∙◌, inl, inr}
+use Rattle.std.proofs.Common.{arith, true, false, zero, get_or, All, length, nat_lt, AllPairs}
 use Rattle.std.specs.List.Sorted.{IsNonDecreasingBy, IsPartitionPoint}
-use Rattle.std.proofs.lemmas.Bool.{cases_eq, cases_lt}
-use Rattle.std.proofs.lemmas.Bool.Decides.{nat_tests}
+use Rattle.std.proofs.lemmas.Bool.{cases_eq, cases_lt, Decides.nat_tests}
 use Rattle.std.proofs.lemmas.List.Elements.{All-head, All-tail}
-use Rattle.hlc_snapshot.specs.declared.snapshot.Snapshot.{Snapshot}
-use Rattle.hlc_snapshot.specs.RegistryView.{stamp_in}
+use Rattle.hlc_snapshot.specs.{declared.snapshot.Snapshot.Snapshot, RegistryView.stamp_in}
 use Rattle.hlc_snapshot.proofs.RegisterLemmas.{stamp_in-hit, stamp_in-miss}
 use Rattle.hlc_snapshot.proofs.Rising.{IsOlder, pairs-tail}
 

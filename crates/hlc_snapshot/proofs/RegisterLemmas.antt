@@ -1,17 +1,14 @@
 -- A register is a map from ids to stamps. Its ids ascend and none is above the last id, so a new one is above all
 -- others; an opening or a closing changes the look-up of one id alone.
 use Rattle.std.proofs.Common.{◌⊎◌, subst, ◌≡◌, ◌≢◌, ℕ, ◌+◌, ◌<◌, ◌≤◌, List, [], ◌∷◌, ◌++◌, Some, None, refl, ap, sym}
-use Rattle.std.proofs.Common.{◌∙◌, inl, inr, arith}
-use Rattle.std.specs.Prelude.{All, true, ◌==◌, not, find, if◌then◌else◌, nat_le}
-use Rattle.std.specs.Option.{option_map}
-use Rattle.std.proofs.lemmas.Bool.{cond-true, cond-false, eq-eqb, ne_eqb, cases_eq, le-leb, leb-true}
+use Rattle.std.proofs.Common.{◌∙◌, inl, inr, arith, All, true, ◌==◌, not, find, if◌then◌else◌, nat_le, option_map}
+use Rattle.std.proofs.Common.{eq-eqb, ne_eqb, le-leb, leb-true}
+use Rattle.std.proofs.lemmas.Bool.{cond-true, cond-false, cases_eq}
 use Rattle.std.proofs.lemmas.List.Elements.{All-head, All-tail, All-weaker, All-filter, filter_passes}
-use Rattle.std.proofs.lemmas.List.Filters.{length-filter_both}
-use Rattle.std.proofs.lemmas.List.Kept.{AllPairs-filter}
+use Rattle.std.proofs.lemmas.List.{Filters.length-filter_both, Kept.AllPairs-filter}
 use Rattle.hlc_snapshot.specs.declared.snapshot.Snapshot.{Snapshot}
 use Rattle.hlc_snapshot.specs.RegistryView.{RegistryView, IsRegister, Follows, at_once, opening, closing, closed}
-use Rattle.hlc_snapshot.specs.RegistryView.{opened_at}
-use Rattle.hlc_snapshot.specs.RegistryView.{stamp_in, stamps, stamps_to, without}
+use Rattle.hlc_snapshot.specs.RegistryView.{opened_at, stamp_in, stamps, stamps_to, without}
 
 pub stamp_in-hit : (id : ℕ) (x : Snapshot) (xs : List Snapshot) → x.id ≡ id → stamp_in id (x ∷ xs) ≡ Some x.stamp
 stamp_in-hit id x xs same =

@@ -1,11 +1,8 @@
 -- The open snapshots: the state of a registry, and how openings and closings change it.
 use Rattle.std.specs.Prelude.{◌≡◌, ℕ, ◌+◌, ◌<◌, ◌≤◌, ◌==◌, ◌⊎◌, List, [], ◌∷◌, ◌++◌, length, map, filter, find, All}
-use Rattle.std.specs.Prelude.{not, nat_le, nat_lt, ◌&&◌, Bool, Option, Some, None, if◌then◌else◌}
-use Rattle.std.specs.List.{AllPairs}
-use Rattle.std.specs.Option.{option_map}
-use Rattle.hlc_snapshot.specs.declared.snapshot.Snapshot.{Snapshot}
+use Rattle.std.specs.Prelude.{not, nat_le, nat_lt, ◌&&◌, Bool, Option, Some, None, if◌then◌else◌, AllPairs, option_map}
+use Rattle.hlc_snapshot.specs.declared.{snapshot.Snapshot.Snapshot, fault.SnapshotFault.SnapshotFault}
 use Rattle.hlc_snapshot.specs.declared.registry.TheConstants.{MAX_OPEN_SNAPSHOTS}
-use Rattle.hlc_snapshot.specs.declared.fault.SnapshotFault.{SnapshotFault}
 use Rattle.hlc_snapshot.specs.declared.fault.SnapshotFault.TheVariants.{TooManySnapshots, NumbersSpent, NoMemory}
 
 -- the state of a registry: the open snapshots, the oldest first; and the last id that was assigned, 0 if none

@@ -1,11 +1,10 @@
 //! The registry of open snapshots.
-ghost use Rattle.std.specs.Prelude.{◌≡◌, ℕ, ◌+◌, ◌<◌, ◌≤◌, ◌==◌, [], ◌∷◌, ◌↔◌, IsTrue, length};
-ghost use Rattle.std.specs.Prelude.{if◌then◌else◌, All, IfOk, IfErr, IfSome, OnErr};
-ghost use Rattle.hlc_snapshot.specs.RegistryView.{IsRegister, IsRefusal, closed, opened_at, room_refusal};
-ghost use Rattle.hlc_snapshot.specs.RegistryView.{ids_rise, stamp_in, stamps, stamps_to};
+ghost use Rattle.std.specs.Prelude.{◌≡◌, ℕ, ◌+◌, ◌<◌, ◌≤◌, ◌==◌, [], ◌∷◌, ◌↔◌, IsTrue, length, if◌then◌else◌, All};
+ghost use Rattle.std.specs.Prelude.{IfOk, IfErr, IfSome, OnErr, AllPairs, List, ◌-◌, nat_lt, false};
+ghost use Rattle.hlc_snapshot.specs.RegistryView.{IsRegister, IsRefusal, closed, opened_at, room_refusal, ids_rise};
+ghost use Rattle.hlc_snapshot.specs.RegistryView.{stamp_in, stamps, stamps_to};
 ghost use Rattle.hlc_clock.specs.Points.{ArePoints};
 ghost use Rattle.hlc_snapshot.specs.declared.snapshot.Snapshot.{Snapshot as ASnapshot};
-ghost use Rattle.std.specs.Prelude.{AllPairs, List, ◌-◌, nat_lt, false};
 ghost use Rattle.std.specs.List.Sorted.{IsPartitionPoint};
 
 use crate::fault::{NoSnapshot, SnapshotFault};

@@ -1,10 +1,8 @@
 -- The writes of some keys of a batch are a batch, or none.
-use Rattle.std.proofs.Common.{◌≡◌, ℕ, Bool, true, false, ◌≤◌, cond, eqb, ltb, bytes_eq, List, [], ◌∷◌, length}
-use Rattle.std.proofs.Common.{None, refl, arith}
+use Rattle.std.proofs.Common.{◌≡◌, ℕ, Bool, true, false, ◌≤◌, cond, eqb, ltb, bytes_eq, List, [], ◌∷◌, length, None}
+use Rattle.std.proofs.Common.{refl, arith}
 use Rattle.std.proofs.lemmas.Bool.{or_parts, le-ltb, ne_eqb}
-use Rattle.hlc_rows.specs.declared.limits.TheConstants.{MAX_WRITES}
-use Rattle.hlc_rows.specs.declared.write.Write.{Write}
-use Rattle.hlc_rows.specs.Limits.{write_refusal}
+use Rattle.hlc_rows.specs.{declared.limits.TheConstants.MAX_WRITES, declared.write.Write.Write, Limits.write_refusal}
 use Rattle.hlc_rows.specs.Writes.{writes_key, writes_twice, writes_refusal, batch_refusal}
 use Rattle.hlc_rows.proofs.WritesLemmas.{first-none, good}
 use Rattle.hlc_node.specs.Items.{body_refusal}

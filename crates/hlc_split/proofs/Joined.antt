@@ -1,10 +1,7 @@
 -- What two parts of one past are joined into represents the whole past.
-use Rattle.std.proofs.Common.{◌≡◌, ℕ, Bool, true, List, ◌++◌, sym, subst}
-use Rattle.std.specs.Prelude.{not}
-use Rattle.hlc_core.specs.Past.{Step, IsLegal}
-use Rattle.hlc_core.specs.StoreView.{StoreView, with_rows}
-use Rattle.hlc_split.specs.Split.{RepresentsPart}
-use Rattle.hlc_split.proofs.Merging.{parts-merge}
+use Rattle.std.proofs.Common.{◌≡◌, ℕ, Bool, true, List, ◌++◌, sym, subst, not}
+use Rattle.hlc_core.specs.{Past.Step, Past.IsLegal, StoreView.StoreView, StoreView.with_rows}
+use Rattle.hlc_split.{specs.Split.RepresentsPart, proofs.Merging.parts-merge}
 
 pub merged_represents : (left right made : StoreView) (past : List Step) (is_of : List ℕ → Bool)
     → made ≡ with_rows left (left.rows ++ right.rows) → IsLegal past

@@ -1,15 +1,12 @@
 -- The own past of a part has the links, the snapshots and the writes of its keys of the whole, whatever was vacuumed.
 -- So two parts that were vacuumed to one stamp in the end are together the whole, vacuumed to that stamp.
 use Rattle.std.proofs.Common.{◌≡◌, ℕ, Bool, true, ◌-◌, ◌≤◌, List, ◌∷◌, ◌++◌, length, refl, ap₂, sym, ◌∙◌, subst, arith}
-use Rattle.std.specs.Prelude.{not}
-use Rattle.std.proofs.lemmas.List.Elements.{filter-append}
-use Rattle.hlc_rows.specs.declared.row.Row.{Row}
-use Rattle.hlc_rows.specs.Rows.{answer}
+use Rattle.std.{specs.Prelude.not, proofs.lemmas.List.Elements.filter-append}
+use Rattle.hlc_rows.specs.{declared.row.Row.Row, Rows.answer}
 use Rattle.hlc_snapshot.specs.RegistryView.{stamps}
 use Rattle.hlc_vacuum.specs.Representing.{RowsRepresent}
 use Rattle.hlc_core.specs.Past.{Step, PartVacuumed, floor, horizon, writes, item_rows, open_snapshots, IsLegal}
-use Rattle.hlc_core.specs.Parts.{rows_of_keys}
-use Rattle.hlc_core.specs.StoreView.{StoreView, with_rows, Represents}
+use Rattle.hlc_core.specs.{Parts.rows_of_keys, StoreView.StoreView, StoreView.with_rows, StoreView.Represents}
 use Rattle.hlc_core.proofs.PartLemmas.{answer-of_keys}
 use Rattle.hlc_core.proofs.PastLemmas.{vacuum-none, vacuum-above, horizon-low, writes-row_set}
 use Rattle.hlc_split.specs.Split.{body_in, RepresentsPart}

@@ -1,15 +1,11 @@
 -- Some of the rows of a checkpoint ascend as its rows do, so a part of it is a checkpoint.
 use Rattle.std.proofs.Common.{◌≡◌, ℕ, Bool, true, false, cond, List, [], ◌∷◌, filter, Less, Ordering}
-use Rattle.std.specs.List.{AllByRecursion}
-use Rattle.std.specs.List.Sorted.{IsStrictlySortedBy}
-use Rattle.std.proofs.lemmas.List.Elements.{All-filter}
+use Rattle.std.{specs.List.AllByRecursion, specs.List.Sorted.IsStrictlySortedBy, proofs.lemmas.List.Elements.All-filter}
 use Rattle.hlc_rows.specs.declared.row.Row.{Row}
 use Rattle.hlc_table_column.proofs.FlagLemmas.{filter-IsRowSet}
-use Rattle.hlc_witness.specs.Certificate.{row_cmp}
-use Rattle.hlc_witness.specs.Cost.{IsInLimits}
+use Rattle.hlc_witness.specs.{Certificate.row_cmp, Cost.IsInLimits}
 use Rattle.hlc_core.specs.StoreView.{StoreView}
-use Rattle.hlc_checkpoint.specs.StoreView.{IsUnderHead}
-use Rattle.hlc_checkpoint.specs.Checkpoint.{IsCheckpoint}
+use Rattle.hlc_checkpoint.specs.{StoreView.IsUnderHead, Checkpoint.IsCheckpoint}
 use Rattle.hlc_split.specs.Split.{part_of}
 
 all-filter : {X : Type 0} (P : X → Type 0) (p : X → Bool) (xs : List X) → AllByRecursion P xs

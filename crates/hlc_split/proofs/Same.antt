@@ -1,8 +1,6 @@
 -- What `==` says of lists, where it decides whether two elements are the same.
 use Rattle.std.proofs.Common.{◌≡◌, ℕ, Bool, List, ap, ◌∙◌}
-use Rattle.std.specs.Bool.{Decides}
-use Rattle.std.specs.Cmp.Lexicographic.{pointwise}
-use Rattle.std.proofs.lemmas.Slice.Eq.{slice_eq-Decides}
+use Rattle.std.{specs.Bool.Decides, specs.Cmp.Lexicographic.pointwise, proofs.lemmas.Slice.Eq.slice_eq-Decides}
 use Rattle.hlc_intake.specs.IntakeView.{IntakeView}
 use Rattle.hlc_snapshot.specs.declared.snapshot.Snapshot.{Snapshot}
 

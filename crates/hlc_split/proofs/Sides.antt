@@ -1,26 +1,20 @@
 -- Each key of two lists that are divided is answered as by the list that it is of. So two checkpoints whose keys are
 -- divided are together a checkpoint, whatever they took.
-use Rattle.std.proofs.Common.{◌≡◌, ℕ, Bool, true, false, List, [], ◌∷◌, ◌++◌, Less, Equal, Greater, nat_cmp}
-use Rattle.std.proofs.Common.{Ordering, All, Contains, Option, refl, ap, sym, subst, ◌∙◌, append-nil}
-use Rattle.std.specs.Prelude.{not, if◌then◌else◌, option_and_then}
+use Rattle.std.proofs.Common.{◌≡◌, ℕ, Bool, true, false, List, [], ◌∷◌, ◌++◌, Less, Equal, Greater, nat_cmp, Ordering}
+use Rattle.std.proofs.Common.{All, Contains, Option, refl, ap, sym, subst, ◌∙◌, append-nil}
+use Rattle.std.specs.{Prelude.not, Prelude.if◌then◌else◌, Prelude.option_and_then, Cmp.Lexicographic.slice_cmp}
 use Rattle.std.specs.Ordering.{ordering_then, ordering_reverse, is_lt}
-use Rattle.std.specs.Cmp.Lexicographic.{slice_cmp}
-use Rattle.std.proofs.lemmas.Bool.{both_ways}
-use Rattle.std.proofs.lemmas.Cmp.{nat_list_cmp_total}
+use Rattle.std.proofs.lemmas.{Bool.both_ways, Cmp.nat_list_cmp_total}
 use Rattle.std.proofs.lemmas.List.Elements.{All-append, All-contains}
 use Rattle.hlc_values.proofs.MemberLemmas.{Contains-none}
-use Rattle.hlc_rows.specs.declared.row.Row.{Row}
-use Rattle.hlc_rows.specs.Rows.{answer}
+use Rattle.hlc_rows.specs.{declared.row.Row.Row, Rows.answer}
 use Rattle.hlc_rows.proofs.NewestLemmas.{newest_after_others, newest_before_others}
 use Rattle.hlc_intake.specs.IntakeView.{IntakeView}
-use Rattle.hlc_witness.specs.Certificate.{RowsAscend, row_cmp}
-use Rattle.hlc_witness.specs.Cost.{IsInLimits}
+use Rattle.hlc_witness.specs.{Certificate.RowsAscend, Certificate.row_cmp, Cost.IsInLimits}
 use Rattle.hlc_witness.proofs.CertificateLemmas.{ascending_rows_are_a_row_set}
 use Rattle.hlc_witness.proofs.ListedLemmas.{sorted_append}
-use Rattle.hlc_checkpoint.specs.StoreView.{IsUnderHead}
-use Rattle.hlc_checkpoint.specs.Checkpoint.{IsCheckpoint}
-use Rattle.hlc_core.specs.Parts.{rows_of_keys}
-use Rattle.hlc_core.specs.StoreView.{StoreView, with_rows}
+use Rattle.hlc_checkpoint.specs.{StoreView.IsUnderHead, Checkpoint.IsCheckpoint}
+use Rattle.hlc_core.specs.{Parts.rows_of_keys, StoreView.StoreView, StoreView.with_rows}
 use Rattle.hlc_core.proofs.PartLemmas.{answer-of_keys}
 use Rattle.hlc_split.specs.Split.{is_under, is_from, part_of}
 use Rattle.hlc_split.specs.Merge.{AreDivided, AreJoinable, is_of_left}

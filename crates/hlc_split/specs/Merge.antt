@@ -2,8 +2,7 @@
 use Rattle.std.specs.Prelude.{◌≡◌, ◌≢◌, ℕ, Bool, List, [], ◌∷◌, codes, true, All, MatchOption, ⊤, slice_get}
 use Rattle.hlc_rows.specs.declared.row.Row.{Row}
 use Rattle.hlc_core.specs.StoreView.{StoreView}
-use Rattle.hlc_split.specs.Split.{is_under, is_from}
-use Rattle.hlc_split.specs.declared.joining.MergeFault.{MergeFault}
+use Rattle.hlc_split.specs.{Split.is_under, Split.is_from, declared.joining.MergeFault.MergeFault}
 use Rattle.hlc_split.specs.declared.joining.MergeFault.TheVariants.{LinksDiffer, SnapshotsDiffer, HorizonsDiffer}
 use Rattle.hlc_split.specs.declared.joining.MergeFault.TheVariants.{KeysOverlap}
 

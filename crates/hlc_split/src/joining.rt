@@ -1,14 +1,12 @@
 //! Two checkpoints joined into one.
-ghost use Rattle.std.specs.Prelude.{◌≡◌, ◌++◌, ◌∷◌, ◌↔◌, not, true, All, IfOk, IfErr, OnOk, OnErr, IsTrue};
-ghost use Rattle.std.specs.Prelude.{ℕ, Bool, List, if◌then◌else◌};
+ghost use Rattle.std.specs.Prelude.{◌≡◌, ◌++◌, ◌∷◌, ◌↔◌, not, true, All, IfOk, IfErr, OnOk, OnErr, IsTrue, ℕ, Bool};
+ghost use Rattle.std.specs.Prelude.{List, if◌then◌else◌};
 ghost use Rattle.hlc_rows.specs.Rows.{answer};
 ghost use Rattle.hlc_checkpoint.specs.Checkpoint.{IsCheckpoint};
-ghost use Rattle.hlc_core.specs.Past.{Step, PartVacuumed, IsLegal};
-ghost use Rattle.hlc_core.specs.StoreView.{with_rows, Represents};
-ghost use Rattle.hlc_split.specs.Split.{RepresentsPart, is_under, is_from};
-ghost use Rattle.hlc_split.specs.OwnPast.{IsOwnPast};
-ghost use Rattle.hlc_split.specs.Merge.{AreDivided, AreJoinable, HaveSameLinks, HaveSameSnapshots};
-ghost use Rattle.hlc_split.specs.Merge.{IsReason, is_of_left, merge_code};
+ghost use Rattle.hlc_core.specs.{Past.Step, Past.PartVacuumed, Past.IsLegal, StoreView.with_rows, StoreView.Represents};
+ghost use Rattle.hlc_split.specs.{Split.RepresentsPart, Split.is_under, Split.is_from, OwnPast.IsOwnPast};
+ghost use Rattle.hlc_split.specs.Merge.{AreDivided, AreJoinable, HaveSameLinks, HaveSameSnapshots, IsReason};
+ghost use Rattle.hlc_split.specs.Merge.{is_of_left, merge_code};
 
 use crate::halves::is_under;
 use hlc_checkpoint::Checkpoint;

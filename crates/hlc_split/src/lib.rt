@@ -6,17 +6,14 @@ mod halves;
 mod joining;
 
 ghost use Rattle.std.specs.Prelude.{◌≡◌, ◌<◌, ◌≤◌, ◌++◌, ◌∷◌, ℕ, Bool, true, not, List, if◌then◌else◌};
-ghost use Rattle.hlc_rows.specs.Rows.{answer};
+ghost use Rattle.hlc_rows.specs.{Rows.answer, declared.row.Row.Row as ARow};
 ghost use Rattle.hlc_core.specs.Past.{Step, PartVacuumed, IsLegal, writes, floor, horizon, open_snapshots};
-ghost use Rattle.hlc_core.specs.StoreView.{StoreView, with_rows, Represents};
+ghost use Rattle.hlc_core.specs.{StoreView.StoreView, StoreView.with_rows, StoreView.Represents, Parts.rows_of_keys};
 ghost use Rattle.hlc_checkpoint.specs.Checkpoint.{IsCheckpoint};
 ghost use Rattle.hlc_witness.specs.Certificate.{RowsAscend};
 ghost use Rattle.hlc_heads.specs.declared.heads.TheConstants.{MAX_INITIAL_NODES};
-ghost use Rattle.hlc_split.specs.Split.{RepresentsPart, part_of, past_in};
-ghost use Rattle.hlc_split.specs.OwnPast.{IsOwnPast};
+ghost use Rattle.hlc_split.specs.{Split.RepresentsPart, Split.part_of, Split.past_in, OwnPast.IsOwnPast};
 ghost use Rattle.hlc_split.specs.Merge.{AreDivided, AreJoinable, is_of_left};
-ghost use Rattle.hlc_rows.specs.declared.row.Row.{Row as ARow};
-ghost use Rattle.hlc_core.specs.Parts.{rows_of_keys};
 
 pub use halves::split;
 pub use joining::{MergeFault, merge};

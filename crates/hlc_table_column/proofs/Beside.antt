@@ -2,15 +2,11 @@
 use Rattle.std.proofs.Common.{◌≡◌, ℕ, zero, suc, ◌<◌, ◌≤◌, Bool, true, false, eqb, ltb, ◌||◌, ◌&&◌, List, []}
 use Rattle.std.proofs.Common.{option_map, sum_by, option_and_then, ◌∷◌, ◌++◌, Option, Some, None, length, get_or, refl}
 use Rattle.std.proofs.Common.{sym, ap, ◌∙◌, subst, inl, inr, arith, All, slice_get, map, filter, leb, ◌+◌}
-use Rattle.std.proofs.lemmas.Bool.{cases_lt, cases_Bool}
-use Rattle.std.proofs.lemmas.Bool.Decides.{nat_tests}
-use Rattle.std.proofs.lemmas.List.Sums.{sum_by-cons}
+use Rattle.std.proofs.lemmas.{Bool.cases_lt, Bool.cases_Bool, Bool.Decides.nat_tests, List.Sums.sum_by-cons}
 use Rattle.std.proofs.lemmas.Option.{none-some, same_Some, slice_get-map, slice_get-get_or}
-use Rattle.hlc_rows.specs.declared.row.Row.{Row}
-use Rattle.hlc_rows.specs.Rows.{newest, answer}
+use Rattle.hlc_rows.specs.{declared.row.Row.Row, Rows.newest, Rows.answer}
 use Rattle.std.specs.List.{items_where_true}
-use Rattle.hlc_lanes.specs.Newest.{IsNewest}
-use Rattle.hlc_lanes.specs.Places.{IsGreatestNode, IsPlace}
+use Rattle.hlc_lanes.specs.{Newest.IsNewest, Places.IsGreatestNode, Places.IsPlace}
 use Rattle.hlc_table_column.specs.Cells.{Cell, cells_of, AreBeside, value_bytes, cell_bytes}
 use Rattle.hlc_table_column.specs.Rows.{row_of, rows_of}
 use Rattle.hlc_table_column.proofs.FirstLemmas.{first_newest, none_newest}

@@ -3,11 +3,9 @@
 -- list.
 use Rattle.std.proofs.Common.{◌≡◌, Bool, true, false, List, [], ◌∷◌, ◌++◌, length, refl, ap, inl, inr, arith, Contains}
 use Rattle.std.proofs.Common.{filter, map, take, drop}
-use Rattle.std.specs.List.{items_where_true}
-use Rattle.std.proofs.lemmas.Bool.{cond_both}
+use Rattle.std.{specs.List.items_where_true, proofs.lemmas.Bool.cond_both}
 use Rattle.hlc_values.proofs.MemberLemmas.{Contains-rest, Contains-cons_cases, Contains-from_filter}
-use Rattle.hlc_rows.specs.declared.row.Row.{Row}
-use Rattle.hlc_rows.specs.Rows.{IsRowSet}
+use Rattle.hlc_rows.specs.{declared.row.Row.Row, Rows.IsRowSet}
 
 pub flagged-none : {X : Type 0} (flags : List Bool) → items_where_true {X = X} flags [] ≡ []
 flagged-none [] = refl

@@ -2,16 +2,12 @@
 use Rattle.std.proofs.Common.{◌≡◌, ◌<◌, ◌+◌, ◌&&◌, ◌∷◌, ◌∙◌, ℕ, zero, suc, List, [], Bool, true, false, lt-ltb, le-leb}
 use Rattle.std.proofs.Common.{ltb-true, leb-true, ltb, leb, length, refl, sym, ap, ap₂, subst, inl, inr, arith}
 use Rattle.std.proofs.Common.{Contains, slice_get, Option, Some, None, ◌⊎◌}
-use Rattle.std.specs.Str.{bytes_eq}
-use Rattle.std.proofs.lemmas.Bool.{and_parts}
+use Rattle.std.{specs.Str.bytes_eq, proofs.lemmas.Bool.and_parts, proofs.lemmas.Slice.Eq.bytes_eq-Decides}
 use Rattle.std.proofs.lemmas.Option.{same_Some, slice_get_within, slice_get-get_or, get_or_from_slice_get}
-use Rattle.std.proofs.lemmas.Slice.Eq.{bytes_eq-Decides}
 use Rattle.hlc_values.proofs.MemberLemmas.{Contains-none, Contains-first, Contains-rest, Contains-cons_cases}
 use Rattle.hlc_values.proofs.MemberLemmas.{Contains-filter, Contains-from_filter, Contains-map}
-use Rattle.hlc_rows.specs.declared.row.Row.{Row}
-use Rattle.hlc_rows.specs.Rows.{IsRowSet}
-use Rattle.hlc_table_column.specs.Cells.{Cell}
-use Rattle.hlc_table_column.specs.Rows.{row_of, rows_of, rows_with}
+use Rattle.hlc_rows.specs.{declared.row.Row.Row, Rows.IsRowSet}
+use Rattle.hlc_table_column.specs.{Cells.Cell, Rows.row_of, Rows.rows_of, Rows.rows_with}
 use Rattle.hlc_table_column.specs.Versions.{AreVersions, AreApart, IsNoNewer, IsNewestLeft, is_left, is_before}
 use Rattle.hlc_table_column.specs.Versions.{versions_left}
 use Rattle.hlc_table_column.proofs.FlagLemmas.{filter-IsRowSet}

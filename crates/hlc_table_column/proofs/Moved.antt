@@ -4,8 +4,7 @@ use Rattle.std.proofs.Common.{append_assoc, drop-drop, get_or-take, length-take,
 use Rattle.std.proofs.Common.{[], ◌∷◌, ◌++◌, length, take, drop, slice_get, min, length-take-le, Bool, Option, Some}
 use Rattle.std.proofs.Common.{sym, ap, ap₂, ◌∙◌, refl, subst, arith, set}
 use Rattle.std.proofs.lemmas.Option.{same_Some, slice_get_within, slice_get-get_or, get_or_from_slice_get}
-use Rattle.std.proofs.lemmas.List.{take_more_set, take_more}
-use Rattle.std.specs.List.{items_where_true}
+use Rattle.std.{proofs.lemmas.List.take_more_set, proofs.lemmas.List.take_more, specs.List.items_where_true}
 use Rattle.hlc_table_column.specs.Cells.{Cell, CellsWithRoom, cells_of, AreBeside}
 use Rattle.hlc_table_order.specs.Order.{IsIndex}
 use Rattle.hlc_table_column.proofs.Beside.{length_cells, cells_push, cell_there, cells_chosen, length_chosen_same}

@@ -2,13 +2,10 @@
 use Rattle.std.proofs.Common.{◌≡◌, ◌⊎◌, ◌<◌, ◌≤◌, ◌&&◌, ◌∷◌, ◌∙◌, ℕ, zero, suc, List, [], Bool, true, false, ltb, leb}
 use Rattle.std.proofs.Common.{length, get_or, refl, sym, ap, ap₂, subst, inl, inr, arith, Contains, filter, Option}
 use Rattle.std.proofs.Common.{Some, None}
-use Rattle.std.specs.List.{AllPairs}
-use Rattle.std.specs.List.Sorted.{IsPermutation}
+use Rattle.std.{specs.List.AllPairs, specs.List.Sorted.IsPermutation, proofs.lemmas.List.get_or_default}
 use Rattle.std.proofs.lemmas.List.Sorted.{IsPermutation-refl, IsPermutation-sym, IsPermutation-trans}
 use Rattle.std.proofs.lemmas.List.Sorted.{IsPermutation-cons, IsPermutation-middle, Contains-permutation}
-use Rattle.std.proofs.lemmas.Bool.{cond_both, cases_lt, and_parts}
-use Rattle.std.proofs.lemmas.Bool.Decides.{nat_tests}
-use Rattle.std.proofs.lemmas.List.{get_or_default}
+use Rattle.std.proofs.lemmas.Bool.{cond_both, cases_lt, and_parts, Decides.nat_tests}
 use Rattle.hlc_values.proofs.MemberLemmas.{Contains-none, Contains-first, Contains-rest, Contains-cons_cases}
 use Rattle.hlc_values.proofs.MemberLemmas.{Contains-filter, Contains-from_filter}
 use Rattle.hlc_values.proofs.SortedLemmas.{same_members}

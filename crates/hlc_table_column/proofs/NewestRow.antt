@@ -4,8 +4,7 @@ use Rattle.std.proofs.Common.{arith}
 use Rattle.std.proofs.lemmas.List.{get_or_default}
 use Rattle.hlc_rows.specs.Rows.{newest}
 use Rattle.hlc_table_order.specs.Newest.{IsNewestBelow}
-use Rattle.hlc_table_column.specs.Cells.{Cell, cells_of, AreBeside}
-use Rattle.hlc_table_column.specs.Rows.{rows_of, at_place}
+use Rattle.hlc_table_column.specs.{Cells.Cell, Cells.cells_of, Cells.AreBeside, Rows.rows_of, Rows.at_place}
 use Rattle.hlc_table_column.proofs.Beside.{newest_found, newest_missing}
 
 -- the best of all rows is the newest

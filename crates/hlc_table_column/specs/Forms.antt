@@ -1,7 +1,6 @@
 -- Where the rows of one key are stored.
 use Rattle.std.specs.Prelude.{List, [], ◌∷◌, Bool, true, false, nat_lt, length}
-use Rattle.hlc_table_column.specs.Cells.{Cell}
-use Rattle.hlc_table_column.specs.declared.rows.Form.{Form}
+use Rattle.hlc_table_column.specs.{Cells.Cell, declared.rows.Form.Form}
 use Rattle.hlc_table_column.specs.declared.rows.Form.TheVariants.{Empty, One, Two, Four, Many}
 
 -- the rows, wherever they are

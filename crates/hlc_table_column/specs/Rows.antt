@@ -1,11 +1,7 @@
 -- The rows that columns represent, once their keys are known.
 use Rattle.std.specs.Prelude.{◌≡◌, ℕ, List, Option, Some, None, Contains, slice_get, map, filter, flat_map, nat_le}
-use Rattle.std.specs.Str.{bytes_eq}
-use Rattle.std.specs.Ordering.{nat_cmp}
-use Rattle.std.specs.Cmp.Lexicographic.{slice_cmp}
-use Rattle.std.specs.List.Sorted.{IsStrictlySortedBy}
-use Rattle.hlc_rows.specs.declared.row.Row.{Row}
-use Rattle.hlc_rows.specs.Rows.{newest}
+use Rattle.std.specs.{Str.bytes_eq, Ordering.nat_cmp, Cmp.Lexicographic.slice_cmp, List.Sorted.IsStrictlySortedBy}
+use Rattle.hlc_rows.specs.{declared.row.Row.Row, Rows.newest}
 use Rattle.hlc_table_column.specs.Cells.{Cell}
 
 abbrev pub row_of : List ℕ → Cell → Row

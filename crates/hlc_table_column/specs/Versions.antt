@@ -1,11 +1,9 @@
 -- The versions of a key: its rows without the key, the newest first.
 use Rattle.std.specs.Prelude.{◌≡◌, ◌↔◌, ◌⊎◌, ℕ, ◌<◌, ◌≤◌, List, [], ◌∷◌, Bool, true, Option, Some, None, Contains}
 use Rattle.std.specs.Prelude.{filter, nat_lt, nat_le, ◌&&◌, ◌||◌, ◌==◌, if◌then◌else◌, option_copied, slice_get, ⊤}
-use Rattle.std.specs.Borrow.{Bor}
-use Rattle.std.specs.List.{AllPairs}
+use Rattle.std.specs.{Borrow.Bor, List.AllPairs}
 use Rattle.hlc_rows.specs.declared.row.Row.{Row}
-use Rattle.hlc_table_column.specs.Cells.{Cell}
-use Rattle.hlc_table_column.specs.Rows.{row_of}
+use Rattle.hlc_table_column.specs.{Cells.Cell, Rows.row_of}
 
 -- newer than another: later by stamp, and then by node
 abbrev pub IsNewer : Cell → Cell → Type 0

@@ -1,6 +1,5 @@
 //! Keeping the flagged items of a list.
-ghost use Rattle.std.specs.Prelude.{◌≡◌, ◌≤◌, length, take};
-ghost use Rattle.std.specs.List.{items_where_true};
+ghost use Rattle.std.specs.{Prelude.◌≡◌, Prelude.◌≤◌, Prelude.length, Prelude.take, List.items_where_true};
 
 use hlc_table_flags::Flags;
 use smallvec::SmallVec;

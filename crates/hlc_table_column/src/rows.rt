@@ -3,8 +3,7 @@ ghost use Rattle.std.specs.Prelude.{◌≡◌, ◌≤◌, ◌++◌, ◌∷◌, [
 ghost use Rattle.std.specs.Prelude.{option_copied};
 ghost use Rattle.std.specs.List.{items_where_true};
 ghost use Rattle.hlc_rows.specs.Rows.{answer};
-ghost use Rattle.hlc_table_column.specs.Forms.{cells_in_form, has_room};
-ghost use Rattle.hlc_table_column.specs.Rows.{rows_of};
+ghost use Rattle.hlc_table_column.specs.{Forms.cells_in_form, Forms.has_room, Rows.rows_of};
 
 use crate::few::Few;
 use crate::lanes::{Lanes, fetched_value};

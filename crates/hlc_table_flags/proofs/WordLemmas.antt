@@ -2,12 +2,9 @@
 use Rattle.std.proofs.Common.{◌≡◌, ◌≢◌, ◌<◌, ◌+◌, ◌*◌, ◌^◌, ◌/◌, ◌%◌, ◌∙◌, ◌∷◌, ◌++◌, [], ℕ, zero, suc, Bool, true}
 use Rattle.std.proofs.Common.{nat_eq, bit_or, get_or-set_same, get_or-set_other, false, List, refl, sym, ap, arith}
 use Rattle.std.proofs.Common.{length, get_or, set, inl, inr, w64}
-use Rattle.std.specs.Int.{bit_at}
-use Rattle.std.proofs.lemmas.Bool.{cases_order}
-use Rattle.std.proofs.lemmas.List.{get_or_default}
+use Rattle.std.{specs.Int.bit_at, proofs.lemmas.Bool.cases_order, proofs.lemmas.List.get_or_default}
 use Rattle.std.proofs.lemmas.Nat.Bits.{bit_at_set_same, bit_at_set_other, bit_at-zero}
-use Rattle.hlc_table_flags.specs.Bits.{bit_in, bits_in, NoneFrom}
-use Rattle.hlc_table_flags.proofs.BitLemmas.{bits_set}
+use Rattle.hlc_table_flags.{specs.Bits.bit_in, specs.Bits.bits_in, specs.Bits.NoneFrom, proofs.BitLemmas.bits_set}
 
 -- the words with one bit set
 abbrev pub with_bit : List ℕ → ℕ → List ℕ

@@ -1,8 +1,7 @@
 -- The flags of each form, and which words contain them.
 use Rattle.std.specs.Prelude.{◌≤◌, ◌<◌, ◌*◌, ◌-◌, ◌^◌, ◌+◌, ◌++◌, Bool, true, false, List, length, replicate}
 use Rattle.hlc_table_flags.specs.Bits.{bits_in}
-use Rattle.hlc_table_flags.specs.declared.flags.Form.{Form}
-use Rattle.hlc_table_flags.specs.declared.flags.Form.TheVariants.{Bytes, Bits, Run}
+use Rattle.hlc_table_flags.specs.declared.flags.Form.{Form, TheVariants.Bytes, TheVariants.Bits, TheVariants.Run}
 
 -- the flags
 abbrev pub flags_in : Form → List Bool

@@ -1,7 +1,6 @@
 -- For callers: the entry of a key at a slot of a leaf.
 use Rattle.std.proofs.Common.{◌≡◌, ℕ, List, [], Some, get_or, refl, slice_get}
-use Rattle.std.specs.Map.{lookup, set_value}
-use Rattle.std.specs.List.Sorted.{IsStrictlySortedBy}
+use Rattle.std.specs.{Map.lookup, Map.set_value, List.Sorted.IsStrictlySortedBy}
 use Rattle.hlc_table_index.specs.Entries.{keys_in, key_cmp, is_key, entries_in, with_value_in, IsEntryAt}
 use Rattle.hlc_table_index.proofs.Values.{valued_is, there_is}
 

@@ -2,11 +2,9 @@
 use Rattle.std.proofs.Common.{◌≡◌, ◌≤◌, ◌<◌, ◌+◌, ◌-◌, ◌*◌, ◌^◌, ◌∙◌, ℕ, zero, suc, List, [], ◌∷◌, get_or, length}
 use Rattle.std.proofs.Common.{get_or-drop, arith, refl, ap, sym, inl, inr, All, subst, nat_cmp, Less, Greater, Equal}
 use Rattle.std.proofs.Common.{map, drop, ap₂}
-use Rattle.std.proofs.lemmas.Bool.{cases_lt}
+use Rattle.std.proofs.lemmas.{Bool.cases_lt, Bool.Decides.nat_tests, Slice.Eq.bytes_eq-Decides}
 use Rattle.std.specs.Cmp.Lexicographic.{slice_cmp, nat_list_cmp_total, texts_ties}
 use Rattle.std.specs.Ordering.{ordering_then, ordering_reverse, is_eq}
-use Rattle.std.proofs.lemmas.Bool.Decides.{nat_tests}
-use Rattle.std.proofs.lemmas.Slice.Eq.{bytes_eq-Decides}
 use Rattle.std.proofs.lemmas.List.{get_or-map, length-map, drop_all, get_or_past}
 use Rattle.hlc_table_index.specs.Entries.{IsBelowAt, IsAboveAt, key_cmp, keys_in}
 use Rattle.hlc_table_index.specs.Head.{head_of, head_upto, AreBytes}

@@ -1,11 +1,9 @@
 -- The entries of leaves, one leaf after another: one more entry in a leaf, and a leaf split into two.
 use Rattle.std.proofs.Common.{◌≡◌, ◌≤◌, ◌<◌, ◌+◌, ◌-◌, ◌++◌, ◌∷◌, ◌∙◌, ℕ, zero, suc, List, [], get_or, set, length}
 use Rattle.std.proofs.Common.{drop-set-lt, length-take, take-append-drop, length-append, length-drop, arith, ap, ap₂}
-use Rattle.std.proofs.Common.{sym, take, drop, append_assoc}
-use Rattle.std.specs.List.{insert}
-use Rattle.std.proofs.lemmas.List.Concat.{flat_map-append}
-use Rattle.std.proofs.lemmas.List.{set_split, take_more_set, get_or_at, set_at, drop_more, take-append-le}
-use Rattle.std.proofs.lemmas.List.{drop-append-le}
+use Rattle.std.proofs.Common.{sym, take, drop, append_assoc, insert}
+use Rattle.std.proofs.lemmas.List.{Concat.flat_map-append, set_split, take_more_set, get_or_at, set_at, drop_more}
+use Rattle.std.proofs.lemmas.List.{take-append-le, drop-append-le}
 use Rattle.hlc_table_index.specs.Entries.{entries_in, entries_with}
 
 -- an entry inserted into the first of two lists, or into the second

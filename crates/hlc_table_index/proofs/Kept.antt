@@ -2,17 +2,12 @@
 use Rattle.std.proofs.Common.{set-set, get_or-drop, inl, inr, ◌≡◌, ◌≤◌, ◌<◌, ◌+◌, ◌++◌, ◌∷◌, ◌∙◌, ℕ, List, [], get_or}
 use Rattle.std.proofs.Common.{set, length, arith, drop-set-lt, get_or-set_same, length-set, append-nil, Bool, refl, ap}
 use Rattle.std.proofs.Common.{ap₂, sym, subst, All, map, filter, take, drop}
-use Rattle.std.specs.List.{swap, SwappedAt}
-use Rattle.std.proofs.lemmas.Bool.{cases_order}
+use Rattle.std.{specs.List.swap, specs.List.SwappedAt, proofs.lemmas.Bool.cases_order}
 use Rattle.std.proofs.lemmas.List.{drop_more, nil_from_length, map-set, get_or-map, length-map, take-map, take_more}
-use Rattle.std.proofs.lemmas.List.{take_more_set, take-set-le}
-use Rattle.std.proofs.lemmas.List.Concat.{flat_map-append}
+use Rattle.std.proofs.lemmas.List.{take_more_set, take-set-le, Concat.flat_map-append}
 use Rattle.std.proofs.lemmas.List.Elements.{All-from_recursion, recursion_from_All, filter-append}
-use Rattle.hlc_table_index.specs.Head.{head_of, AreBytes}
-use Rattle.hlc_table_index.specs.Entries.{keys_in, entries_in, first_key}
-use Rattle.hlc_table_index.proofs.LeafLemmas.{IsLeaf}
-use Rattle.hlc_table_index.proofs.SlotLemmas.{all_kept}
-use Rattle.hlc_table_index.proofs.Tops.{AreLeaves, leaves_push}
+use Rattle.hlc_table_index.specs.{Head.head_of, Head.AreBytes, Entries.keys_in, Entries.entries_in, Entries.first_key}
+use Rattle.hlc_table_index.proofs.{LeafLemmas.IsLeaf, SlotLemmas.all_kept, Tops.AreLeaves, Tops.leaves_push}
 
 pub map-swap : {X Y : Type 0} (f : X → Y) (xs : List X) (a b : ℕ) → a < length xs → b < length xs
     → map f (swap xs a b) ≡ swap (map f xs) a b

@@ -1,12 +1,9 @@
 -- What is true of a leaf's heads and keys after entries are added or removed.
 use Rattle.std.proofs.Common.{◌≡◌, ◌<◌, ◌++◌, ◌∷◌, ◌∙◌, ℕ, zero, suc, List, [], ap, ap₂, refl, sym, subst, All}
-use Rattle.std.proofs.Common.{slice_get, map, take, drop, length, get_or, set, Some}
-use Rattle.std.specs.List.{insert}
-use Rattle.std.proofs.lemmas.Option.{slice_get-get_or}
-use Rattle.std.proofs.lemmas.List.{get_or-map, map-append, take-map, drop-map}
+use Rattle.std.proofs.Common.{slice_get, map, take, drop, length, get_or, set, Some, insert}
+use Rattle.std.proofs.lemmas.{Option.slice_get-get_or, List.get_or-map, List.map-append, List.take-map, List.drop-map}
 use Rattle.std.proofs.lemmas.List.Elements.{All-append, All-take, All-drop, All-cons}
-use Rattle.hlc_table_index.specs.Head.{head_of, AreBytes}
-use Rattle.hlc_table_index.specs.Entries.{keys_in, with_value}
+use Rattle.hlc_table_index.specs.{Head.head_of, Head.AreBytes, Entries.keys_in, Entries.with_value}
 
 -- what is true of a leaf: its heads are those of its keys, which are bytes
 abbrev pub IsLeaf : {V : Type 0} → List ℕ → List (List ℕ × V) → Type 0

@@ -3,19 +3,14 @@ use Rattle.std.proofs.Common.{◌≡◌, ◌≤◌, ◌<◌, ◌+◌, ◌-◌, �
 use Rattle.std.proofs.Common.{take_all, length-append, length-drop, refl, ap, sym, subst, take, drop, Bool, true, false}
 use Rattle.std.proofs.Common.{None, Some, Less, Greater, All, ◌⊎◌, inl, inr, ap₂, true≢false, Ok, Err, OnOk, OnErr}
 use Rattle.std.proofs.Common.{Result}
-use Rattle.std.specs.List.{insert}
-use Rattle.std.specs.List.Sorted.{IsStrictlySortedBy}
-use Rattle.std.specs.Map.{lookup}
-use Rattle.std.specs.BTreeMap.{insert_entry}
+use Rattle.std.specs.{List.insert, List.Sorted.IsStrictlySortedBy, Map.lookup, BTreeMap.insert_entry}
 use Rattle.std.proofs.lemmas.Bool.{cases_lt}
-use Rattle.std.proofs.lemmas.List.Concat.{flat_map-append}
-use Rattle.std.proofs.lemmas.List.{drop_all, drop_more, get_or-map, length-map}
+use Rattle.std.proofs.lemmas.List.{Concat.flat_map-append, drop_all, drop_more, get_or-map, length-map}
 use Rattle.hlc_table_index.specs.Entries.{keys_in, key_cmp, is_key, IsSlot, IsAboveAt, IsUptoAt, first_key, first_keys}
 use Rattle.hlc_table_index.specs.Entries.{entries_in, entries_with, IsGap}
-use Rattle.hlc_table_index.proofs.Joined.{joined_all, insert_front, insert_back}
+use Rattle.hlc_table_index.proofs.{Joined.joined_all, Joined.insert_front, Joined.insert_back, Heads.length_keys}
 use Rattle.hlc_table_index.proofs.SlotLemmas.{parts, absent_lookup, inserted_at, found_lookup, ascend_with}
 use Rattle.hlc_table_index.proofs.SlotLemmas.{entry_joined, slot_joined}
-use Rattle.hlc_table_index.proofs.Heads.{length_keys}
 
 module _ {V : Type 0} where
   -- a new entry at a slot of the whole list

@@ -2,18 +2,12 @@
 use Rattle.std.proofs.Common.{◌≡◌, ◌<◌, ◌+◌, ◌++◌, ◌∷◌, ◌∙◌, ℕ, zero, suc, List, [], ap, ap₂, drop-set-lt}
 use Rattle.std.proofs.Common.{get_or-set_same, append-nil, refl, sym, subst, arith, All, map, take, drop, length}
 use Rattle.std.proofs.Common.{get_or, set, append_assoc, Less}
-use Rattle.std.specs.List.{AllByRecursion}
-use Rattle.std.specs.List.Sorted.{IsStrictlySortedBy}
+use Rattle.std.specs.List.{AllByRecursion, Sorted.IsStrictlySortedBy}
 use Rattle.std.proofs.lemmas.List.{nil_from_length, map-append, take-map, drop-map, take-set-le, get_or_read, drop_more}
-use Rattle.std.proofs.lemmas.List.Concat.{flat_map-append}
-use Rattle.std.proofs.lemmas.List.Elements.{All-append, All-take, All-drop}
-use Rattle.hlc_table_index.specs.Head.{head_of, AreBytes}
-use Rattle.hlc_table_index.specs.Entries.{keys_in, key_cmp, entries_in, first_key, first_keys, entries_before}
-use Rattle.hlc_table_index.specs.Entries.{entries_from}
-use Rattle.hlc_table_index.proofs.LeafLemmas.{IsLeaf}
-use Rattle.hlc_table_index.proofs.Tops.{AreLeaves}
-use Rattle.hlc_table_index.proofs.Joined.{joined_set}
-use Rattle.hlc_table_index.proofs.Sought.{parted}
+use Rattle.std.proofs.lemmas.List.{Concat.flat_map-append, Elements.All-append, Elements.All-take, Elements.All-drop}
+use Rattle.hlc_table_index.specs.{Head.head_of, Head.AreBytes, Entries.keys_in, Entries.key_cmp, Entries.entries_in}
+use Rattle.hlc_table_index.specs.{Entries.first_key, Entries.first_keys, Entries.entries_before, Entries.entries_from}
+use Rattle.hlc_table_index.proofs.{LeafLemmas.IsLeaf, Joined.joined_set, Tops.AreLeaves, Sought.parted}
 
 -- a list without the member at a position
 abbrev pub without : {X : Type 0} → List X → ℕ → List X

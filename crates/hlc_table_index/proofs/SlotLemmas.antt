@@ -1,16 +1,12 @@
 -- The position of a key among ascending keys determines the result of its look-up and the position of a new entry.
 use Rattle.std.proofs.Common.{Bool, filter, ◌≡◌, ◌≤◌, ◌<◌, ◌+◌, ◌-◌, ◌++◌, ◌∷◌, ◌∙◌, ℕ, zero, suc, List, [], get_or}
 use Rattle.std.proofs.Common.{length, arith, slice_get, length-append, refl, ap, sym, subst, unwrap_or, false, cond}
-use Rattle.std.proofs.Common.{None, Some, Less, Equal, Greater, nat_cmp, inl, inr}
-use Rattle.std.specs.Ordering.{ordering_then, is_eq, ordering_reverse, match_ordering}
+use Rattle.std.proofs.Common.{None, Some, Less, Equal, Greater, nat_cmp, inl, inr, is_eq, insert}
+use Rattle.std.specs.Ordering.{ordering_then, ordering_reverse, match_ordering}
 use Rattle.hlc_table_index.proofs.Heads.{is_equal, length_keys}
-use Rattle.std.specs.List.{insert, AllByRecursion}
-use Rattle.std.specs.List.Sorted.{IsStrictlySortedBy}
-use Rattle.std.specs.Map.{lookup}
-use Rattle.std.specs.BTreeMap.{insert_entry}
+use Rattle.std.specs.{List.AllByRecursion, List.Sorted.IsStrictlySortedBy, Map.lookup, BTreeMap.insert_entry}
 use Rattle.std.specs.Cmp.Lexicographic.{slice_cmp, nat_list_cmp_total}
-use Rattle.std.proofs.lemmas.Map.Keys.{Less-from_sorted, sorted_tail}
-use Rattle.std.proofs.lemmas.Bool.{cases_lt, cond_both}
+use Rattle.std.proofs.lemmas.{Map.Keys.Less-from_sorted, Map.Keys.sorted_tail, Bool.cases_lt, Bool.cond_both}
 use Rattle.std.proofs.lemmas.List.{length-map, map-append, get_or_append_left}
 use Rattle.hlc_table_index.specs.Entries.{keys_in, key_cmp, is_key, IsSlot, first_key}
 

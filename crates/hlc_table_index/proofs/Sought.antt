@@ -5,15 +5,11 @@ use Rattle.std.proofs.Common.{take-append-drop, get_or-append-add, [], get_or, l
 use Rattle.std.proofs.Common.{take, drop, Bool, true, false, All, Less, Equal, Greater, Ordering, inl, inr}
 use Rattle.std.proofs.Common.{append_assoc}
 use Rattle.std.specs.List.Sorted.{IsStrictlySortedBy}
-use Rattle.std.proofs.lemmas.Map.Keys.{Less-from_sorted}
-use Rattle.std.proofs.lemmas.Bool.{cases_lt}
-use Rattle.std.proofs.lemmas.List.{get_or_append_left, get_or-map}
+use Rattle.std.proofs.lemmas.{Map.Keys.Less-from_sorted, Bool.cases_lt, List.get_or_append_left, List.get_or-map}
 use Rattle.hlc_table_index.specs.Entries.{keys_in, key_cmp, IsSlot, IsAboveAt, IsUptoAt, first_keys, entries_in}
 use Rattle.hlc_table_index.specs.Entries.{entries_before, entries_from}
-use Rattle.hlc_table_index.proofs.Heads.{length_keys}
-use Rattle.hlc_table_index.proofs.Joined.{joined_all}
+use Rattle.hlc_table_index.proofs.{Heads.length_keys, Joined.joined_all, Places.slot_whole, Places.slot_first}
 use Rattle.hlc_table_index.proofs.SlotLemmas.{parts, itself, other, keys_joined}
-use Rattle.hlc_table_index.proofs.Places.{slot_whole, slot_first}
 
 unlike : {a b : Ordering} → (a ≡ b → ⊥) → (o : Ordering) → o ≡ a → o ≡ b → ⊥
 unlike ne o e f = ne (sym e ∙ f)

@@ -1,11 +1,9 @@
 -- What is true of the heads of the leaves' first keys after leaves change.
 use Rattle.std.proofs.Common.{◌≡◌, ◌≤◌, ◌<◌, ◌+◌, ◌-◌, length-append, Less, Greater, ◌++◌, ◌∷◌, ◌∙◌, ℕ, zero, suc, List}
 use Rattle.std.proofs.Common.{length-set, length-drop, length-take, get_or-drop, [], get_or, set, length, arith, refl}
-use Rattle.std.proofs.Common.{ap, ap₂, sym, subst, All, map, take, drop}
-use Rattle.std.specs.List.{insert}
+use Rattle.std.proofs.Common.{ap, ap₂, sym, subst, All, map, take, drop, insert}
 use Rattle.std.proofs.lemmas.List.{length-map, get_or_read, map-append, take-map, drop-map, map-set, map_push}
-use Rattle.std.proofs.lemmas.List.{get_or-map, set-get_or}
-use Rattle.std.proofs.lemmas.List.Elements.{All-set, All-push}
+use Rattle.std.proofs.lemmas.List.{get_or-map, set-get_or, Elements.All-set, Elements.All-push}
 use Rattle.hlc_table_index.specs.Head.{head_of, AreBytes}
 use Rattle.hlc_table_index.specs.Entries.{keys_in, first_key, first_keys, IsUptoAt, IsAboveAt, with_value}
 use Rattle.hlc_table_index.proofs.Heads.{below_by_head, above_by_head}

@@ -2,14 +2,10 @@
 use Rattle.std.proofs.Common.{◌≡◌, ◌<◌, ◌+◌, ◌-◌, ◌++◌, ◌∷◌, ◌∙◌, ℕ, zero, suc, List, [], get_or, length, arith}
 use Rattle.std.proofs.Common.{slice_get, length-append, refl, ap, sym, subst, take, drop, Bool, true, false, cond, Some}
 use Rattle.std.proofs.Common.{true≢false, Less, Equal}
-use Rattle.std.specs.List.Sorted.{IsStrictlySortedBy}
-use Rattle.std.specs.Map.{lookup, set_value}
-use Rattle.std.specs.Ordering.{is_eq}
+use Rattle.std.specs.{List.Sorted.IsStrictlySortedBy, Map.lookup, Map.set_value, Ordering.is_eq}
 use Rattle.std.proofs.lemmas.Map.Keys.{Less-from_sorted, sorted_tail}
 use Rattle.hlc_table_index.specs.Entries.{keys_in, key_cmp, is_key, IsSlot, entries_in, with_value, with_value_in}
-use Rattle.hlc_table_index.proofs.Heads.{length_keys}
-use Rattle.hlc_table_index.proofs.LeafLemmas.{keys_with}
-use Rattle.hlc_table_index.proofs.Joined.{joined_all, joined_set}
+use Rattle.hlc_table_index.proofs.{Heads.length_keys, LeafLemmas.keys_with, Joined.joined_all, Joined.joined_set}
 use Rattle.hlc_table_index.proofs.SlotLemmas.{itself, other, keys_joined, found_lookup, entry_joined}
 
 module _ {V : Type 0} where

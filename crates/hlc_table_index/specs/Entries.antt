@@ -1,12 +1,8 @@
 -- Keys with their values, and the position of a key among them.
 use Rattle.std.specs.Prelude.{◌≡◌, ◌≢◌, ◌-◌, ◌+◌, ◌<◌, ◌≤◌, ℕ, Bool, true, false, List, map, length, slice_index_or, []}
 use Rattle.std.specs.Prelude.{slice_set, flat_map, take, drop, ◌++◌, ◌⊎◌, Option, None, Some}
-use Rattle.std.specs.Map.{lookup}
-use Rattle.std.specs.List.{insert}
-use Rattle.std.specs.Ordering.{nat_cmp, is_eq}
-use Rattle.std.specs.declared.cmp.Ordering.{Ordering}
-use Rattle.std.specs.declared.cmp.Ordering.TheVariants.{Less, Greater}
-use Rattle.std.specs.Cmp.Lexicographic.{slice_cmp}
+use Rattle.std.specs.{Map.lookup, List.insert, Cmp.Lexicographic.slice_cmp, Ordering.nat_cmp, Ordering.is_eq}
+use Rattle.std.specs.declared.cmp.Ordering.{Ordering, TheVariants.Less, TheVariants.Greater}
 
 -- the order of two keys, byte by byte
 abbrev pub key_cmp : List ℕ → List ℕ → Ordering

@@ -1,7 +1,6 @@
 //! The head of a key: its first sixteen bytes as one number.
 ghost use Rattle.std.specs.Prelude.{◌≡◌, ◌-◌, ◌*◌, ◌≤◌, ◌<◌, IsTrue, false, length, slice_index};
-ghost use Rattle.hlc_table_index.specs.Entries.{key_cmp};
-ghost use Rattle.hlc_table_index.specs.Head.{head_of, head_upto, AreBytes};
+ghost use Rattle.hlc_table_index.specs.{Entries.key_cmp, Head.head_of, Head.head_upto, Head.AreBytes};
 
 use std::cmp::Ordering;
 

@@ -1,14 +1,11 @@
 //! The map.
 ghost use Rattle.std.specs.Prelude.{◌≡◌, ◌≢◌, ◌-◌, ◌+◌, ◌<◌, ◌≤◌, ◌++◌, [], ℕ, IsTrue, None, Some, length, slice_get};
 ghost use Rattle.std.specs.Prelude.{slice_index_or, All, filter, OnOk, OnErr, IfOk, IfErr, option_copied};
-ghost use Rattle.std.specs.Map.{lookup};
-ghost use Rattle.std.specs.BTreeMap.{insert_entry};
-ghost use Rattle.std.specs.Borrow.{Lends, sem};
-ghost use Rattle.std.specs.List.Sorted.{IsStrictlySortedBy};
+ghost use Rattle.std.specs.{Map.lookup, BTreeMap.insert_entry, declared.cmp.Ordering.TheVariants.Less};
+ghost use Rattle.std.specs.{Borrow.Lends, Borrow.sem, List.Sorted.IsStrictlySortedBy};
 ghost use Rattle.hlc_table_index.specs.contracts.index.Index.{the_row};
 ghost use Rattle.hlc_table_index.specs.Entries.{key_cmp, is_key, keys_in, entries_in, with_value_in, IsEntryAt, IsGap};
 ghost use Rattle.hlc_table_index.specs.Entries.{IsPlace, entries_before, entries_from};
-ghost use Rattle.std.specs.declared.cmp.Ordering.TheVariants.{Less};
 
 use crate::head::head_of;
 use crate::leaves::Leaves;

@@ -1,11 +1,9 @@
 //! A leaf: some entries of the map in the order of their keys, with the heads of the keys side by side.
 ghost use Rattle.std.specs.Prelude.{◌≡◌, ◌++◌, ◌+◌, ◌-◌, ◌≤◌, ◌<◌, [], List, length, slice_index_or, All, OnErr, IfOk};
 ghost use Rattle.std.specs.Prelude.{IfErr, OnOk, take, drop, slice_get, Some, map, filter};
-ghost use Rattle.std.specs.List.{insert};
-ghost use Rattle.hlc_table_index.specs.Head.{head_of, AreBytes};
+ghost use Rattle.std.specs.{List.insert, Borrow.Lends, Borrow.sem};
+ghost use Rattle.hlc_table_index.specs.{Head.head_of, Head.AreBytes, contracts.leaf.Leaf.the_row};
 ghost use Rattle.hlc_table_index.specs.Entries.{keys_in, IsSlot, IsBelowAt, with_value};
-ghost use Rattle.std.specs.Borrow.{Lends, sem};
-ghost use Rattle.hlc_table_index.specs.contracts.leaf.Leaf.{the_row};
 
 use crate::head::{compare_alike, head_of, place_of_head};
 use hlc_bytes::Bytes;

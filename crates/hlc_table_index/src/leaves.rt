@@ -1,12 +1,10 @@
 //! Leaves side by side, and the heads of their first keys.
 ghost use Rattle.std.specs.Prelude.{◌≡◌, ◌-◌, ◌+◌, ◌++◌, ◌∷◌, ◌≤◌, ◌<◌, [], List, length, slice_index_or, All, IsTrue};
 ghost use Rattle.std.specs.Prelude.{OnErr, IfErr, OnOk, take, drop, slice_set, map, filter, slice_get, Some};
-ghost use Rattle.std.specs.List.{insert};
-ghost use Rattle.hlc_table_index.specs.Head.{head_of, AreBytes};
+ghost use Rattle.std.specs.{List.insert, Borrow.Lends, Borrow.sem};
+ghost use Rattle.hlc_table_index.specs.{Head.head_of, Head.AreBytes, contracts.leaves.Leaves.the_row};
 ghost use Rattle.hlc_table_index.specs.Entries.{keys_in, first_keys, IsUptoAt, IsAboveAt, entries_in, entries_with};
 ghost use Rattle.hlc_table_index.specs.Entries.{with_value_in, entries_before, entries_from};
-ghost use Rattle.std.specs.Borrow.{Lends, sem};
-ghost use Rattle.hlc_table_index.specs.contracts.leaves.Leaves.{the_row};
 
 use crate::head::{compare_alike, place_of_head};
 use crate::leaf::{Leaf, MAX_ENTRIES};

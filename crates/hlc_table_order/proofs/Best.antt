@@ -2,9 +2,7 @@
 use Rattle.std.proofs.Common.{◌≡◌, ℕ, ◌+◌, ◌-◌, ◌<◌, ◌≤◌, List, Option, Some, IfSome, MatchOption, get_or-drop}
 use Rattle.std.proofs.Common.{length-drop, take_all, None, length, get_or, drop, take, sym, ap, ◌∙◌, subst, ◌⊎◌, inl}
 use Rattle.std.proofs.Common.{inr, arith}
-use Rattle.std.proofs.lemmas.Bool.{cases_lt}
-use Rattle.std.proofs.lemmas.List.{get_or_default}
-use Rattle.std.proofs.lemmas.Option.{none-some, same_Some}
+use Rattle.std.proofs.lemmas.{Bool.cases_lt, List.get_or_default, Option.none-some, Option.same_Some}
 use Rattle.hlc_lanes.specs.Newest.{IsNewest}
 use Rattle.hlc_table_order.specs.Newest.{NotAbove, IsNewestBelow, IsGreatestAt}
 

@@ -1,10 +1,8 @@
 -- An index has each of the first positions once, so its count is the count of a pass over the first rows.
 use Rattle.std.proofs.Common.{◌≡◌, ℕ, zero, suc, ◌+◌, ◌-◌, ◌<◌, ◌≤◌, true, false, Bool, List, [], ◌∷◌, ◌++◌, length}
 use Rattle.std.proofs.Common.{take_all, take-append-drop, length-append, length-take-le, length-drop, get_or, take}
-use Rattle.std.proofs.Common.{drop, refl, sym, ap, ◌∙◌, subst, inl, inr, arith, Contains, leb, cond}
-use Rattle.std.specs.List.{count_by, sum_by}
-use Rattle.std.specs.List.Sorted.{IsPartitionPoint}
-use Rattle.std.proofs.lemmas.List.{take_more, drop_more}
+use Rattle.std.proofs.Common.{drop, refl, sym, ap, ◌∙◌, subst, inl, inr, arith, Contains, leb, cond, count_by, sum_by}
+use Rattle.std.{specs.List.Sorted.IsPartitionPoint, proofs.lemmas.List.take_more, proofs.lemmas.List.drop_more}
 use Rattle.std.proofs.lemmas.List.Sums.{count_by_more_yes, count_by_more_no, sum_by-append, sum_by-take-drop}
 use Rattle.std.proofs.lemmas.List.Elements.{Contains-append_cases, Contains-append_left, Contains-append_right}
 use Rattle.hlc_values.proofs.MemberLemmas.{Contains-cons_cases}

@@ -5,13 +5,10 @@ use Rattle.std.proofs.Common.{get_or-take, get_or-drop, length-drop, length-take
 use Rattle.std.proofs.Common.{append_assoc, take, drop, refl, sym, ap, ◌∙◌, subst, inl, inr, arith, Contains, All, leb}
 use Rattle.std.proofs.Common.{ltb, Bool}
 use Rattle.std.specs.List.Sorted.{IsPartitionedBy, IsPartitionPoint, IsPermutation, IsSortedBy}
-use Rattle.std.specs.Cmp.{IsTotalOrder}
-use Rattle.std.specs.Ordering.{nat_cmp, ordering_then, is_lt}
+use Rattle.std.specs.{Cmp.IsTotalOrder, Ordering.nat_cmp, Ordering.ordering_then, Ordering.is_lt}
 use Rattle.std.proofs.lemmas.Cmp.{then_total, on_total, back_total, nat_cmp_total}
-use Rattle.std.proofs.lemmas.Bool.{cases_lt}
-use Rattle.std.proofs.lemmas.Bool.Decides.{nat_tests}
-use Rattle.std.proofs.lemmas.List.{get_or_default, get_or_append_left, get_or-append_right, take-append-le, length_push}
-use Rattle.std.proofs.lemmas.List.{get_or_push}
+use Rattle.std.proofs.lemmas.{Bool.cases_lt, Bool.Decides.nat_tests, List.get_or_default, List.get_or_append_left}
+use Rattle.std.proofs.lemmas.{List.get_or-append_right, List.take-append-le, List.length_push, List.get_or_push}
 use Rattle.std.proofs.lemmas.List.Sorted.{All-permutation, Contains-permutation, IsPermutation-append_right}
 use Rattle.std.proofs.lemmas.List.Sorted.{length_permutation, sorted_far, ranks_by}
 use Rattle.hlc_table_order.specs.Newest.{NotAbove, IsNewestBelow}

@@ -1,7 +1,6 @@
 -- An index: the positions of the first rows, in the order of their stamps and nodes.
 use Rattle.std.specs.Prelude.{◌≡◌, ◌++◌, ◌≤◌, ◌<◌, ℕ, List, All, Contains, length, slice_index}
-use Rattle.std.specs.Ordering.{nat_cmp, ordering_then}
-use Rattle.std.specs.declared.cmp.Ordering.{Ordering}
+use Rattle.std.specs.{Ordering.nat_cmp, Ordering.ordering_then, declared.cmp.Ordering.Ordering}
 use Rattle.hlc_table_order.specs.Newest.{NotAbove}
 
 -- no row in the list of positions is above a later one

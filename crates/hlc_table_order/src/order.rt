@@ -1,8 +1,7 @@
 //! The index of a key with many rows: the positions of its first rows, in the order of their stamps and nodes. It only
 //! makes reads fast, so if memory runs out, it stays as it was.
 ghost use Rattle.std.specs.Prelude.{◌≡◌, ◌≤◌, ◌<◌, ◌+◌, ◌++◌, [], ℕ, IsTrue, IfOk, length, take, drop, slice_index};
-ghost use Rattle.std.specs.Prelude.{◌/◌, ◌==◌, false, min, nat_le, if◌then◌else◌};
-ghost use Rattle.std.specs.List.Sorted.{IsPermutation};
+ghost use Rattle.std.specs.Prelude.{◌/◌, ◌==◌, false, min, nat_le, if◌then◌else◌, IsPermutation};
 ghost use Rattle.hlc_table_order.specs.Order.{Rises, IsIndex, IsNumbered, place_cmp};
 
 use crate::newest::{is_below, node_at, stamp_at};

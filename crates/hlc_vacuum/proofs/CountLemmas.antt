@@ -5,8 +5,7 @@ use Rattle.std.proofs.Common.{filter, ◌≡◌, ℕ, ◌≤◌, List, [], ◌�
 use Rattle.std.proofs.lemmas.Bool.{cases_lt, ltb-true, lt-leb, lt-ltb, le-leb, le-ltb}
 use Rattle.hlc_values.proofs.MemberLemmas.{Contains-filter, Contains-from_filter}
 use Rattle.hlc_values.proofs.PigeonLemmas.{served, sum_by_one}
-use Rattle.hlc_rows.specs.Rows.{IsRowSet, IsSameVersion}
-use Rattle.hlc_rows.specs.declared.row.Row.{Row}
+use Rattle.hlc_rows.specs.{Rows.IsRowSet, Rows.IsSameVersion, declared.row.Row.Row}
 use Rattle.hlc_table_column.proofs.FlagLemmas.{filter-IsRowSet}
 use Rattle.hlc_vacuum.specs.Representing.{count_above}
 use Rattle.hlc_vacuum_draft.specs.Vacuumed.{rows_to}

@@ -1,36 +1,22 @@
 -- Rows of which those of some keys are kept by flags, and all others are kept. What is kept is a row set, has the other
 -- rows unchanged, and of the rows of the keys those whose flags are set. Each is shown by going through the rows, and
 -- then through the keys.
-use Rattle.std.proofs.Common.{◌≡◌, ◌≢◌, ℕ, ◌+◌, Bool, true, false, not, cond, List, [], ◌∷◌, ◌++◌}
-use Rattle.std.proofs.Common.{length, refl}
-use Rattle.std.proofs.Common.{sym, ap, ap₂, ◌∙◌, subst, inl, inr, arith, filter, take, drop, true≢false, Less}
-use Rattle.std.proofs.Common.{nat_cmp}
-use Rattle.std.specs.Prelude.{All, count_by}
-use Rattle.std.specs.Ordering.{is_eq}
-use Rattle.std.specs.Cmp.Lexicographic.{slice_cmp}
-use Rattle.std.specs.List.{AllByRecursion, items_where_true}
-use Rattle.std.specs.Str.{bytes_eq}
-use Rattle.std.proofs.lemmas.Bool.{cases_Bool}
-use Rattle.std.proofs.lemmas.List.{append-nil, append_assoc, length-append, length-drop, length-take-le}
+use Rattle.std.proofs.Common.{◌≡◌, ◌≢◌, ℕ, ◌+◌, Bool, true, false, not, cond, List, [], ◌∷◌, ◌++◌, length, refl, sym}
+use Rattle.std.proofs.Common.{ap, ap₂, ◌∙◌, subst, inl, inr, arith, filter, take, drop, true≢false, Less, nat_cmp}
+use Rattle.std.proofs.Common.{Contains, Some, None, zero, suc, get_or, ◌≤◌, ◌<◌, ◌-◌, All, count_by, is_eq, bytes_eq}
+use Rattle.std.proofs.Common.{le-ltb, append-nil, append_assoc, length-append, length-drop, length-take-le}
+use Rattle.std.specs.{Cmp.Lexicographic.slice_cmp, List.AllByRecursion, List.items_where_true}
+use Rattle.std.proofs.lemmas.{Bool.cases_Bool, Slice.Eq.bytes_eq-Decides, Map.Keys.sorted_head, Map.Keys.sorted_tail}
+use Rattle.std.proofs.lemmas.List.{length-map, drop_more, Sums.length-filter}
 use Rattle.std.proofs.lemmas.List.Elements.{filter-append, All-head, All-tail, All-map}
-use Rattle.std.proofs.lemmas.List.Sums.{length-filter}
-use Rattle.std.proofs.lemmas.Map.Keys.{sorted_head, sorted_tail}
-use Rattle.std.proofs.lemmas.Slice.Eq.{bytes_eq-Decides}
-use Rattle.hlc_rows.specs.declared.row.Row.{Row}
-use Rattle.hlc_rows.specs.Rows.{IsRowSet}
+use Rattle.hlc_rows.specs.{declared.row.Row.Row, Rows.IsRowSet}
 use Rattle.hlc_table_column.specs.Cells.{Cell}
 use Rattle.hlc_table_column.specs.Rows.{row_of, rows_of, rows_with, KeyCells, rows_in_one, rows_in, keys_in, KeysAscend}
-use Rattle.std.proofs.Common.{Contains, Some, None, zero, suc, get_or, ◌≤◌, ◌<◌, ◌-◌}
-use Rattle.std.proofs.lemmas.Bool.{le-ltb}
-use Rattle.std.proofs.lemmas.List.{length-map, drop_more}
-use Rattle.hlc_columns.specs.Answers.{in_part, part_end, last_key}
-use Rattle.hlc_columns.specs.Table.{rows_kept}
+use Rattle.hlc_columns.specs.{Answers.in_part, Answers.part_end, Answers.last_key, Table.rows_kept}
 use Rattle.hlc_vacuum.specs.Part.{all_kept, HaveFlags, IsPartOf, IsPartVacuum}
-use Rattle.hlc_vacuum.specs.Representing.{IsWithin}
+use Rattle.hlc_vacuum.specs.{Representing.IsWithin, declared.part.PartPlan.PartPlan}
 use Rattle.hlc_vacuum.proofs.WithinLemmas.{within-same, within-twice}
-use Rattle.hlc_vacuum_draft.specs.Report.{report_of}
-use Rattle.hlc_vacuum.specs.declared.part.PartPlan.{PartPlan}
-use Rattle.hlc_vacuum_draft.specs.declared.report.Report.{Report}
+use Rattle.hlc_vacuum_draft.specs.{Report.report_of, declared.report.Report.Report}
 use Rattle.hlc_table_column.proofs.FlagLemmas.{flagged-none, flagged-append, flagged-map, flagged-IsRowSet}
 use Rattle.hlc_table_column.proofs.FlagLemmas.{flagged-Contains}
 use Rattle.hlc_columns.proofs.FoundLemmas.{other_key}

@@ -1,22 +1,18 @@
 -- The drafts of the pieces of some leaves, joined: each piece adds its draft to those before it, since the keys of all
 -- pieces ascend; and so do each leaf and each column.
-use Rattle.std.proofs.Common.{◌≡◌, ◌∙◌, ◌+◌, ◌<◌, ◌≤◌, ℕ, zero, suc, List, [], ◌∷◌, ◌++◌, length, Result, Ok}
-use Rattle.std.proofs.Common.{sym, ap, ap₂, refl, subst, arith, get_or, slice_get, None, Some, take, drop}
-use Rattle.std.specs.List.{AllZip}
-use Rattle.std.specs.declared.alloc.AllocError.{AllocError}
+use Rattle.std.proofs.Common.{◌≡◌, ◌∙◌, ◌+◌, ◌<◌, ◌≤◌, ℕ, zero, suc, List, [], ◌∷◌, ◌++◌, length, Result, Ok, sym, ap}
+use Rattle.std.proofs.Common.{ap₂, refl, subst, arith, get_or, slice_get, None, Some, take, drop}
+use Rattle.std.specs.{List.AllZip, declared.alloc.AllocError.AllocError}
 use Rattle.std.proofs.lemmas.List.{append-nil, append_assoc, length-append, length-map, take_more, take-append-drop}
-use Rattle.std.proofs.lemmas.Option.{get_or_from_slice_get}
-use Rattle.std.proofs.lemmas.Grind.{flat_map-append}
+use Rattle.std.proofs.lemmas.{Option.get_or_from_slice_get, Grind.flat_map-append}
 use Rattle.hlc_table_column.specs.Rows.{KeyCells, KeysAscend, row_of, rows_in, rows_in_one}
-use Rattle.hlc_vacuum_draft.specs.declared.draft.Draft.{Draft}
+use Rattle.hlc_vacuum_draft.specs.{declared.draft.Draft.Draft, KeyPlan.AddsPlan, KeyPlan.IsDraftOf, KeyPlan.own_changes}
 use Rattle.hlc_witness.specs.AllChanges.{key_changes}
-use Rattle.hlc_vacuum_draft.specs.KeyPlan.{AddsPlan, IsDraftOf, own_changes}
-use Rattle.hlc_vacuum.specs.declared.piece.Piece.{Piece}
+use Rattle.hlc_vacuum.specs.{declared.piece.Piece.Piece, Leaves.JoinsMore, Leaves.IsPieceOf}
 use Rattle.hlc_columns.specs.Table.{columns_in}
-use Rattle.hlc_vacuum.specs.Leaves.{JoinsMore, IsPieceOf}
 use Rattle.hlc_vacuum.specs.Parallel.{DraftsPiece, leaves_of}
-use Rattle.hlc_vacuum_draft.proofs.JoinedLemmas.{ascend_front, ascend_back, column_next, own-append}
-use Rattle.hlc_vacuum_draft.proofs.JoinedLemmas.{draft_append, draft_none, draft_push, draft_same}
+use Rattle.hlc_vacuum_draft.proofs.JoinedLemmas.{ascend_front, ascend_back, column_next, own-append, draft_append}
+use Rattle.hlc_vacuum_draft.proofs.JoinedLemmas.{draft_none, draft_push, draft_same}
 
 -- the columns of some pieces, and of others after them
 columns_both : (xs ys : List (List KeyCells)) → columns_in (xs ++ ys) ≡ columns_in xs ++ columns_in ys

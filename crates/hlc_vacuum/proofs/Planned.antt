@@ -1,15 +1,12 @@
 -- The plans of pieces and the tallies of drafts.
 use Rattle.std.proofs.Common.{◌≡◌, ◌∙◌, ℕ, List, length, ap, sym, subst}
-use Rattle.hlc_rows.specs.declared.row.Row.{Row}
-use Rattle.hlc_rows.specs.Rows.{IsRowSet}
+use Rattle.hlc_rows.specs.{declared.row.Row.Row, Rows.IsRowSet}
 use Rattle.hlc_clock.specs.Points.{PointsAscend}
 use Rattle.hlc_table_column.specs.Rows.{KeyCells, KeysAscend, rows_in}
 use Rattle.hlc_vacuum_draft.specs.Plan.{PlanView, TallyView, IsPlanOf, IsTallyOf}
-use Rattle.hlc_vacuum_draft.specs.declared.draft.Draft.{Draft}
-use Rattle.hlc_vacuum_draft.specs.KeyPlan.{IsDraftOf, IsJoined}
+use Rattle.hlc_vacuum_draft.specs.{declared.draft.Draft.Draft, KeyPlan.IsDraftOf, KeyPlan.IsJoined}
 use Rattle.hlc_vacuum_draft.proofs.JoinedLemmas.{joined_plans, draft_tallies}
-use Rattle.hlc_vacuum.specs.declared.piece.Piece.{Piece}
-use Rattle.hlc_vacuum.specs.Leaves.{IsPieceOf}
+use Rattle.hlc_vacuum.specs.{declared.piece.Piece.Piece, Leaves.IsPieceOf}
 
 -- the number of the changes of a piece
 pub piece_counted : (columns : List KeyCells) (points : List ℕ) (piece : Piece) → IsPieceOf columns points piece

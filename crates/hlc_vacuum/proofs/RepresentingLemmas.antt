@@ -1,25 +1,20 @@
 -- Stored rows continue to represent all accepted ones. A vacuum at the floor preserves the answers at the floor and all
 -- rows above it, so it preserves the answers from the floor on; a row written above the horizon is stored, and is later
 -- than each row at or below it.
-use Rattle.std.proofs.Common.{Contains, length, get_or, refl, sym, ◌∙◌, subst, ◌⊎◌, inl, inr, arith, leb, true, ◌≡◌}
-use Rattle.std.proofs.Common.{ℕ, ◌≤◌, List, [], ◌∷◌, IsPermutation, ◌-◌, ◌<◌, ◌+◌, ◌++◌, ◌↔◌}
+use Rattle.std.proofs.Common.{Contains, length, get_or, refl, sym, ◌∙◌, subst, ◌⊎◌, inl, inr, arith, leb, true, ◌≡◌, ℕ}
+use Rattle.std.proofs.Common.{◌≤◌, List, [], ◌∷◌, IsPermutation, ◌-◌, ◌<◌, ◌+◌, ◌++◌, ◌↔◌}
 use Rattle.std.proofs.lemmas.Bool.{cases_lt, leb-true, lt-leb, lt-ltb, le-leb, le-ltb}
 use Rattle.std.proofs.lemmas.List.{length_push}
 use Rattle.std.proofs.lemmas.List.Elements.{All-contains, All-weaker, filter_passes, Contains-push_cases}
 use Rattle.std.proofs.lemmas.List.Elements.{Contains-get_or, Contains-append_left, Contains-push}
-use Rattle.std.proofs.lemmas.List.Sorted.{All-permutation, Contains-permutation, IsPermutation-sym}
-use Rattle.std.proofs.lemmas.List.Sorted.{length_permutation}
+use Rattle.std.proofs.lemmas.List.Sorted.{All-permutation, Contains-permutation, IsPermutation-sym, length_permutation}
 use Rattle.hlc_values.proofs.MemberLemmas.{Contains-from_filter}
 use Rattle.hlc_clock.specs.Points.{PointsAscend, last_point}
-use Rattle.hlc_rows.specs.Rows.{IsRowSet}
-use Rattle.hlc_rows.specs.declared.row.Row.{Row}
-use Rattle.hlc_witness.specs.Certificate.{IsCertificate, RowsAscend}
-use Rattle.hlc_witness.specs.Changes.{AreChanges}
-use Rattle.hlc_witness.specs.Cost.{AreInLimits, IsInLimits}
-use Rattle.hlc_witness.specs.Fewest.{Alike}
+use Rattle.hlc_rows.specs.{Rows.IsRowSet, declared.row.Row.Row}
+use Rattle.hlc_witness.specs.{Certificate.IsCertificate, Certificate.RowsAscend, Cost.AreInLimits, Cost.IsInLimits}
+use Rattle.hlc_witness.specs.{Changes.AreChanges, Fewest.Alike, declared.witness.Witness.Witness}
 use Rattle.hlc_vacuum.specs.Representing.{RowsRepresent, RepresentsAfterVacuum, count_above, count_between}
 use Rattle.hlc_vacuum_draft.specs.Vacuumed.{IsVacuumOf, rows_to}
-use Rattle.hlc_witness.specs.declared.witness.Witness.{Witness}
 use Rattle.hlc_witness.proofs.CertificateLemmas.{fewest_rows_are_certified, ascending_rows_are_a_row_set}
 use Rattle.hlc_witness.proofs.ChangeLemmas.{changes_force_rows, changes_alike}
 use Rattle.hlc_vacuum.proofs.CountLemmas.{split_count, same_above, count_push}

@@ -1,8 +1,7 @@
 -- The plans of the columns of a leaf, after those of the columns before it; and the changes beside a draft.
 use Rattle.std.specs.Prelude.{◌≡◌, ℕ, List, ◌++◌}
 use Rattle.hlc_table_column.specs.Rows.{KeyCells, KeysAscend}
-use Rattle.hlc_vacuum_draft.specs.declared.draft.Draft.{Draft}
-use Rattle.hlc_vacuum_draft.specs.KeyPlan.{IsDraftOf, own_changes}
+use Rattle.hlc_vacuum_draft.specs.{declared.draft.Draft.Draft, KeyPlan.IsDraftOf, KeyPlan.own_changes}
 use Rattle.hlc_vacuum.specs.declared.piece.Piece.{Piece}
 
 -- Whatever columns one draft is of, the other is of them and of some more.

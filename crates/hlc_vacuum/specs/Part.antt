@@ -1,17 +1,12 @@
 -- The plan of the columns of some keys, and what is done by it.
-use Rattle.std.specs.Prelude.{◌≡◌, ◌+◌, ◌≤◌, ◌∷◌, [], ℕ, Bool, List, ⊤, length, take, drop, filter}
-use Rattle.std.specs.Prelude.{not, Contains}
-use Rattle.hlc_rows.specs.declared.row.Row.{Row}
-use Rattle.hlc_rows.specs.Rows.{IsRowSet}
+use Rattle.std.specs.Prelude.{◌≡◌, ◌+◌, ◌≤◌, ◌∷◌, [], ℕ, Bool, List, ⊤, length, take, drop, filter, not, Contains}
+use Rattle.hlc_rows.specs.{declared.row.Row.Row, Rows.IsRowSet}
 use Rattle.hlc_witness.specs.Cost.{rows_cost}
-use Rattle.hlc_columns.specs.Answers.{AreNext, part_end}
+use Rattle.hlc_columns.specs.{Answers.AreNext, Answers.part_end, Table.rows_kept}
 use Rattle.hlc_table_column.specs.Rows.{rows_with, KeyCells, keys_in, rows_in}
-use Rattle.hlc_columns.specs.Table.{rows_kept}
 use Rattle.hlc_vacuum_draft.specs.Plan.{IsPlanOf, PlanView, tally_of}
-use Rattle.hlc_vacuum_draft.specs.Vacuumed.{IsVacuumOf, rows_to}
-use Rattle.hlc_vacuum.specs.declared.part.PartPlan.{PartPlan}
-use Rattle.hlc_vacuum.specs.declared.part.PartTally.{PartTally}
-use Rattle.hlc_vacuum_draft.specs.declared.report.Report.{Report}
+use Rattle.hlc_vacuum_draft.specs.{Vacuumed.IsVacuumOf, Vacuumed.rows_to, declared.report.Report.Report}
+use Rattle.hlc_vacuum.specs.declared.part.{PartPlan.PartPlan, PartTally.PartTally}
 
 -- among some rows those of several keys are kept if their flags are set, each key in turn with as many flags as it has
 -- rows; all others are kept

@@ -1,11 +1,8 @@
 -- Stored rows that represent all accepted ones, whatever vacuums dropped.
 use Rattle.std.specs.Prelude.{◌≡◌, ℕ, ◌+◌, ◌<◌, ◌≤◌, ◌&&◌, Bool, List, length, Contains, filter, nat_lt, nat_le}
 use Rattle.std.specs.List.{items_where_true}
-use Rattle.hlc_rows.specs.declared.row.Row.{Row}
-use Rattle.hlc_rows.specs.Rows.{answer, IsRowSet}
-use Rattle.hlc_witness.specs.declared.witness.Witness.{Witness}
-use Rattle.hlc_witness.specs.Fewest.{Fewest}
-use Rattle.hlc_witness.specs.Changes.{AreChanges}
+use Rattle.hlc_rows.specs.{declared.row.Row.Row, Rows.answer, Rows.IsRowSet}
+use Rattle.hlc_witness.specs.{declared.witness.Witness.Witness, Fewest.Fewest, Changes.AreChanges}
 use Rattle.hlc_vacuum_draft.specs.Vacuumed.{rows_to}
 
 -- the new rows are the old ones at the places of some flags that are set, in the same order: none is added

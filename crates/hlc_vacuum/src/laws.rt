@@ -2,12 +2,9 @@
 ghost use Rattle.std.specs.Prelude.{◌≡◌, ◌↔◌, ◌⊎◌, ◌+◌, ◌<◌, ◌≤◌, ℕ, List, [], ◌∷◌, ◌++◌, length, Contains};
 ghost use Rattle.std.specs.List.Sorted.{IsPermutation};
 ghost use Rattle.hlc_clock.specs.Points.{PointsAscend, last_point};
-ghost use Rattle.hlc_rows.specs.declared.row.Row.{Row as ARow};
-ghost use Rattle.hlc_rows.specs.Rows.{IsRowSet};
-ghost use Rattle.hlc_witness.specs.declared.witness.Witness.{Witness as AWitness};
-ghost use Rattle.hlc_witness.specs.Fewest.{Fewest};
+ghost use Rattle.hlc_rows.specs.{declared.row.Row.Row as ARow, Rows.IsRowSet};
+ghost use Rattle.hlc_witness.specs.{declared.witness.Witness.Witness as AWitness, Fewest.Fewest, Changes.AreChanges};
 ghost use Rattle.hlc_witness.specs.Cost.{Cheapest, AreInLimits, changes_cost, rows_cost};
-ghost use Rattle.hlc_witness.specs.Changes.{AreChanges};
 ghost use Rattle.hlc_witness.specs.Certificate.{IsCertificate, RowsAscend};
 ghost use Rattle.hlc_vacuum_draft.specs.Vacuumed.{KeepsNewest, IsVacuumOf, rows_to};
 ghost use Rattle.hlc_vacuum.specs.Representing.{RowsRepresent, RepresentsAfterVacuum, count_above, count_between};

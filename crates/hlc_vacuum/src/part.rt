@@ -5,8 +5,7 @@ ghost use Rattle.hlc_columns.specs.Answers.{in_part, part_end};
 ghost use Rattle.hlc_table_column.specs.Rows.{KeyCells, keys_in};
 ghost use Rattle.hlc_vacuum.specs.Part.{all_kept, with_plan, HaveFlags, IsPartOf, IsPartTallyOf, IsPartVacuum};
 ghost use Rattle.hlc_vacuum.specs.Representing.{IsWithin};
-ghost use Rattle.hlc_vacuum_draft.specs.Plan.{PlanView, tally_of};
-ghost use Rattle.hlc_vacuum_draft.specs.Report.{numbers_in, report_of};
+ghost use Rattle.hlc_vacuum_draft.specs.{Plan.PlanView, Plan.tally_of, Report.numbers_in, Report.report_of};
 
 use crate::piece::Piece;
 use crate::plan::{Plan, Tally};

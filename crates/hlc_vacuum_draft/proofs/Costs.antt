@@ -3,11 +3,9 @@
 use Rattle.std.proofs.Common.{◌≡◌, ◌∙◌, ℕ, ◌+◌, List, [], ◌∷◌, ◌++◌, Contains, ap, ap₂, sym, refl, arith}
 use Rattle.std.specs.Prelude.{option_and_then}
 use Rattle.std.proofs.lemmas.List.Sums.{sum_by-append, sum_by-cons}
-use Rattle.hlc_rows.specs.declared.row.Row.{Row}
-use Rattle.hlc_rows.specs.Rows.{newest}
+use Rattle.hlc_rows.specs.{declared.row.Row.Row, Rows.newest}
 use Rattle.hlc_values.proofs.MemberLemmas.{Contains-first, Contains-rest}
-use Rattle.hlc_witness.specs.declared.witness.Witness.{Witness}
-use Rattle.hlc_witness.specs.Cost.{cost_of, change_cost, changes_cost}
+use Rattle.hlc_witness.specs.{declared.witness.Witness.Witness, Cost.cost_of, Cost.change_cost, Cost.changes_cost}
 
 -- one more change forces a row of its key with the changed value
 pub cost-push : (rows : List Row) (changes : List Witness) (change : Witness)

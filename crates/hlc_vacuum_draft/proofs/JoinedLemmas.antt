@@ -1,38 +1,28 @@
 -- The plan of a table is the plans of its columns one after another: rows of other keys change neither the newest row
 -- of a key nor its changes.
-use Rattle.std.proofs.Common.{◌≡◌, ◌≢◌, ◌<◌, ◌+◌, ℕ, List, [], ◌∷◌, ◌++◌, length, Bool, sym, ap, ap₂, ◌∙◌, refl}
-use Rattle.std.proofs.Common.{subst, arith}
-use Rattle.std.proofs.Common.{None, take, drop, get_or, Contains, inl, inr, Less, nat_cmp}
-use Rattle.std.specs.List.{AllByRecursion, items_where_true}
+use Rattle.std.proofs.Common.{◌≡◌, ◌≢◌, ◌<◌, ◌+◌, ℕ, List, [], ◌∷◌, ◌++◌, length, Bool, sym, ap, ap₂, ◌∙◌, refl, subst}
+use Rattle.std.proofs.Common.{arith, None, take, drop, get_or, Contains, inl, inr, Less, nat_cmp}
+use Rattle.std.specs.List.{AllByRecursion, items_where_true, Sorted.IsStrictlySortedBy}
 use Rattle.std.specs.Cmp.Lexicographic.{slice_cmp}
-use Rattle.std.specs.List.Sorted.{IsStrictlySortedBy}
-use Rattle.std.proofs.lemmas.Cmp.{nat_list_cmp_total, tied_itself}
+use Rattle.std.proofs.lemmas.{Cmp.nat_list_cmp_total, Cmp.tied_itself, Map.Views.All-after_first, Grind.flat_map-append}
 use Rattle.std.proofs.lemmas.List.{append-nil, length-append, take_more, map-append, take-append-drop}
 use Rattle.std.proofs.lemmas.List.Elements.{Contains-append_cases, Contains-append_right, All-contains}
-use Rattle.std.proofs.lemmas.Map.Views.{All-after_first}
-use Rattle.std.proofs.lemmas.Grind.{flat_map-append}
-use Rattle.hlc_rows.specs.declared.row.Row.{Row}
-use Rattle.hlc_rows.specs.Rows.{newest, IsRowSet}
-use Rattle.hlc_witness.specs.declared.witness.Witness.{Witness}
+use Rattle.hlc_rows.specs.{declared.row.Row.Row, Rows.newest, Rows.IsRowSet}
+use Rattle.hlc_witness.specs.{declared.witness.Witness.Witness, Changes.AreChanges, Cost.changes_cost}
 use Rattle.hlc_clock.specs.Points.{last_point, PointsAscend}
-use Rattle.hlc_witness.specs.Changes.{AreChanges}
 use Rattle.hlc_witness.specs.AllChanges.{key_changes, changes_of}
-use Rattle.hlc_vacuum_draft.specs.Vacuumed.{IsVacuumOf}
+use Rattle.hlc_vacuum_draft.specs.{Vacuumed.IsVacuumOf, Draft.IsDraft}
 use Rattle.hlc_table_column.specs.Cells.{Cell}
 use Rattle.hlc_table_column.specs.Rows.{KeyCells, rows_of, rows_in_one, rows_in, keys_in, KeysAscend}
-use Rattle.hlc_vacuum_draft.specs.Draft.{IsDraft}
-use Rattle.hlc_vacuum_draft.specs.declared.draft.Draft.{Draft}
+use Rattle.hlc_vacuum_draft.specs.{declared.draft.Draft.Draft, Plan.IsPlanOf, Plan.IsTallyOf}
 use Rattle.hlc_vacuum_draft.specs.KeyPlan.{IsKeyPlan, IsKeyVacuum, IsJoined, IsDraftOf, AddsPlan, own_changes}
 use Rattle.hlc_table_column.proofs.RowLemmas.{row_key, key_among}
 use Rattle.hlc_rows.proofs.NewestLemmas.{newest_after_others, newest_before_others}
 use Rattle.hlc_witness.proofs.ChangeLemmas.{changes_are_found_key_by_key}
-use Rattle.hlc_vacuum_draft.specs.Plan.{IsPlanOf, IsTallyOf}
 use Rattle.hlc_vacuum_draft.proofs.VacuumLemmas.{newest_rows_suffice, vacuums_cost_changes}
 use Rattle.hlc_values.proofs.MemberLemmas.{Contains-none, Contains-first, Contains-rest, Contains-cons_cases}
-use Rattle.hlc_witness.specs.Cost.{changes_cost}
-use Rattle.hlc_vacuum_draft.proofs.Costs.{cost-append}
+use Rattle.hlc_vacuum_draft.proofs.{Costs.cost-append, Steps.changes_alike, Steps.changes-of}
 use Rattle.hlc_vacuum_draft.proofs.Drafts.{draft-append, draft-none, draft-KeepsNewest}
-use Rattle.hlc_vacuum_draft.proofs.Steps.{changes_alike, changes-of}
 
 -- the front of an ascending list, and its back, ascend
 all_front : {X : Type 0} (P : X → Type 0) (xs ys : List X) → AllByRecursion P (xs ++ ys) → AllByRecursion P xs

@@ -5,20 +5,16 @@
 use Rattle.std.proofs.Common.{Contains, true≢false, sum_by, Option, Some, None, length, get_or, refl, sym, ap, ◌∙◌}
 use Rattle.std.proofs.Common.{subst, ◌⊎◌, inl, inr, arith, leb, bytes_eq, ◌≡◌, ◌≢◌, ℕ, ◌≤◌, List, suc, ◌-◌, ◌<◌, zero}
 use Rattle.std.proofs.lemmas.Bool.{cases_Bool, cases_lt, cases_order, leb-true}
-use Rattle.std.proofs.lemmas.List.{get_or_default}
-use Rattle.std.proofs.lemmas.List.Elements.{All-contains, Contains-get_or}
-use Rattle.std.proofs.lemmas.Option.{none-some, same_Some}
-use Rattle.std.proofs.lemmas.Slice.Eq.{bytes_eq-Decides}
+use Rattle.std.proofs.lemmas.List.{get_or_default, Elements.All-contains, Elements.Contains-get_or}
+use Rattle.std.proofs.lemmas.{Option.none-some, Option.same_Some, Slice.Eq.bytes_eq-Decides}
 use Rattle.hlc_values.proofs.MemberLemmas.{Contains-from_filter}
 use Rattle.hlc_values.proofs.PigeonLemmas.{served, sum_by_one}
 use Rattle.hlc_clock.specs.Points.{IsPointBefore, PointsAscend, last_point}
-use Rattle.hlc_rows.specs.Rows.{IsSameVersion, newest, answer}
-use Rattle.hlc_rows.specs.declared.row.Row.{Row}
+use Rattle.hlc_rows.specs.{Rows.IsSameVersion, Rows.newest, Rows.answer, declared.row.Row.Row}
 use Rattle.hlc_rows.proofs.NewestLemmas.{newest_is_greatest, no_later_stamp, answer_none, answer_some, answer_stays}
 use Rattle.hlc_witness.specs.Changes.{AreChanges, IsChange, answer_at}
-use Rattle.hlc_witness.specs.Fewest.{Alike}
+use Rattle.hlc_witness.specs.{Fewest.Alike, declared.witness.Witness.Witness}
 use Rattle.hlc_vacuum_draft.specs.Vacuumed.{rows_to, KeepsNewest}
-use Rattle.hlc_witness.specs.declared.witness.Witness.{Witness}
 use Rattle.hlc_witness.proofs.ChangeLemmas.{changes_force_rows}
 use Rattle.hlc_vacuum_draft.proofs.PartLemmas.{apart_rows, newest_in_part, none_in_part, answer-rows_to}
 use Rattle.hlc_witness.proofs.PlaceLemmas.{first_point, next_point, before_one, last_upper}

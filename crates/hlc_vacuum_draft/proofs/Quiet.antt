@@ -1,22 +1,16 @@
 -- If no row is between two points, the answer does not change, so there is no change.
 use Rattle.std.proofs.Common.{◌≡◌, ◌<◌, ◌≤◌, ◌+◌, ◌⊎◌, ◌∙◌, ℕ, zero, suc, List, [], ◌∷◌, length, map, drop, get_or}
-use Rattle.std.proofs.Common.{slice_get, Contains, Option, Some, None, sym, ap, refl, subst, inl, inr, arith}
-use Rattle.std.specs.Prelude.{IfSome}
+use Rattle.std.proofs.Common.{slice_get, Contains, Option, Some, None, sym, ap, refl, subst, inl, inr, arith, IfSome}
+use Rattle.std.proofs.Common.{length-drop, get_or-drop}
 use Rattle.std.proofs.lemmas.Option.{none-some, same_Some, slice_get-get_or}
-use Rattle.std.proofs.lemmas.List.{length-drop, get_or-drop, get_or_default}
-use Rattle.std.proofs.lemmas.List.Elements.{All-get_or, Contains-get_or}
+use Rattle.std.proofs.lemmas.List.{get_or_default, Elements.All-get_or, Elements.Contains-get_or}
 use Rattle.hlc_clock.specs.Points.{PointsAscend, last_point}
-use Rattle.hlc_rows.specs.declared.row.Row.{Row}
-use Rattle.hlc_rows.specs.Rows.{newest, answer}
+use Rattle.hlc_rows.specs.{declared.row.Row.Row, Rows.newest, Rows.answer}
 use Rattle.hlc_rows.proofs.NewestLemmas.{newest_is_greatest, answer_none, answer_stays}
-use Rattle.hlc_table_column.specs.Cells.{Cell}
-use Rattle.hlc_table_column.specs.Rows.{row_of, rows_of}
-use Rattle.hlc_witness.specs.Changes.{answer_at}
-use Rattle.hlc_witness.specs.AllChanges.{key_changes}
+use Rattle.hlc_table_column.specs.{Cells.Cell, Rows.row_of, Rows.rows_of}
+use Rattle.hlc_witness.specs.{Changes.answer_at, AllChanges.key_changes}
 use Rattle.hlc_witness.proofs.PlaceLemmas.{rising, last_upper}
-use Rattle.hlc_vacuum_draft.specs.Gaps.{NoneBetween}
-use Rattle.hlc_vacuum_draft.proofs.SoFar.{point_before}
-use Rattle.hlc_vacuum_draft.proofs.Steps.{none_more}
+use Rattle.hlc_vacuum_draft.{specs.Gaps.NoneBetween, proofs.SoFar.point_before, proofs.Steps.none_more}
 
 -- each row is at or below the point before, or at or above the next stamp
 abbrev pub IsQuiet : List Row → Option ℕ → ℕ → Type 0

@@ -2,10 +2,8 @@
 use Rattle.std.proofs.Common.{◌≡◌, ◌+◌, ◌++◌, drop, ℕ, Bool, zero, suc, List, Option, None, Some, map, slice_index}
 use Rattle.std.proofs.Common.{length}
 use Rattle.hlc_rows.specs.declared.row.Row.{Row}
-use Rattle.hlc_witness.specs.declared.witness.Witness.{Witness}
+use Rattle.hlc_witness.specs.{declared.witness.Witness.Witness, AllChanges.key_changes, Cost.changes_cost}
 use Rattle.hlc_clock.specs.Points.{last_point}
-use Rattle.hlc_witness.specs.AllChanges.{key_changes}
-use Rattle.hlc_witness.specs.Cost.{changes_cost}
 use Rattle.hlc_vacuum_draft.specs.Draft.{IsDraft}
 
 -- the point before the one at a position

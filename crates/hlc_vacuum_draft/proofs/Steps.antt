@@ -1,27 +1,20 @@
 -- One more point in the plan of a key: the changes so far and those at the remaining points are all changes of the key.
-use Rattle.std.proofs.Common.{◌≡◌, ◌≢◌, ◌<◌, ◌≤◌, ◌+◌, ℕ, zero, suc, List, [], ◌∷◌, ◌++◌, length, Bool, true}
-use Rattle.std.proofs.Common.{cond, sym, ap, ap₂, ◌∙◌, refl, subst, Option, Some, None, drop, map, arith}
-use Rattle.std.proofs.Common.{get_or, set, slice_get, add-one, append_assoc, inl, inr}
+use Rattle.std.proofs.Common.{◌≡◌, ◌≢◌, ◌<◌, ◌≤◌, ◌+◌, ℕ, zero, suc, List, [], ◌∷◌, ◌++◌, length, Bool, true, cond, sym}
+use Rattle.std.proofs.Common.{ap, ap₂, ◌∙◌, refl, subst, Option, Some, None, drop, map, arith, get_or, set, slice_get}
+use Rattle.std.proofs.Common.{add-one, append_assoc, inl, inr}
 use Rattle.std.specs.Prelude.{MatchOption, IfSome, option_and_then, Contains}
-use Rattle.std.proofs.lemmas.List.Elements.{Contains-append_cases}
+use Rattle.std.proofs.lemmas.{List.Elements.Contains-append_cases, Bool.cases_Bool, Option.none-some}
 use Rattle.hlc_values.proofs.MemberLemmas.{Contains-none, Contains-first, Contains-rest, Contains-cons_cases}
-use Rattle.std.proofs.lemmas.Bool.{cases_Bool}
 use Rattle.std.proofs.lemmas.List.{append-nil, drop_more, drop_all, length-append, map-append}
-use Rattle.std.proofs.lemmas.Option.{none-some}
-use Rattle.hlc_rows.specs.declared.row.Row.{Row}
-use Rattle.hlc_rows.specs.Rows.{newest, answer}
-use Rattle.hlc_witness.specs.declared.witness.Witness.{Witness}
-use Rattle.hlc_witness.specs.Changes.{answer_at}
+use Rattle.hlc_rows.specs.{declared.row.Row.Row, Rows.newest, Rows.answer}
+use Rattle.hlc_witness.specs.{declared.witness.Witness.Witness, Changes.answer_at, Cost.cost_of, Cost.changes_cost}
 use Rattle.hlc_clock.specs.Points.{last_point}
 use Rattle.hlc_witness.specs.AllChanges.{is_same_answer, change_at, key_changes}
 use Rattle.hlc_witness.proofs.AnswerLemmas.{same_answer_true, same_answer_from}
 use Rattle.hlc_table_column.specs.Rows.{at_place}
-use Rattle.hlc_vacuum_draft.specs.Draft.{IsDraft}
-use Rattle.hlc_vacuum_draft.specs.KeyPlan.{IsKeyPlan, AddsPlan}
+use Rattle.hlc_vacuum_draft.specs.{Draft.IsDraft, KeyPlan.IsKeyPlan, KeyPlan.AddsPlan}
 use Rattle.hlc_vacuum_draft.proofs.SoFar.{point_before, PlanSoFar, KeyPlanSoFar, AddedSoFar}
-use Rattle.hlc_witness.specs.Cost.{cost_of, changes_cost}
-use Rattle.hlc_vacuum_draft.proofs.Drafts.{draft-marked, draft-unmarked}
-use Rattle.hlc_vacuum_draft.proofs.Costs.{cost-push}
+use Rattle.hlc_vacuum_draft.proofs.{Drafts.draft-marked, Drafts.draft-unmarked, Costs.cost-push}
 
 pub key_changes-more : (rows : List Row) (key : List ℕ) (before : Option ℕ) (point : ℕ) (points : List ℕ)
     → key_changes rows key before (point ∷ points)

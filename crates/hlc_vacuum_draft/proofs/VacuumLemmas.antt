@@ -4,15 +4,12 @@
 use Rattle.std.proofs.Common.{◌∙◌, arith, ◌≡◌, ℕ, List}
 use Rattle.hlc_clock.specs.Points.{PointsAscend, last_point}
 use Rattle.hlc_rows.specs.declared.row.Row.{Row}
-use Rattle.hlc_witness.specs.Changes.{AreChanges}
+use Rattle.hlc_witness.specs.{Changes.AreChanges, Fewest.Alike, Fewest.Fewest, declared.witness.Witness.Witness}
 use Rattle.hlc_witness.specs.Cost.{rows_cost, Cheapest, changes_cost}
-use Rattle.hlc_witness.specs.Fewest.{Alike, Fewest}
 use Rattle.hlc_vacuum_draft.specs.Vacuumed.{IsVacuumOf, rows_to, KeepsNewest}
-use Rattle.hlc_witness.specs.declared.witness.Witness.{Witness}
 use Rattle.hlc_witness.proofs.ChangeLemmas.{changes_force_rows}
 use Rattle.hlc_witness.proofs.CostLemmas.{fewest_rows_cost, fewest_rows_are_cheapest}
-use Rattle.hlc_vacuum_draft.proofs.Kept.{kept_alike, low_count}
-use Rattle.hlc_vacuum_draft.proofs.PartLemmas.{answer-rows_to}
+use Rattle.hlc_vacuum_draft.proofs.{Kept.kept_alike, Kept.low_count, PartLemmas.answer-rows_to}
 use Rattle.hlc_witness.proofs.PlaceLemmas.{last_upper}
 
 -- the newest row at each change, all above the last point, and no other

@@ -1,8 +1,7 @@
 -- Which rows are kept for the changes found so far.
 use Rattle.std.specs.Prelude.{◌≡◌, ◌<◌, ◌⊎◌, ℕ, Bool, true, false, List, Some, length, Contains, slice_get}
 use Rattle.std.specs.Prelude.{slice_index_or}
-use Rattle.hlc_rows.specs.declared.row.Row.{Row}
-use Rattle.hlc_rows.specs.Rows.{newest}
+use Rattle.hlc_rows.specs.{declared.row.Row.Row, Rows.newest}
 use Rattle.hlc_witness.specs.declared.witness.Witness.{Witness}
 
 -- There is a flag for each row. It is set for each row above the bound, for the newest row at each change, and for no

@@ -2,15 +2,11 @@
 use Rattle.std.specs.Prelude.{◌≡◌, ◌+◌, ◌++◌, ℕ, Bool, List, None, flat_map, length, map}
 use Rattle.std.specs.List.{items_where_true}
 use Rattle.hlc_rows.specs.declared.row.Row.{Row}
-use Rattle.hlc_witness.specs.declared.witness.Witness.{Witness}
+use Rattle.hlc_witness.specs.{declared.witness.Witness.Witness, Changes.AreChanges, Cost.changes_cost}
 use Rattle.hlc_clock.specs.Points.{last_point}
-use Rattle.hlc_witness.specs.Changes.{AreChanges}
-use Rattle.hlc_vacuum_draft.specs.Vacuumed.{IsVacuumOf}
+use Rattle.hlc_vacuum_draft.specs.{Vacuumed.IsVacuumOf, Draft.IsDraft, declared.draft.Draft.Draft}
 use Rattle.hlc_witness.specs.AllChanges.{key_changes, changes_of}
-use Rattle.hlc_witness.specs.Cost.{changes_cost}
 use Rattle.hlc_table_column.specs.Rows.{KeyCells, rows_in, rows_in_one, keys_in}
-use Rattle.hlc_vacuum_draft.specs.declared.draft.Draft.{Draft}
-use Rattle.hlc_vacuum_draft.specs.Draft.{IsDraft}
 
 -- the points of the key's changes, and a flag for each of its rows: those above the last point are kept, the newest at
 -- each change, and no other

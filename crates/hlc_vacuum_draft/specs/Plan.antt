@@ -1,11 +1,9 @@
 -- The content of a plan, and the rows that it was made of.
-use Rattle.std.specs.Prelude.{◌≡◌, ℕ, List, Bool, length}
-use Rattle.std.specs.List.{items_where_true}
+use Rattle.std.specs.{Prelude.◌≡◌, Prelude.ℕ, Prelude.List, Prelude.Bool, Prelude.length, List.items_where_true}
 use Rattle.hlc_rows.specs.declared.row.Row.{Row}
 use Rattle.hlc_clock.specs.Points.{PointsAscend, last_point}
 use Rattle.hlc_vacuum_draft.specs.Vacuumed.{IsVacuumOf, rows_to}
-use Rattle.hlc_witness.specs.Cost.{rows_cost}
-use Rattle.hlc_witness.specs.declared.witness.Witness.{Witness}
+use Rattle.hlc_witness.specs.{Cost.rows_cost, declared.witness.Witness.Witness}
 
 -- for each row in turn whether it is kept; the points; the changes that require the rows kept at or below the last
 -- point; and the cost of those rows in bytes

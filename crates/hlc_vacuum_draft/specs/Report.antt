@@ -1,8 +1,7 @@
 -- The report of a plan.
 use Rattle.std.specs.Prelude.{[], length, count_by, not}
 use Rattle.hlc_clock.specs.Points.{last_point}
-use Rattle.hlc_vacuum_draft.specs.declared.report.Numbers.{Numbers}
-use Rattle.hlc_vacuum_draft.specs.declared.report.Report.{Report}
+use Rattle.hlc_vacuum_draft.specs.declared.report.{Numbers.Numbers, Report.Report}
 use Rattle.hlc_vacuum_draft.specs.Plan.{PlanView, TallyView}
 
 -- its last point is the floor; one row is kept for each change, at the cost in the plan; and the rows that it does not

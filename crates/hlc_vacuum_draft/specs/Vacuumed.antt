@@ -1,11 +1,8 @@
 -- The rows that a vacuum keeps.
 use Rattle.std.specs.Prelude.{◌≡◌, ℕ, ◌<◌, ◌⊎◌, List, Some, length, Contains}
-use Rattle.hlc_rows.specs.declared.row.Row.{Row}
-use Rattle.hlc_rows.specs.Rows.{newest, IsRowSet}
-use Rattle.hlc_witness.specs.declared.witness.Witness.{Witness}
+use Rattle.hlc_rows.specs.{declared.row.Row.Row, Rows.newest, Rows.IsRowSet}
+use Rattle.hlc_witness.specs.{declared.witness.Witness.Witness, Fewest.Alike, Changes.AreChanges}
 use Rattle.hlc_clock.specs.Points.{last_point}
-use Rattle.hlc_witness.specs.Fewest.{Alike}
-use Rattle.hlc_witness.specs.Changes.{AreChanges}
 pub use Rattle.hlc_table_column.specs.Rows.{rows_to}
 
 -- The kept rows are among these rows and are a row set, with all rows above the last point. They answer alike at the

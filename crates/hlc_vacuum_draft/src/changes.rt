@@ -1,7 +1,6 @@
 //! Where the changes go that a draft finds.
 ghost use Rattle.std.specs.Prelude.{◌≡◌, ◌++◌, ◌∷◌, [], List, OnOk};
-ghost use Rattle.std.proofs.lemmas.List.{append-nil, append_assoc};
-ghost use Rattle.std.proofs.Common.{sym, ap, ◌∙◌};
+ghost use Rattle.std.proofs.{lemmas.List.append-nil, lemmas.List.append_assoc, Common.sym, Common.ap, Common.◌∙◌};
 ghost use Rattle.hlc_witness.specs.declared.witness.Witness.{Witness as AWitness};
 
 use hlc_clock::Stamp;

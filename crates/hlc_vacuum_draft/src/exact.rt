@@ -2,9 +2,7 @@
 ghost use Rattle.hlc_clock.specs.contracts.exact.StampExact.TheImpl.Laws.{equal-law as stamp_equal};
 ghost use Rattle.hlc_witness.specs.contracts.exact.WitnessExact.TheImpl.Laws.{equal-law as witness_equal};
 ghost use Rattle.hlc_witness.specs.declared.witness.Witness.{Witness as AWitness};
-ghost use Rattle.std.proofs.Common.{rules};
-ghost use Rattle.std.proofs.lemmas.Grind.{common_steps};
-ghost use Rattle.std.specs.Cmp.Lexicographic.{pointwise_decides};
+ghost use Rattle.std.{proofs.Common.rules, proofs.lemmas.Grind.common_steps, specs.Cmp.Lexicographic.pointwise_decides};
 ghost use Rattle.std.specs.Prelude.{ℕ, ◌≡◌, ◌↔◌, IsTrue, List};
 
 use crate::changes::Unlisted;

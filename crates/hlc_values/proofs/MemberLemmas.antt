@@ -1,11 +1,9 @@
 -- Membership in a list: by its first member and its rest, after a map or a filter, and after a member is removed. A
 -- member is identified by its position.
 use Rattle.std.proofs.Common.{◌≡◌, ◌≢◌, ℕ, zero, suc, ◌+◌, ◌-◌, ◌<◌, Bool, true, false, cond, List, [], ◌∷◌, length}
-use Rattle.std.proofs.Common.{get_or, refl, sym, ap, ◌∙◌, subst, ◌⊎◌, inl, inr, arith, Contains, filter, map}
-use Rattle.std.specs.List.{remove}
+use Rattle.std.proofs.Common.{get_or, refl, sym, ap, ◌∙◌, subst, ◌⊎◌, inl, inr, arith, Contains, filter, map, remove}
 use Rattle.std.proofs.lemmas.List.Edits.{length-remove, get_or-remove_below, get_or-remove_above}
-use Rattle.std.proofs.lemmas.Bool.{cases_order, cases_Bool}
-use Rattle.std.proofs.lemmas.List.{get_or_default}
+use Rattle.std.proofs.lemmas.{Bool.cases_order, Bool.cases_Bool, List.get_or_default}
 
 pub Contains-none : {X : Type 0} (x : X) → Contains [] x → ⊥
 Contains-none x (k, l, e) = omega (arith, l)

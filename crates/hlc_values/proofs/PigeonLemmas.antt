@@ -2,10 +2,8 @@
 -- things weigh no more than the list: remove the member that serves the first thing from the list, and go on with the
 -- rest. With a weight of 1 each, there are no more things than members.
 use Rattle.std.proofs.Common.{◌≡◌, ℕ, ◌+◌, ◌<◌, ◌≤◌, List, [], ◌∷◌, length, get_or, refl, sym, ap, subst, arith}
-use Rattle.std.proofs.Common.{Contains, sum_by}
-use Rattle.std.specs.List.{remove}
-use Rattle.std.proofs.lemmas.List.Edits.{length-remove}
-use Rattle.std.proofs.lemmas.List.Sums.{sum_by-cons, sum_by-remove}
+use Rattle.std.proofs.Common.{Contains, sum_by, remove}
+use Rattle.std.proofs.lemmas.List.{Edits.length-remove, Sums.sum_by-cons, Sums.sum_by-remove}
 use Rattle.hlc_values.proofs.MemberLemmas.{Contains-first, Contains-rest, Contains-remove}
 
 -- each is apart from each later one

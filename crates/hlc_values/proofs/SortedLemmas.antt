@@ -1,13 +1,10 @@
 -- Lists in which each member is before each later one: two of them with the same members are equal, since each begins
 -- with the member that is before all others. In a list of ascending numbers, a member that no other exceeds is the
 -- last.
-use Rattle.std.proofs.Common.{◌≡◌, ℕ, suc, ◌+◌, ◌<◌, ◌≤◌, List, [], ◌∷◌, ◌++◌, length, get_or, take, refl, ap, ap₂}
-use Rattle.std.proofs.Common.{sym, ◌∙◌, subst, inl, inr, arith}
-use Rattle.std.specs.Prelude.{Contains, ◌↔◌}
-use Rattle.std.specs.List.{AllPairs}
-use Rattle.std.specs.List.Sorted.{IsStrictlyIncreasing}
-use Rattle.std.proofs.lemmas.Bool.{cases_lt}
-use Rattle.std.proofs.lemmas.List.{take_more, take_all, get_or_default}
+use Rattle.std.proofs.Common.{◌≡◌, ℕ, suc, ◌+◌, ◌<◌, ◌≤◌, List, [], ◌∷◌, ◌++◌, length, get_or, take, refl, ap, ap₂, sym}
+use Rattle.std.proofs.Common.{◌∙◌, subst, inl, inr, arith}
+use Rattle.std.specs.{Prelude.Contains, Prelude.◌↔◌, List.AllPairs, List.Sorted.IsStrictlyIncreasing}
+use Rattle.std.proofs.lemmas.{Bool.cases_lt, List.take_more, List.take_all, List.get_or_default}
 use Rattle.hlc_values.proofs.MemberLemmas.{Contains-none, Contains-first, Contains-rest, Contains-cons_cases}
 
 -- the rest of such a list is such a list, and the first member is before each of the rest

@@ -1,7 +1,6 @@
 //! Values whose equality and copies are exactly what contracts see.
-ghost use Rattle.std.specs.Prelude.{◌≡◌, ◌↔◌, IsTrue};
+ghost use Rattle.std.specs.{Prelude.◌≡◌, Prelude.◌↔◌, Prelude.IsTrue, Cmp.Rules.comparing};
 ghost use Rattle.std.proofs.Common.{rules};
-ghost use Rattle.std.specs.Cmp.Rules.{comparing};
 
 /// Values where `==` returns true exactly on equal ones, and where each copy is equal to its
 /// original.

@@ -1,7 +1,6 @@
 -- The test of two answers is true exactly if they are equal.
 use Rattle.std.proofs.Common.{◌≡◌, ℕ, List, true, true≢false, Option, Some, None, refl, sym, ap}
-use Rattle.std.proofs.lemmas.Option.{none-some, same_Some}
-use Rattle.std.proofs.lemmas.Slice.Eq.{bytes_eq-Decides}
+use Rattle.std.proofs.lemmas.{Option.none-some, Option.same_Some, Slice.Eq.bytes_eq-Decides}
 use Rattle.hlc_witness.specs.AllChanges.{is_same_answer}
 
 pub same_answer_true : (a b : Option (List ℕ)) → is_same_answer a b ≡ true → a ≡ b

@@ -1,24 +1,17 @@
 -- Ascending rows and witnesses by their positions: an order is total, so if neighbours are in order the list is in
 -- order, and what is above the last of an ascending list is above all of it.
-use Rattle.std.proofs.Common.{nat_cmp, Less, Ordering, Some, length, get_or, drop, refl, sym, ap, ◌∙◌, subst}
-use Rattle.std.proofs.Common.{inl, inr, arith, true, slice_get, is_lt, take, ◌≡◌, ℕ, List, [], ◌∷◌, ◌-◌, ◌<◌}
-use Rattle.std.proofs.Common.{◌+◌, ◌++◌, ap₂}
-use Rattle.std.specs.List.Sorted.{IsStrictlySortedBy}
-use Rattle.std.specs.Ordering.{is_gt}
-use Rattle.std.proofs.lemmas.Bool.{cases_order}
-use Rattle.std.proofs.lemmas.Bool.Decides.{nat_tests}
-use Rattle.std.proofs.lemmas.List.{drop_more, take_more, get_or_read, take-append-drop}
-use Rattle.std.proofs.lemmas.List.Elements.{All-contains}
+use Rattle.std.proofs.Common.{nat_cmp, Less, Ordering, Some, length, get_or, drop, refl, sym, ap, ◌∙◌, subst, inl, inr}
+use Rattle.std.proofs.Common.{arith, true, slice_get, is_lt, take, ◌≡◌, ℕ, List, [], ◌∷◌, ◌-◌, ◌<◌, ◌+◌, ◌++◌, ap₂}
+use Rattle.std.specs.{List.Sorted.IsStrictlySortedBy, Ordering.is_gt}
+use Rattle.std.proofs.lemmas.Bool.{cases_order, Decides.nat_tests}
+use Rattle.std.proofs.lemmas.List.{drop_more, take_more, get_or_read, take-append-drop, Elements.All-contains}
 use Rattle.std.proofs.lemmas.Map.Keys.{Less-from_sorted, sorted_from_all_adjacent}
 use Rattle.std.proofs.lemmas.Option.{slice_get_within, get_or_from_slice_get}
 use Rattle.hlc_values.proofs.MemberLemmas.{Contains-none, Contains-cons_cases}
 use Rattle.hlc_rows.specs.declared.row.Row.{Row}
-use Rattle.hlc_witness.specs.Certificate.{RowsAscend, row_cmp}
-use Rattle.hlc_witness.specs.Changes.{ChangesAscend, change_cmp}
-use Rattle.hlc_witness.specs.Reasons.{IsAbove}
-use Rattle.hlc_witness.specs.declared.witness.Witness.{Witness}
-use Rattle.hlc_witness.proofs.ListedLemmas.{sorted_append}
-use Rattle.hlc_witness.proofs.Orders.{change_cmp_total, row_cmp_total}
+use Rattle.hlc_witness.specs.{Certificate.RowsAscend, Certificate.row_cmp, Changes.ChangesAscend, Changes.change_cmp}
+use Rattle.hlc_witness.specs.{Reasons.IsAbove, declared.witness.Witness.Witness}
+use Rattle.hlc_witness.proofs.{ListedLemmas.sorted_append, Orders.change_cmp_total, Orders.row_cmp_total}
 
 pub rows_from_neighbours : (rows : List Row)
     → ((k : ℕ) (d : Row) → k + 1 < length rows → row_cmp (get_or rows k d) (get_or rows (k + 1) d) ≡ Less)

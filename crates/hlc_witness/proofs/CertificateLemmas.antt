@@ -2,19 +2,15 @@
 -- that answer as all do have the same changes, since a change depends on answers at points alone; so rows that are as
 -- many as the changes of all are certified by them. Ascending rows differ in key, stamp or node, so they are a row set.
 use Rattle.std.proofs.Common.{nat_cmp, Less, Equal, length, refl, sym, ap, ◌∙◌, arith, ◌≡◌, ℕ, List, [], ◌∷◌}
-use Rattle.std.specs.Cmp.Lexicographic.{slice_cmp}
-use Rattle.std.specs.Ordering.{ordering_then}
+use Rattle.std.specs.{Cmp.Lexicographic.slice_cmp, Ordering.ordering_then}
 use Rattle.std.proofs.lemmas.Cmp.{nat_cmp_total, nat_list_cmp_total, tied_itself}
 use Rattle.std.proofs.lemmas.List.Elements.{All-contains, All-from_recursion, All-weaker}
 use Rattle.std.proofs.lemmas.Map.Keys.{sorted_head, sorted_tail}
 use Rattle.hlc_clock.specs.Points.{PointsAscend}
-use Rattle.hlc_rows.specs.Rows.{IsRowSet, IsSameVersion}
-use Rattle.hlc_rows.specs.declared.row.Row.{Row}
+use Rattle.hlc_rows.specs.{Rows.IsRowSet, Rows.IsSameVersion, declared.row.Row.Row}
 use Rattle.hlc_witness.specs.Certificate.{IsCertificate, RowsAscend, NoneAbove, row_cmp}
-use Rattle.hlc_witness.specs.Changes.{AreChanges, IsChange}
-use Rattle.hlc_witness.specs.Cost.{AreInLimits, Cheapest}
-use Rattle.hlc_witness.specs.Fewest.{Alike, Fewest}
-use Rattle.hlc_witness.specs.declared.witness.Witness.{Witness}
+use Rattle.hlc_witness.specs.{Changes.AreChanges, Changes.IsChange, declared.witness.Witness.Witness}
+use Rattle.hlc_witness.specs.{Cost.AreInLimits, Cost.Cheapest, Fewest.Alike, Fewest.Fewest}
 use Rattle.hlc_witness.proofs.ChangeLemmas.{changes_force_rows, change_alike}
 use Rattle.hlc_witness.proofs.CostLemmas.{fewest_rows_are_cheapest}
 

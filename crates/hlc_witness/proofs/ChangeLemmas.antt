@@ -3,23 +3,18 @@
 -- rows that are alike have the same changes.
 use Rattle.std.proofs.Common.{Contains, All, nat_cmp, Less, Equal, sum_by, Some, None, length, sym, ◌∙◌, subst, arith}
 use Rattle.std.proofs.Common.{◌≡◌, ◌≢◌, ℕ, ◌≤◌, List}
-use Rattle.std.specs.Cmp.Lexicographic.{slice_cmp}
-use Rattle.std.specs.List.Sorted.{IsStrictlySortedBy}
+use Rattle.std.specs.{Cmp.Lexicographic.slice_cmp, List.Sorted.IsStrictlySortedBy}
 use Rattle.std.proofs.lemmas.List.Elements.{All-contains, All-weaker}
-use Rattle.std.proofs.lemmas.Cmp.{tied_itself}
-use Rattle.std.proofs.lemmas.Map.Keys.{Less-from_sorted}
+use Rattle.std.proofs.lemmas.{Cmp.tied_itself, Map.Keys.Less-from_sorted}
 use Rattle.hlc_values.proofs.SortedLemmas.{same_members}
 use Rattle.hlc_values.proofs.PigeonLemmas.{served, sum_by_one}
 use Rattle.hlc_clock.specs.Points.{IsPointBefore, PointsAscend}
-use Rattle.hlc_rows.specs.Rows.{answer}
-use Rattle.hlc_rows.specs.declared.row.Row.{Row}
+use Rattle.hlc_rows.specs.{Rows.answer, declared.row.Row.Row}
 use Rattle.hlc_witness.specs.AllChanges.{changes_of, keys_of, all_changes}
 use Rattle.hlc_witness.specs.Changes.{AreChanges, ChangesAscend, IsChange, change_cmp, answer_at}
-use Rattle.hlc_witness.specs.Fewest.{Alike}
-use Rattle.hlc_witness.specs.declared.witness.Witness.{Witness}
-use Rattle.hlc_witness.proofs.Computed.{keys_sorted, keys_every}
+use Rattle.hlc_witness.specs.{Fewest.Alike, declared.witness.Witness.Witness}
+use Rattle.hlc_witness.proofs.{Computed.keys_sorted, Computed.keys_every, Orders.change_cmp_total}
 use Rattle.hlc_witness.proofs.Forced.{Serves, forced, serves_once, apart}
-use Rattle.hlc_witness.proofs.Orders.{change_cmp_total}
 use Rattle.hlc_witness.proofs.ListedLemmas.{all_from, change_has_row, changes_each, changes_every, changes_sorted}
 
 pub changes_force_rows : (all others : List Row) (points : List ℕ) (changes : List Witness)

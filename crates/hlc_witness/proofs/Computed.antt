@@ -1,10 +1,8 @@
 -- The keys of the rows, each once and in byte order: inserting a key at its position preserves this.
 use Rattle.std.proofs.Common.{Contains, All, nat_cmp, Less, Equal, refl, ap, ◌∙◌, subst, inl, inr, Greater, ◌≡◌, ℕ}
 use Rattle.std.proofs.Common.{List, [], ◌∷◌}
-use Rattle.std.specs.Cmp.Lexicographic.{slice_cmp}
+use Rattle.std.specs.{Cmp.Lexicographic.slice_cmp, Ordering.ordering_reverse, List.Sorted.IsStrictlySortedBy}
 use Rattle.std.specs.FinMap.{slice_cmp-IsAntisymmetric, nat_cmp-IsAntisymmetric}
-use Rattle.std.specs.List.Sorted.{IsStrictlySortedBy}
-use Rattle.std.specs.Ordering.{ordering_reverse}
 use Rattle.std.proofs.lemmas.Cmp.{nat_list_cmp_total}
 use Rattle.std.proofs.lemmas.List.Elements.{All-from_recursion, All-weaker, All-head, All-tail, All-cons}
 use Rattle.std.proofs.lemmas.List.Elements.{recursion_from_All}

@@ -7,8 +7,7 @@ use Rattle.hlc_values.proofs.PigeonLemmas.{served, served_all}
 use Rattle.hlc_rows.specs.declared.row.Row.{Row}
 use Rattle.hlc_witness.specs.Changes.{ChangesAscend, IsChange, change_cmp}
 use Rattle.hlc_witness.specs.Cost.{cost_of, row_cost, rows_cost, Cheapest, change_cost, changes_cost}
-use Rattle.hlc_witness.specs.Fewest.{Alike}
-use Rattle.hlc_witness.specs.declared.witness.Witness.{Witness}
+use Rattle.hlc_witness.specs.{Fewest.Alike, declared.witness.Witness.Witness}
 use Rattle.hlc_witness.proofs.Forced.{Serves, forced, serves_once, apart}
 
 -- the row that serves a change costs what the change forces

@@ -2,14 +2,11 @@
 -- ascending changes none has one.
 use Rattle.std.proofs.Common.{All, length, get_or, sym, ap, ◌∙◌, subst, arith, ◌≡◌, ◌<◌, ◌++◌, ℕ, List, ◌∷◌}
 use Rattle.std.proofs.Common.{length-append, inl, inr}
-use Rattle.std.proofs.Math.Seq.{get_or-append_seam}
-use Rattle.std.proofs.lemmas.List.{get_or_append_left}
-use Rattle.std.proofs.lemmas.Map.Keys.{Less-from_sorted}
+use Rattle.std.proofs.{Math.Seq.get_or-append_seam, lemmas.List.get_or_append_left, lemmas.Map.Keys.Less-from_sorted}
 use Rattle.hlc_rows.specs.declared.row.Row.{Row}
 use Rattle.hlc_witness.specs.Changes.{ChangesAscend, IsChange, change_cmp}
 use Rattle.hlc_witness.specs.Reasons.{IsAbove, IsFault}
-use Rattle.hlc_witness.specs.declared.reason.NotShown.{NotShown}
-use Rattle.hlc_witness.specs.declared.witness.Witness.{Witness}
+use Rattle.hlc_witness.specs.declared.{reason.NotShown.NotShown, witness.Witness.Witness}
 
 change_no_fault : (rows : List Row) (points : List ℕ) (front : List Witness) (witness : Witness) (reason : NotShown)
     → IsAbove front witness → IsChange rows points witness → IsFault rows points front witness reason → ⊥

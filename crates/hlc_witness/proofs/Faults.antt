@@ -1,17 +1,13 @@
 -- The first fault of a witness, with those before it changes and ascending, is the first reason of all;
 -- and a certificate has none.
-use Rattle.std.proofs.Common.{All, length, get_or, drop, sym, ap, ◌∙◌, subst, take, ◌≡◌, ℕ, List, [], ◌∷◌}
-use Rattle.std.proofs.Common.{◌<◌, ◌+◌, ◌++◌}
-use Rattle.std.proofs.lemmas.List.{take_more}
-use Rattle.std.proofs.lemmas.List.Elements.{All-push}
+use Rattle.std.proofs.Common.{All, length, get_or, drop, sym, ap, ◌∙◌, subst, take, ◌≡◌, ℕ, List, [], ◌∷◌, ◌<◌, ◌+◌}
+use Rattle.std.proofs.Common.{◌++◌}
+use Rattle.std.proofs.lemmas.List.{take_more, Elements.All-push}
 use Rattle.hlc_rows.specs.declared.row.Row.{Row}
-use Rattle.hlc_witness.specs.Certificate.{IsCertificate}
+use Rattle.hlc_witness.specs.{Certificate.IsCertificate, Reasons.IsFault, Reasons.IsFirstFault}
 use Rattle.hlc_witness.specs.Changes.{ChangesAscend, IsChange}
-use Rattle.hlc_witness.specs.Reasons.{IsFault, IsFirstFault}
-use Rattle.hlc_witness.specs.declared.reason.NotShown.{NotShown}
-use Rattle.hlc_witness.specs.declared.witness.Witness.{Witness}
-use Rattle.hlc_witness.proofs.Ascending.{around}
-use Rattle.hlc_witness.proofs.FaultLemmas.{changes_no_fault}
+use Rattle.hlc_witness.specs.declared.{reason.NotShown.NotShown, witness.Witness.Witness}
+use Rattle.hlc_witness.proofs.{Ascending.around, FaultLemmas.changes_no_fault}
 
 pub certificate_no_fault : (rows : List Row) (points : List ℕ) (witnesses : List Witness) (i : ℕ)
     (witness : Witness) (reason : NotShown) → i < length witnesses → witness ≡ get_or witnesses i witness

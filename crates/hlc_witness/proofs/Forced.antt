@@ -1,22 +1,18 @@
 -- Each change forces a row into any list that answers alike: the newest row there at the change's point is above the
 -- point before, since otherwise the answer would not have changed. So it serves no other change.
-use Rattle.std.proofs.Common.{Contains, nat_cmp, Less, Equal, Some, None, refl, sym, ap, ◌∙◌, inl, inr, arith, ◌≡◌}
-use Rattle.std.proofs.Common.{◌≢◌, ℕ, ◌≤◌, List, [], ◌∷◌, ◌<◌}
-use Rattle.std.specs.Cmp.Lexicographic.{slice_cmp}
-use Rattle.std.specs.Ordering.{ordering_then}
-use Rattle.std.proofs.lemmas.Bool.{cases_lt}
+use Rattle.std.proofs.Common.{Contains, nat_cmp, Less, Equal, Some, None, refl, sym, ap, ◌∙◌, inl, inr, arith, ◌≡◌, ◌≢◌}
+use Rattle.std.proofs.Common.{ℕ, ◌≤◌, List, [], ◌∷◌, ◌<◌}
+use Rattle.std.specs.{Cmp.Lexicographic.slice_cmp, Ordering.ordering_then}
+use Rattle.std.proofs.lemmas.{Bool.cases_lt, Map.Keys.sorted_head, Map.Keys.sorted_tail}
 use Rattle.std.proofs.lemmas.Cmp.{nat_list_cmp_total, tied_itself, ranked}
 use Rattle.std.proofs.lemmas.List.Elements.{All-contains, All-from_recursion}
-use Rattle.std.proofs.lemmas.Map.Keys.{sorted_head, sorted_tail}
 use Rattle.hlc_values.proofs.PigeonLemmas.{AreApart, Served}
 use Rattle.hlc_clock.specs.Points.{IsPointBefore}
-use Rattle.hlc_rows.specs.Rows.{newest, answer, IsNewest}
-use Rattle.hlc_rows.specs.declared.row.Row.{Row}
-use Rattle.hlc_rows.proofs.NewestLemmas.{newest_is_greatest, no_newest_no_row, no_later_stamp, answer_none}
-use Rattle.hlc_rows.proofs.NewestLemmas.{answer_some, answer_stays}
+use Rattle.hlc_rows.specs.{Rows.newest, Rows.answer, Rows.IsNewest, declared.row.Row.Row}
+use Rattle.hlc_rows.proofs.NewestLemmas.{newest_is_greatest, no_newest_no_row, no_later_stamp, answer_none, answer_some}
+use Rattle.hlc_rows.proofs.NewestLemmas.{answer_stays}
 use Rattle.hlc_witness.specs.Changes.{ChangesAscend, IsChange, change_cmp, answer_at}
-use Rattle.hlc_witness.specs.Fewest.{Alike}
-use Rattle.hlc_witness.specs.declared.witness.Witness.{Witness}
+use Rattle.hlc_witness.specs.{Fewest.Alike, declared.witness.Witness.Witness}
 
 -- the row is of the change's key, above each earlier point and at or below its own, and has the changed value
 pub record Serves (all : List Row) (points : List ℕ) (change : Witness) (row : Row) : Type 0 where

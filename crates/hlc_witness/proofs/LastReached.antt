@@ -1,25 +1,18 @@
 -- The last row that does not come after a key and a stamp is the key's newest row there, if it is of that key: in
 -- ascending rows the rows that do not come after them come first, each candidate is one of them, and the last of them
 -- is the greatest.
-use Rattle.std.proofs.Common.{Contains, nat_cmp, Less, Equal, Ordering, Some, None, length, get_or, refl, sym, ap}
-use Rattle.std.proofs.Common.{◌∙◌, subst, ◌⊎◌, inl, inr, arith, true, false, Greater, ◌≡◌, ◌≢◌, ℕ, ◌≤◌, List, ◌-◌}
-use Rattle.std.proofs.Common.{◌<◌}
-use Rattle.std.specs.Cmp.{IsTotalOrder}
-use Rattle.std.specs.Cmp.Lexicographic.{slice_cmp}
+use Rattle.std.proofs.Common.{Contains, nat_cmp, Less, Equal, Ordering, Some, None, length, get_or, refl, sym, ap, ◌∙◌}
+use Rattle.std.proofs.Common.{subst, ◌⊎◌, inl, inr, arith, true, false, Greater, ◌≡◌, ◌≢◌, ℕ, ◌≤◌, List, ◌-◌, ◌<◌}
+use Rattle.std.specs.Cmp.{IsTotalOrder, Lexicographic.slice_cmp}
 use Rattle.std.specs.FinMap.{slice_cmp-IsAntisymmetric, nat_cmp-IsAntisymmetric}
 use Rattle.std.specs.List.Sorted.{IsPartitionedBy, IsPartitionPoint}
 use Rattle.std.specs.Ordering.{ordering_reverse, ordering_then, is_gt, is_le}
-use Rattle.std.proofs.lemmas.Bool.{cases_lt, cases_order, both_ways}
-use Rattle.std.proofs.lemmas.Bool.Decides.{nat_tests}
+use Rattle.std.proofs.lemmas.Bool.{cases_lt, cases_order, both_ways, Decides.nat_tests}
 use Rattle.std.proofs.lemmas.Cmp.{nat_cmp_total, nat_list_cmp_total, on_total, then_total, tied_itself, upto, ranked}
-use Rattle.std.proofs.lemmas.List.{get_or_default}
-use Rattle.std.proofs.lemmas.List.Elements.{Contains-get_or}
-use Rattle.std.proofs.lemmas.Map.Keys.{Less-from_sorted}
-use Rattle.hlc_rows.specs.Rows.{newest, IsNoLater}
-use Rattle.hlc_rows.specs.declared.row.Row.{Row}
+use Rattle.std.proofs.lemmas.{List.get_or_default, List.Elements.Contains-get_or, Map.Keys.Less-from_sorted}
+use Rattle.hlc_rows.specs.{Rows.newest, Rows.IsNoLater, declared.row.Row.Row}
 use Rattle.hlc_rows.proofs.NewestLemmas.{newest_is_greatest, newest_is_unique}
-use Rattle.hlc_witness.specs.Certificate.{RowsAscend, row_cmp}
-use Rattle.hlc_witness.specs.Reached.{is_reached}
+use Rattle.hlc_witness.specs.{Certificate.RowsAscend, Certificate.row_cmp, Reached.is_reached}
 use Rattle.hlc_witness.proofs.CertificateLemmas.{ascending_rows_are_a_row_set}
 
 -- rows by key and stamp

@@ -1,26 +1,20 @@
 -- The changes that are found key by key and point by point are all changes, in order: those of one key ascend with the
 -- points, and each key is above the ones before it.
-use Rattle.std.proofs.Common.{Contains, All, true≢false, nat_cmp, Less, Ordering, Option, Some, None, length}
-use Rattle.std.proofs.Common.{get_or, drop, refl, sym, ap, ◌∙◌, subst, ◌⊎◌, inl, inr, arith, cond, true, false, ◌≡◌}
-use Rattle.std.proofs.Common.{Bool, ◌≢◌, ℕ, List, [], ◌∷◌, suc, ◌-◌, ◌<◌, ◌+◌, ◌++◌, zero}
-use Rattle.std.specs.Cmp.Lexicographic.{slice_cmp}
-use Rattle.std.specs.List.Sorted.{IsStrictlySortedBy}
-use Rattle.std.specs.Ordering.{ordering_then}
-use Rattle.std.proofs.lemmas.Bool.{cases_Bool}
-use Rattle.std.proofs.lemmas.Cmp.{nat_list_cmp_total, tied_itself}
-use Rattle.std.proofs.lemmas.List.{drop_more, drop_all}
+use Rattle.std.proofs.Common.{Contains, All, true≢false, nat_cmp, Less, Ordering, Option, Some, None, length, get_or}
+use Rattle.std.proofs.Common.{drop, refl, sym, ap, ◌∙◌, subst, ◌⊎◌, inl, inr, arith, cond, true, false, ◌≡◌, Bool, ◌≢◌}
+use Rattle.std.proofs.Common.{ℕ, List, [], ◌∷◌, suc, ◌-◌, ◌<◌, ◌+◌, ◌++◌, zero}
+use Rattle.std.specs.{Cmp.Lexicographic.slice_cmp, Ordering.ordering_then, List.Sorted.IsStrictlySortedBy}
+use Rattle.std.proofs.lemmas.{Bool.cases_Bool, List.drop_more, List.drop_all}
+use Rattle.std.proofs.lemmas.{Cmp.nat_list_cmp_total, Cmp.tied_itself, Map.Keys.sorted_from_strictly_increasing}
 use Rattle.std.proofs.lemmas.List.Elements.{All-contains, All-from_recursion, Contains-get_or, All-cons, All-nil}
-use Rattle.std.proofs.lemmas.List.Elements.{All-append, Contains-append_cases, Contains-append_left}
-use Rattle.std.proofs.lemmas.List.Elements.{recursion_from_All, Contains-append_right}
-use Rattle.std.proofs.lemmas.Map.Keys.{sorted_from_strictly_increasing}
+use Rattle.std.proofs.lemmas.List.Elements.{All-append, Contains-append_cases, Contains-append_left, recursion_from_All}
+use Rattle.std.proofs.lemmas.List.Elements.{Contains-append_right}
 use Rattle.hlc_values.proofs.MemberLemmas.{Contains-none, Contains-cons_cases, Contains-first, Contains-rest}
 use Rattle.hlc_clock.specs.Points.{IsPointBefore, PointsAscend}
-use Rattle.hlc_rows.specs.Rows.{newest, answer}
-use Rattle.hlc_rows.specs.declared.row.Row.{Row}
+use Rattle.hlc_rows.specs.{Rows.newest, Rows.answer, declared.row.Row.Row}
 use Rattle.hlc_rows.proofs.NewestLemmas.{newest_is_greatest, no_newest_no_row, answer_none, answer_stays}
 use Rattle.hlc_witness.specs.AllChanges.{is_same_answer, key_changes, changes_of}
-use Rattle.hlc_witness.specs.Changes.{IsChange, change_cmp, answer_at}
-use Rattle.hlc_witness.specs.declared.witness.Witness.{Witness}
+use Rattle.hlc_witness.specs.{Changes.IsChange, Changes.change_cmp, Changes.answer_at, declared.witness.Witness.Witness}
 use Rattle.hlc_witness.proofs.AnswerLemmas.{same_answer_true, same_answer_from}
 use Rattle.hlc_witness.proofs.PlaceLemmas.{first_point, next_point, before_one}
 

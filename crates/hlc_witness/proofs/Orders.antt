@@ -2,9 +2,7 @@
 use Rattle.std.specs.Cmp.{IsTotalOrder}
 use Rattle.std.proofs.lemmas.Cmp.{nat_cmp_total, nat_list_cmp_total, on_total, then_total}
 use Rattle.hlc_rows.specs.declared.row.Row.{Row}
-use Rattle.hlc_witness.specs.Certificate.{row_cmp}
-use Rattle.hlc_witness.specs.Changes.{change_cmp}
-use Rattle.hlc_witness.specs.declared.witness.Witness.{Witness}
+use Rattle.hlc_witness.specs.{Certificate.row_cmp, Changes.change_cmp, declared.witness.Witness.Witness}
 
 pub change_cmp_total : IsTotalOrder change_cmp
 change_cmp_total =

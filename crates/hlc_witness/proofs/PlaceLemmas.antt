@@ -1,8 +1,7 @@
 -- Ascending points by their positions: the point before another is just before it, and the last one is the greatest.
-use Rattle.std.proofs.Common.{Contains, Option, Some, None, length, get_or, refl, sym, ap, ◌∙◌, subst, inl, inr}
-use Rattle.std.proofs.Common.{arith, ◌≡◌, ℕ, ◌≤◌, List, [], ◌∷◌, suc, ◌-◌, ◌<◌}
-use Rattle.std.proofs.lemmas.Bool.{cases_lt, cases_order}
-use Rattle.std.proofs.lemmas.List.{get_or_default}
+use Rattle.std.proofs.Common.{Contains, Option, Some, None, length, get_or, refl, sym, ap, ◌∙◌, subst, inl, inr, arith}
+use Rattle.std.proofs.Common.{◌≡◌, ℕ, ◌≤◌, List, [], ◌∷◌, suc, ◌-◌, ◌<◌}
+use Rattle.std.proofs.lemmas.{Bool.cases_lt, Bool.cases_order, List.get_or_default}
 use Rattle.std.proofs.lemmas.List.Elements.{All-contains, Contains-get_or, All-from_get_or, All-get_or}
 use Rattle.std.proofs.lemmas.Map.Keys.{sorted_from_strictly_increasing, below_from_sorted}
 use Rattle.hlc_clock.specs.Points.{IsPointBefore, PointsAscend, last_point}

@@ -1,13 +1,10 @@
 -- A certificate: the evidence that rows are the fewest.
 use Rattle.std.specs.Prelude.{◌≡◌, ℕ, ◌≤◌, List, length, All}
-use Rattle.std.specs.Ordering.{nat_cmp, ordering_then}
-use Rattle.std.specs.Cmp.Lexicographic.{slice_cmp}
-use Rattle.std.specs.List.Sorted.{IsStrictlySortedBy}
-use Rattle.std.specs.declared.cmp.Ordering.{Ordering}
+use Rattle.std.specs.{Ordering.nat_cmp, Ordering.ordering_then, declared.cmp.Ordering.Ordering}
+use Rattle.std.specs.{Cmp.Lexicographic.slice_cmp, List.Sorted.IsStrictlySortedBy}
 use Rattle.hlc_rows.specs.declared.row.Row.{Row}
-use Rattle.hlc_witness.specs.declared.witness.Witness.{Witness}
+use Rattle.hlc_witness.specs.{declared.witness.Witness.Witness, Cost.AreInLimits}
 use Rattle.hlc_clock.specs.Points.{PointsAscend, last_point}
-use Rattle.hlc_witness.specs.Cost.{AreInLimits}
 use Rattle.hlc_witness.specs.Changes.{IsChange, ChangesAscend}
 
 -- by key, byte by byte, then by stamp, and then by node

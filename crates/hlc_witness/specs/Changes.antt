@@ -1,11 +1,8 @@
 -- Changes: a key and a point at which its answer differs from that at the point before.
 use Rattle.std.specs.Prelude.{◌≢◌, ℕ, List, Option, Some, None, All, Contains}
-use Rattle.std.specs.Ordering.{nat_cmp, ordering_then}
-use Rattle.std.specs.Cmp.Lexicographic.{slice_cmp}
-use Rattle.std.specs.List.Sorted.{IsStrictlySortedBy}
-use Rattle.std.specs.declared.cmp.Ordering.{Ordering}
-use Rattle.hlc_rows.specs.declared.row.Row.{Row}
-use Rattle.hlc_rows.specs.Rows.{answer}
+use Rattle.std.specs.{Ordering.nat_cmp, Ordering.ordering_then, declared.cmp.Ordering.Ordering}
+use Rattle.std.specs.{Cmp.Lexicographic.slice_cmp, List.Sorted.IsStrictlySortedBy}
+use Rattle.hlc_rows.specs.{declared.row.Row.Row, Rows.answer}
 use Rattle.hlc_witness.specs.declared.witness.Witness.{Witness}
 use Rattle.hlc_clock.specs.Points.{IsPointBefore}
 

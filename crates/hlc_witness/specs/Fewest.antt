@@ -1,7 +1,6 @@
 -- Rows that answer alike, and the fewest of them.
 use Rattle.std.specs.Prelude.{◌≡◌, ℕ, ◌≤◌, List, length, Contains}
-use Rattle.hlc_rows.specs.declared.row.Row.{Row}
-use Rattle.hlc_rows.specs.Rows.{answer, IsRowSet}
+use Rattle.hlc_rows.specs.{declared.row.Row.Row, Rows.answer, Rows.IsRowSet}
 
 -- the same answer for each key at each point
 abbrev pub Alike : List Row → List Row → List ℕ → Type 0

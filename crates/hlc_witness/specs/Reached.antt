@@ -1,7 +1,6 @@
 -- The position of a key and a stamp among ascending rows, for the search of the newest row.
-use Rattle.std.specs.Prelude.{ℕ, List, Bool}
+use Rattle.std.specs.{Prelude.ℕ, Prelude.List, Prelude.Bool, Cmp.Lexicographic.slice_cmp}
 use Rattle.std.specs.Ordering.{nat_cmp, ordering_then, is_le}
-use Rattle.std.specs.Cmp.Lexicographic.{slice_cmp}
 use Rattle.hlc_rows.specs.declared.row.Row.{Row}
 
 -- the row does not come after the key and the stamp

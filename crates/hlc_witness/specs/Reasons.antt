@@ -1,17 +1,14 @@
 -- Why rows, points and witnesses are no certificate: the first reason that applies.
 use Rattle.std.specs.Prelude.{◌≡◌, ◌⊎◌, ℕ, List, ◌∷◌, ◌++◌, length, All, codes}
 use Rattle.std.specs.declared.cmp.Ordering.TheVariants.{Less}
-use Rattle.hlc_rows.specs.declared.row.Row.{Row}
-use Rattle.hlc_rows.specs.Rows.{answer}
-use Rattle.hlc_witness.specs.declared.witness.Witness.{Witness}
-use Rattle.hlc_witness.specs.declared.reason.NotShown.{NotShown}
+use Rattle.hlc_rows.specs.{declared.row.Row.Row, Rows.answer}
+use Rattle.hlc_witness.specs.declared.{witness.Witness.Witness, reason.NotShown.NotShown}
 use Rattle.hlc_witness.specs.declared.reason.NotShown.TheVariants.{PointsNotAscending, RowsNotAscending}
 use Rattle.hlc_witness.specs.declared.reason.NotShown.TheVariants.{RowAboveLastPoint, WitnessNotAscending, NotAtPoint}
 use Rattle.hlc_witness.specs.declared.reason.NotShown.TheVariants.{SameAnswers, CountsDiffer, RowOutOfLimits}
 use Rattle.hlc_clock.specs.Points.{PointsAscend}
 use Rattle.hlc_witness.specs.Changes.{answer_at, IsAtPoint, IsChange, change_cmp, ChangesAscend}
-use Rattle.hlc_witness.specs.Certificate.{RowsAscend, NoneAbove}
-use Rattle.hlc_witness.specs.Cost.{AreInLimits}
+use Rattle.hlc_witness.specs.{Certificate.RowsAscend, Certificate.NoneAbove, Cost.AreInLimits}
 
 -- the number of a reason: reasons are checked in the order of their numbers
 abbrev pub reason_number : NotShown → ℕ

@@ -2,8 +2,7 @@
 ghost use Rattle.std.specs.Prelude.{◌≡◌, ◌↔◌, IsTrue, IsOk, IfOk, IfErr, IsNone, MatchOption, length};
 ghost use Rattle.hlc_rows.specs.Rows.{answer};
 ghost use Rattle.hlc_clock.specs.Points.{PointsAscend};
-ghost use Rattle.hlc_witness.specs.Fewest.{Fewest};
-ghost use Rattle.hlc_witness.specs.Cost.{Cheapest, rows_cost};
+ghost use Rattle.hlc_witness.specs.{Fewest.Fewest, Cost.Cheapest, Cost.rows_cost};
 ghost use Rattle.hlc_witness.specs.Changes.{ChangesAscend, IsAtPoint, IsChange, answer_at};
 ghost use Rattle.hlc_witness.specs.Certificate.{IsCertificate, RowsAscend};
 ghost use Rattle.hlc_witness.specs.Reasons.{IsAbove, IsFault, IsFirstReason};

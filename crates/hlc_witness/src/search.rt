@@ -1,9 +1,7 @@
 //! The newest row of a key, and its value, in ascending rows.
 ghost use Rattle.std.specs.Prelude.{◌≡◌, option_copied};
 ghost use Rattle.hlc_rows.specs.Rows.{newest, answer};
-ghost use Rattle.hlc_witness.specs.Changes.{answer_at};
-ghost use Rattle.hlc_witness.specs.Certificate.{RowsAscend};
-ghost use Rattle.hlc_witness.specs.Reached.{is_reached};
+ghost use Rattle.hlc_witness.specs.{Changes.answer_at, Reached.is_reached, Certificate.RowsAscend};
 
 use hlc_clock::Stamp;
 use hlc_rows::{Bytes, Row};

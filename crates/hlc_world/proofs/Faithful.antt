@@ -3,19 +3,15 @@
 -- moment of a legal schedule is legal, so what can be read there is closed.
 use Rattle.std.proofs.Common.{ℕ, List, [], ◌∷◌, ◌++◌, Some, None, Option, refl, ap, sym, subst, ◌≡◌, length, arith}
 use Rattle.hlc_events.specs.declared.event.CoreEvent.{CoreEvent}
-use Rattle.hlc_core.specs.declared.reply.CoreReply.{CoreReply}
-use Rattle.hlc_core.specs.History.{RepresentsHistory}
+use Rattle.hlc_core.specs.{declared.reply.CoreReply.CoreReply, History.RepresentsHistory}
 use Rattle.hlc_core.specs.Headline.{IsMoment as IsStoreMoment}
 use Rattle.hlc_core.proofs.FaithfulLemmas.{histories_are_faithful}
 use Rattle.hlc_world_event.specs.Events.{Event}
-use Rattle.hlc_world.specs.declared.reply.Reply.{Reply}
+use Rattle.hlc_world.specs.{declared.reply.Reply.Reply, Expected.IsLegal, Schedule.after}
 use Rattle.hlc_world.specs.Store.{share, with_entry, store_history}
-use Rattle.hlc_world.specs.Expected.{IsLegal}
 use Rattle.hlc_world.specs.WorldView.{WorldView, Represents}
 use Rattle.hlc_world.specs.Headline.{MomentsAreReported, ReadsAreClosed, IsFaithful}
-use Rattle.hlc_world.proofs.Histories.{history-legal, left-by-none}
-use Rattle.hlc_world.proofs.Times.{closed}
-use Rattle.hlc_world.specs.Schedule.{after}
+use Rattle.hlc_world.proofs.{Histories.history-legal, Histories.left-by-none, Times.closed}
 
 moment-stays : (o : Option (CoreEvent × CoreReply)) (h before : List (CoreEvent × CoreReply)) → IsStoreMoment h before
     → IsStoreMoment (with_entry o h) before

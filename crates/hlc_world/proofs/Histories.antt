@@ -1,32 +1,28 @@
 -- The store's history of a legal schedule is legal, since the expected reply to an event that asks something of the
 -- store is what the store is expected to return; and what took place in a legal history is a legal past.
 use Rattle.std.proofs.Common.{◌≡◌, ℕ, ◌≤◌, List, [], ◌∷◌, Some, None, Option, refl, ◌∙◌, sym, subst, arith}
-use Rattle.std.proofs.lemmas.Bool.{cond-false, ltb-false}
+use Rattle.std.{proofs.lemmas.Bool.cond-false, proofs.lemmas.Bool.ltb-false, specs.Prelude.nat_le, specs.Prelude.nat_lt}
 use Rattle.hlc_node.specs.declared.item.Item.{Item}
 use Rattle.hlc_rows.specs.declared.row.Row.{Row}
-use Rattle.hlc_events.specs.declared.event.CoreEvent.{CoreEvent}
-use Rattle.hlc_events.specs.declared.event.CoreEvent.TheVariants as core_event
-use Rattle.hlc_core.specs.declared.reply.CoreReply.{CoreReply}
-use Rattle.hlc_core.specs.declared.reply.CoreReply.TheVariants as core_reply
+use Rattle.hlc_events.specs.declared.{event.CoreEvent.CoreEvent, fault.CoreFault.TheVariants.Join as joining}
+use Rattle.hlc_core.specs.{declared.reply.CoreReply.CoreReply, Calls.list_refusal}
 use Rattle.hlc_heads.specs.declared.heads.TheConstants.{MAX_NODES}
 use Rattle.hlc_heads.specs.declared.heads.JoinFault.TheVariants.{TooManyNodes, BelowFloor}
-use Rattle.hlc_events.specs.declared.fault.CoreFault.TheVariants.{Join as joining}
 use Rattle.hlc_core.specs.Past.{Step, numbered, floor, horizon, stamp_of, join_refusal, join_at_refusal, open_refusal}
 use Rattle.hlc_core.specs.Past.{IsLegal as IsLegalPast}
 use Rattle.hlc_core.proofs.PastLemmas.{open-room, vacuum-none, horizon-low}
-use Rattle.hlc_core.specs.Calls.{list_refusal}
 use Rattle.hlc_core.specs.History.{step_of, with_step, past_of, IsExpected, IsLegalHistory, IsLeft}
 use Rattle.hlc_world_event.specs.declared.event.Event.TheVariants.{Deliver, OpenAt, OpenFloor, Read, List as ListAll}
 use Rattle.hlc_world_event.specs.declared.event.Event.TheVariants.{Close, Join, Vacuum}
-use Rattle.hlc_world.specs.declared.reply.Reply.{Reply}
+use Rattle.hlc_world.specs.{declared.reply.Reply.Reply, Schedule.item_at}
 use Rattle.hlc_world.specs.declared.reply.Reply.TheVariants.{Accepted, Joined, Snapshot, Answer, Listing, Closed}
 use Rattle.hlc_world.specs.declared.reply.Reply.TheVariants.{Vacuumed}
-use Rattle.hlc_world.specs.Schedule.{item_at}
 use Rattle.hlc_world_event.specs.Events.{Event}
 use Rattle.hlc_world.specs.Store.{accepting, accepted, paired, with_entry, store_history, core_past}
 use Rattle.hlc_world.specs.Expected.{deliver_refusal, IsExpectedOfStore, MayReply, IsLegal}
 use Rattle.hlc_world.proofs.Orderly.{no-core, on_link-none, unless}
-use Rattle.std.specs.Prelude.{nat_le, nat_lt}
+use Rattle.hlc_events.specs.declared.event.CoreEvent.TheVariants as core_event
+use Rattle.hlc_core.specs.declared.reply.CoreReply.TheVariants as core_reply
 
 -- the store's part of a delivery is an expected reply
 history-taken : (nodes : ℕ) (h : List (CoreEvent × CoreReply)) (p st : ℕ) (o : Option Item)

@@ -1,8 +1,7 @@
 -- Lists that are read and written at one index.
 use Rattle.std.proofs.Common.{◌≡◌, ℕ, zero, suc, ◌<◌, ◌⊎◌, List, [], ◌∷◌, ◌++◌, length, Some, refl, ap, sym, inl, inr}
 use Rattle.std.proofs.Common.{arith}
-use Rattle.std.specs.Prelude.{slice_get, slice_set}
-use Rattle.std.proofs.lemmas.Option.{same_Some}
+use Rattle.std.{specs.Prelude.slice_get, specs.Prelude.slice_set, proofs.lemmas.Option.same_Some}
 
 module _ {X : Type 0} where
   pub get-set_at : (xs : List X) (i : ℕ) (x : X) → i < length xs → slice_get (slice_set xs i x) i ≡ Some x

@@ -1,9 +1,8 @@
 -- Happened before, over the events of a schedule (Lamport 1978).
 use Rattle.std.specs.Prelude.{◌≡◌, ℕ, ◌<◌, ◌≤◌, List, [], ◌∷◌, length, Option, Some, None, ◌==◌, if◌then◌else◌}
 use Rattle.hlc_world_event.specs.declared.event.Event.TheVariants.{Write, Delete, Send, Receive, Observe}
-use Rattle.hlc_world.specs.declared.reply.Reply.{Reply}
+use Rattle.hlc_world.specs.{declared.reply.Reply.Reply, Schedule.stamping_of}
 use Rattle.hlc_world.specs.declared.reply.Reply.TheVariants.{Stamped, Sent, Received, Observed, Snapshot}
-use Rattle.hlc_world.specs.Schedule.{stamping_of}
 use Rattle.hlc_world_event.specs.Events.{Event}
 
 -- the event that comes after this many events, with its reply

@@ -1,34 +1,28 @@
 -- The expected reply to an event after a schedule.
 use Rattle.std.specs.Prelude.{◌≡◌, ℕ, Bool, List, [], ◌∷◌, length, Option, Some, None, Result, Ok, Err, ◌==◌, ◌⊎◌}
 use Rattle.std.specs.Prelude.{nat_le, if◌then◌else◌, ⊤}
-use Rattle.hlc_clock.specs.NextStamp.{expected_stamp}
-use Rattle.hlc_clock.specs.declared.clock.ClockFault.{ClockFault}
-use Rattle.hlc_node.specs.declared.item.Item.{Item}
+use Rattle.hlc_clock.specs.{NextStamp.expected_stamp, declared.clock.ClockFault.ClockFault}
+use Rattle.hlc_node.specs.declared.{item.Item.Item, item.Message.Message, node.NodeFault.NodeFault}
 use Rattle.hlc_node.specs.declared.item.Body.TheVariants.{Write as a_write, Report as a_report, Retire as a_retire}
-use Rattle.hlc_node.specs.declared.item.Message.{Message}
-use Rattle.hlc_node.specs.declared.node.NodeFault.{NodeFault}
-use Rattle.hlc_node.specs.declared.node.NodeFault.TheVariants as node_fault
 use Rattle.hlc_node.specs.Node.{expected_issue}
 use Rattle.hlc_intake.specs.declared.intake.LinkFault.TheVariants.{Retired, NotNext}
 use Rattle.hlc_events.specs.declared.fault.CoreFault.{CoreFault}
-use Rattle.hlc_events.specs.declared.fault.CoreFault.TheVariants as core_fault
-use Rattle.hlc_events.specs.declared.event.CoreEvent.{CoreEvent}
-use Rattle.hlc_events.specs.declared.event.CoreEvent.TheVariants.{Accept}
-use Rattle.hlc_core.specs.declared.reply.CoreReply.{CoreReply}
+use Rattle.hlc_events.specs.declared.event.CoreEvent.{CoreEvent, TheVariants.Accept}
+use Rattle.hlc_core.specs.{declared.reply.CoreReply.CoreReply, Stored.IsStoredCount}
 use Rattle.hlc_core.specs.Past.{Step, numbered, count, retired, floor, stamp_of}
-use Rattle.hlc_core.specs.Stored.{IsStoredCount}
 use Rattle.hlc_core.specs.History.{expected_refusal as expected_of_store, IsExpectedReply as IsExpectedStoreReply}
 use Rattle.hlc_core.specs.History.{MayRunOutOfMemory as CoreMayRunOut}
 use Rattle.hlc_world_event.specs.declared.event.Event.TheVariants.{Write, Delete, Report, Retire, Send, Receive}
 use Rattle.hlc_world_event.specs.declared.event.Event.TheVariants.{Observe, Deliver, Read, List as ListAll, Floor, Rows}
-use Rattle.hlc_world.specs.declared.reply.Reply.{Reply}
+use Rattle.hlc_world.specs.declared.{reply.Reply.Reply, refusal.Refusal.Refusal}
 use Rattle.hlc_world.specs.declared.reply.Reply.TheVariants.{Stamped, Sent, Received, Observed, Floor as FloorIs}
 use Rattle.hlc_world.specs.declared.reply.Reply.TheVariants.{Rows as RowsAre, Refused}
-use Rattle.hlc_world.specs.declared.refusal.Refusal.{Refusal}
 use Rattle.hlc_world.specs.declared.refusal.Refusal.TheVariants.{NoNode, Node, NoMessage, NoItem, Store, NoMemory}
 use Rattle.hlc_world.specs.Schedule.{issued, has_retired, item_at, last_stamp, sent, message_at, node_of}
 use Rattle.hlc_world_event.specs.Events.{Event}
 use Rattle.hlc_world.specs.Store.{asked, share, core_past}
+use Rattle.hlc_node.specs.declared.node.NodeFault.TheVariants as node_fault
+use Rattle.hlc_events.specs.declared.fault.CoreFault.TheVariants as core_fault
 
 -- the core's fault as a refusal; an unknown node and out of memory are the world's own refusals
 abbrev pub of_core : CoreFault → Refusal

@@ -2,11 +2,9 @@
 use Rattle.std.specs.Prelude.{◌≡◌, ℕ, ◌<◌, ◌≤◌, List, Contains, Some, false}
 use Rattle.hlc_node.specs.declared.item.Item.{Item}
 use Rattle.hlc_core.specs.Past.{Took, numbered, retired, floor, stamp_of}
-use Rattle.hlc_world.specs.declared.reply.Reply.{Reply}
+use Rattle.hlc_world.specs.{declared.reply.Reply.Reply, Store.core_past, Before.entry_at, Before.HappenedBefore}
 use Rattle.hlc_world.specs.Schedule.{item_made, issued, last_stamp}
 use Rattle.hlc_world_event.specs.Events.{Event}
-use Rattle.hlc_world.specs.Store.{core_past}
-use Rattle.hlc_world.specs.Before.{entry_at, HappenedBefore}
 
 -- a node issued the item
 abbrev pub IsIssued : Item → List (Event × Reply) → Type 0

@@ -4,9 +4,7 @@ use Rattle.std.specs.Prelude.{◌≡◌, ℕ, List, ◌++◌}
 use Rattle.hlc_rows.specs.declared.row.Row.{Row}
 use Rattle.hlc_core.specs.Headline.{IsMoment as IsStoreMoment, IsFaithful as IsStoreFaithful}
 use Rattle.hlc_world_event.specs.Events.{Event}
-use Rattle.hlc_world.specs.declared.reply.Reply.{Reply}
-use Rattle.hlc_world.specs.Store.{store_history}
-use Rattle.hlc_world.specs.Floor.{IsClosed}
+use Rattle.hlc_world.specs.{declared.reply.Reply.Reply, Store.store_history, Floor.IsClosed}
 
 -- at some moment of the schedule exactly these events had taken their turn
 pub record IsMoment (schedule before : List (Event × Reply)) : Type 0 where

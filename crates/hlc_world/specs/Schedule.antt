@@ -1,19 +1,15 @@
 -- A schedule, and what it says about nodes, items and messages.
 use Rattle.std.specs.Prelude.{ℕ, Bool, false, List, [], ◌∷◌, ◌++◌, length, Option, Some, None, ◌==◌, if◌then◌else◌}
 use Rattle.std.specs.Prelude.{slice_get}
-use Rattle.hlc_node.specs.declared.item.Item.{Item}
-use Rattle.hlc_node.specs.declared.item.Body.{Body}
+use Rattle.hlc_node.specs.declared.item.{Item.Item, Body.Body, Message.Message}
 use Rattle.hlc_node.specs.declared.item.Body.TheVariants.{Write as a_write, Report as a_report, Retire as a_retire}
-use Rattle.hlc_node.specs.Items.{an_item, retires}
-use Rattle.hlc_node.specs.declared.item.Message.{Message}
-use Rattle.hlc_node.specs.Node.{NodeView}
-use Rattle.hlc_world.specs.declared.content.Content.{Content}
-use Rattle.hlc_world.specs.declared.content.Content.TheVariants as content
+use Rattle.hlc_node.specs.{Items.an_item, Items.retires, Node.NodeView}
+use Rattle.hlc_world.specs.declared.{content.Content.Content, reply.Reply.Reply}
 use Rattle.hlc_world_event.specs.Events.{Event}
 use Rattle.hlc_world_event.specs.declared.event.Event.TheVariants.{Write, Delete, Report, Retire, Join, Send, Receive}
 use Rattle.hlc_world_event.specs.declared.event.Event.TheVariants.{Observe}
-use Rattle.hlc_world.specs.declared.reply.Reply.{Reply}
 use Rattle.hlc_world.specs.declared.reply.Reply.TheVariants.{Stamped, Joined, Sent, Received, Observed}
+use Rattle.hlc_world.specs.declared.content.Content.TheVariants as content
 
 -- the body of an item with this content
 abbrev pub body_of : Content → Body

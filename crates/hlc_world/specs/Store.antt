@@ -1,20 +1,16 @@
 -- The store's part of a schedule: what its events asked of the store, and what the store answered.
 use Rattle.std.specs.Prelude.{ℕ, List, [], ◌∷◌, Option, Some, None}
-use Rattle.hlc_node.specs.declared.item.Item.{Item}
-use Rattle.hlc_node.specs.Items.{retires}
+use Rattle.hlc_node.specs.{declared.item.Item.Item, Items.retires}
 use Rattle.hlc_events.specs.declared.event.CoreEvent.{CoreEvent}
-use Rattle.hlc_events.specs.declared.event.CoreEvent.TheVariants as core_event
-use Rattle.hlc_core.specs.declared.reply.CoreReply.{CoreReply}
-use Rattle.hlc_core.specs.declared.reply.CoreReply.TheVariants as core_reply
-use Rattle.hlc_core.specs.Past.{Step}
-use Rattle.hlc_core.specs.History.{past_of}
+use Rattle.hlc_core.specs.{declared.reply.CoreReply.CoreReply, Past.Step, History.past_of}
 use Rattle.hlc_world_event.specs.declared.event.Event.TheVariants.{Deliver, OpenAt, OpenFloor, Read, List as ListAll}
 use Rattle.hlc_world_event.specs.declared.event.Event.TheVariants.{Close, Join, Vacuum}
-use Rattle.hlc_world.specs.declared.reply.Reply.{Reply}
+use Rattle.hlc_world.specs.{declared.reply.Reply.Reply, Schedule.item_at}
 use Rattle.hlc_world.specs.declared.reply.Reply.TheVariants.{Accepted, Joined, Snapshot, Answer, Listing, Closed}
 use Rattle.hlc_world.specs.declared.reply.Reply.TheVariants.{Vacuumed}
-use Rattle.hlc_world.specs.Schedule.{item_at}
 use Rattle.hlc_world_event.specs.Events.{Event}
+use Rattle.hlc_events.specs.declared.event.CoreEvent.TheVariants as core_event
+use Rattle.hlc_core.specs.declared.reply.CoreReply.TheVariants as core_reply
 
 -- the request to accept an item, if the item was found
 abbrev pub accepting : Option Item → Option CoreEvent

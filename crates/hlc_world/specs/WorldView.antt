@@ -1,19 +1,13 @@
 -- What a world stores, and which schedule it represents.
 use Rattle.std.specs.Prelude.{◌≡◌, ℕ, false, zero, suc, ◌<◌, ◌⊎◌, List, [], ◌∷◌, ◌++◌, length, Some, None, slice_get}
 use Rattle.std.specs.Prelude.{MatchOption, Result, Ok, Err, map}
-use Rattle.hlc_node.specs.declared.item.Item.{Item}
-use Rattle.hlc_node.specs.declared.item.Body.{Body}
-use Rattle.hlc_node.specs.declared.item.Message.{Message}
+use Rattle.hlc_node.specs.declared.item.{Item.Item, Body.Body, Message.Message}
 use Rattle.hlc_node.specs.Node.{NodeView, stamped, expected_event, expected_issue, next_item, after_issue}
 use Rattle.hlc_core.specs.StoreView.{StoreView, Represents as CoreRepresents}
-use Rattle.hlc_core.specs.Past.{numbered}
-use Rattle.hlc_core.specs.Calls.{new_refusal}
-use Rattle.hlc_world.specs.declared.reply.Reply.{Reply}
-use Rattle.hlc_world.specs.declared.refusal.Refusal.{Refusal}
-use Rattle.hlc_world.specs.declared.refusal.Refusal.TheVariants.{NoMemory}
-use Rattle.hlc_world.specs.Schedule.{issued, sent, node_of}
+use Rattle.hlc_core.specs.{Past.numbered, Calls.new_refusal}
+use Rattle.hlc_world.specs.declared.{reply.Reply.Reply, refusal.Refusal.Refusal, refusal.Refusal.TheVariants.NoMemory}
+use Rattle.hlc_world.specs.{Schedule.issued, Schedule.sent, Schedule.node_of, Store.core_past}
 use Rattle.hlc_world_event.specs.Events.{Event}
-use Rattle.hlc_world.specs.Store.{core_past}
 use Rattle.hlc_world.specs.Expected.{issue_refusal, of_core, IsLegal}
 
 -- what is stored for a node: the node itself, and the items that it issued

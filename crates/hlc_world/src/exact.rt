@@ -3,8 +3,7 @@ ghost use Rattle.hlc_core.specs.contracts.exact.PairExact.TheImpl.Laws.{equal-la
 ghost use Rattle.hlc_core.specs.declared.listing.Pair.{Pair as APair};
 ghost use Rattle.hlc_vacuum_draft.specs.contracts.exact.ReportExact.TheImpl.Laws.{equal-law as report_equal};
 ghost use Rattle.hlc_vacuum_draft.specs.declared.report.Report.{Report as AReport};
-ghost use Rattle.std.proofs.Common.{rules, subst};
-ghost use Rattle.std.proofs.lemmas.Grind.{common_steps};
+ghost use Rattle.std.proofs.{Common.rules, Common.subst, lemmas.Grind.common_steps};
 ghost use Rattle.std.specs.Cmp.Lexicographic.{pointwise_decides};
 ghost use Rattle.std.specs.Prelude.{IsTrue, ◌≡◌, ◌↔◌, List};
 

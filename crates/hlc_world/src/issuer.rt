@@ -1,7 +1,6 @@
 //! What a world stores for each node: the node itself, and the items that it issued.
 ghost use Rattle.std.specs.Prelude.{◌≡◌, false, [], slice_get, option_copied};
-ghost use Rattle.hlc_world.specs.Schedule.{body_of};
-ghost use Rattle.hlc_world.specs.WorldView.{Issues, Keeps, Sees};
+ghost use Rattle.hlc_world.specs.{Schedule.body_of, WorldView.Issues, WorldView.Keeps, WorldView.Sees};
 
 use crate::content::Content;
 use crate::refusal::Refusal;

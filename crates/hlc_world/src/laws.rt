@@ -1,11 +1,9 @@
 //! What is true of every schedule that a world can represent.
 ghost use Rattle.std.specs.Prelude.{◌<◌, ℕ, List};
 ghost use Rattle.hlc_world_event.specs.Events.{Event as AnEvent};
-ghost use Rattle.hlc_world.specs.declared.reply.Reply.{Reply as AReply};
-ghost use Rattle.hlc_world.specs.Expected.{IsLegal, GoesByNumber};
-ghost use Rattle.hlc_world.specs.Before.{HappenedBefore, IsStamped};
+ghost use Rattle.hlc_world.specs.{declared.reply.Reply.Reply as AReply, Headline.IsFaithful};
+ghost use Rattle.hlc_world.specs.{Expected.IsLegal, Expected.GoesByNumber, Before.HappenedBefore, Before.IsStamped};
 ghost use Rattle.hlc_world.specs.Floor.{IsComplete, IsBelowClocks, IsClosed};
-ghost use Rattle.hlc_world.specs.Headline.{IsFaithful};
 ghost use Rattle.hlc_world.specs.WorldView.{WorldView, Represents};
 
 /// In a legal schedule, which is one where each reply was allowed and so each one that a world represents: if an event

@@ -3,16 +3,13 @@ ghost use Rattle.std.specs.Prelude.{◌≡◌, ◌≢◌, ◌<◌, ℕ, [], ◌�
 ghost use Rattle.std.specs.Prelude.{length, option_copied};
 ghost use Rattle.hlc_intake.specs.declared.intake.LinkFault.TheVariants.{StampNotRising};
 ghost use Rattle.hlc_core.specs.Past.{Step, Took, item_refusal};
-ghost use Rattle.hlc_core.specs.StoreView.{Represents as CoreRepresents};
-ghost use Rattle.hlc_core.specs.Calls.{IsRefusal, IsWrite};
-ghost use Rattle.hlc_world.specs.Schedule.{issuing, after};
+ghost use Rattle.hlc_core.specs.{StoreView.Represents as CoreRepresents, Calls.IsRefusal, Calls.IsWrite};
+ghost use Rattle.hlc_world.specs.{Schedule.issuing, Schedule.after, Headline.IsFaithful};
 ghost use Rattle.hlc_world_event.specs.Events.{Event as AnEvent};
-ghost use Rattle.hlc_world.specs.Before.{HappenedBefore, IsStamped};
+ghost use Rattle.hlc_world.specs.{Before.HappenedBefore, Before.IsStamped, declared.reply.Reply.Reply as AReply};
 ghost use Rattle.hlc_world.specs.Expected.{MayReply, IsQuestion, IsRefused, GoesByNumber};
 ghost use Rattle.hlc_world.specs.Floor.{IsComplete, IsBelowClocks, IsClosed};
-ghost use Rattle.hlc_world.specs.Headline.{IsFaithful};
 ghost use Rattle.hlc_world.specs.WorldView.{Represents, Makes, fresh_issuers};
-ghost use Rattle.hlc_world.specs.declared.reply.Reply.{Reply as AReply};
 
 use crate::content::Content;
 use crate::issuer::Issuer;

@@ -1,6 +1,5 @@
 //! `==` of events is true exactly on equal values, and each copy is equal.
-ghost use Rattle.std.proofs.Common.{rules, subst};
-ghost use Rattle.std.proofs.lemmas.Grind.{common_steps};
+ghost use Rattle.std.proofs.{Common.rules, Common.subst, lemmas.Grind.common_steps};
 ghost use Rattle.std.specs.Prelude.{IsTrue, ◌≡◌};
 
 use crate::event::Event;

@@ -1,20 +1,15 @@
 -- The run says of the store, of the links and of the clocks what the schedule says, and so it is legal: an item has the
 -- next number of its link and a stamp above its node's clock, a received message was sent, and a snapshot is not above
 -- the floor.
-use Rattle.std.proofs.lemmas.Grind.{common_steps}
+use Rattle.std.proofs.lemmas.{Grind.common_steps, Bool.eq-eqb, Bool.ne_eqb, Bool.cases_eq}
 use Rattle.std.proofs.Common.{◌≡◌, ℕ, zero, suc, Bool, false, ◌+◌, ◌<◌, ◌≤◌, List, [], ◌∷◌, ◌++◌, length, Some, None}
 use Rattle.std.proofs.Common.{Option, refl, ap, sym, ◌∙◌, subst, inl, inr, arith, length-append, Ok}
 use Rattle.std.specs.Prelude.{Contains, slice_get, reverse}
-use Rattle.std.proofs.lemmas.Option.{slice_get_within, same_Some}
-use Rattle.std.proofs.lemmas.Bool.{eq-eqb, ne_eqb, cases_eq}
-use Rattle.std.proofs.lemmas.List.{length-reverse, reverse-append}
+use Rattle.std.proofs.lemmas.{Option.slice_get_within, Option.same_Some, List.length-reverse, List.reverse-append}
 use Rattle.std.proofs.lemmas.List.Elements.{Contains-append_left, Contains-push}
-use Rattle.hlc_node.specs.declared.item.Item.{Item}
-use Rattle.hlc_node.specs.declared.item.Message.{Message}
-use Rattle.hlc_node.specs.declared.item.Body.{Body}
+use Rattle.hlc_node.specs.declared.item.{Item.Item, Body.Body, Message.Message}
 use Rattle.hlc_node.specs.declared.item.Body.TheVariants.{Write as a_write, Report as a_report, Retire as a_retire}
-use Rattle.hlc_node.specs.Items.{an_item}
-use Rattle.hlc_node.specs.Node.{expected_issue}
+use Rattle.hlc_node.specs.{Items.an_item, Node.expected_issue}
 use Rattle.hlc_snapshot.proofs.RegisterLemmas.{stamp_in-all}
 use Rattle.hlc_core.specs.Past.{Step, Took, Opened as OpenedAt, Closed as ClosedOf, Vacuumed as VacuumedTo}
 use Rattle.hlc_core.specs.Past.{Joined as JoinedAt, numbered, floor, open_snapshots, stamp_of, IsLegal as IsLegalPast}
@@ -23,10 +18,9 @@ use Rattle.hlc_core.specs.History.{past_of as past_by}
 use Rattle.hlc_world_event.specs.declared.event.Event.TheVariants.{Write, Delete, Report, Retire, Join, Send, Receive}
 use Rattle.hlc_world_event.specs.declared.event.Event.TheVariants.{Observe, Deliver, OpenAt, OpenFloor, Read}
 use Rattle.hlc_world_event.specs.declared.event.Event.TheVariants.{List as ListAll, Close, Vacuum}
-use Rattle.hlc_world.specs.declared.reply.Reply.{Reply}
+use Rattle.hlc_world.specs.declared.{reply.Reply.Reply, refusal.Refusal.Refusal}
 use Rattle.hlc_world.specs.declared.reply.Reply.TheVariants.{Stamped, Joined, Sent, Received, Observed, Accepted}
 use Rattle.hlc_world.specs.declared.reply.Reply.TheVariants.{Snapshot, Answer, Listing, Closed, Vacuumed}
-use Rattle.hlc_world.specs.declared.refusal.Refusal.{Refusal}
 use Rattle.hlc_world.specs.Schedule.{with_item, ends, stamp_or, has_retired, node_of, sent, message_at}
 use Rattle.hlc_world.specs.Schedule.{issued as issued_by, last_stamp as clock_of}
 use Rattle.hlc_world_event.specs.Events.{Event}

@@ -2,11 +2,11 @@
 -- change neither it nor the numbers of the messages. An event of a node has the same stamp there, and what happened
 -- before another event happened before it in the run: on nodes, through messages and through snapshots. Each turn with
 -- a stamp is the place of an event with this stamp: no event is the run's alone.
-use Rattle.std.proofs.lemmas.Grind.{common_steps}
+use Rattle.std.proofs.lemmas.{Grind.common_steps, Option.slice_get_within, Option.same_Some}
 use Rattle.std.proofs.Common.{◌≡◌, ℕ, ◌<◌, ◌≤◌, List, [], ◌∷◌, length, Some, None, Option, refl, sym, ◌∙◌, subst, inl}
 use Rattle.std.proofs.Common.{inr, arith, ap, ◌⊎◌}
 use Rattle.std.proofs.lemmas.Bool.{cond-true, cond-false, eq-eqb, ne_eqb}
-use Rattle.hlc_world.specs.declared.reply.Reply.{Reply}
+use Rattle.hlc_world.specs.{declared.reply.Reply.Reply, Store.core_past, Store.share}
 use Rattle.hlc_world_event.specs.Events.{Event}
 use Rattle.hlc_world.specs.Expected.{IsLegal, MayReply}
 use Rattle.hlc_world.specs.Before.{entry_at, write_stamp, IsStamped, HappenedBefore, on_node, on_message}
@@ -18,16 +18,13 @@ use Rattle.hlc_ranges.specs.Run.{stamping_of}
 use Rattle.hlc_ranges.proofs.TurnLemmas.{turn-keeps, turn-inside, turn-cases}
 use Rattle.hlc_world_run.specs.RunOf.{messages, sent_at, turn_of, with_turn, run_of, place, layout_of, observing}
 use Rattle.hlc_world_run.specs.RunOf.{step_by, stepping}
-use Rattle.std.proofs.lemmas.Option.{slice_get_within, same_Some}
-use Rattle.hlc_node.specs.declared.item.Item.{Item}
+use Rattle.hlc_node.specs.{declared.item.Item.Item, Items.an_item}
 use Rattle.hlc_node.specs.declared.item.Body.TheVariants.{Write as a_write, Report as a_report, Retire as a_retire}
-use Rattle.hlc_node.specs.Items.{an_item}
 use Rattle.hlc_core.specs.Past.{stamp_of, Step}
 use Rattle.hlc_world_event.specs.declared.event.Event.TheVariants.{Write, Delete, Report, Retire, Send, Receive}
 use Rattle.hlc_world_event.specs.declared.event.Event.TheVariants.{Observe}
 use Rattle.hlc_world.specs.declared.reply.Reply.TheVariants.{Stamped, Sent, Received, Observed}
 use Rattle.hlc_world.specs.Schedule.{stamping_of as stamped_by, message_at, sent}
-use Rattle.hlc_world.specs.Store.{core_past, share}
 use Rattle.hlc_ranges.specs.Before.{HappenedBefore as HappenedBeforeIn, IsStamped as IsStampedIn, on_machine}
 use Rattle.hlc_ranges.specs.Before.{on_message as on_message_in, on_observation as on_observation_in}
 use Rattle.hlc_ranges.specs.Before.{through as through_in}

@@ -4,15 +4,12 @@ use Rattle.std.specs.Prelude.{ℕ, ◌+◌, List, [], ◌∷◌, length, Option,
 use Rattle.hlc_node.specs.Items.{an_item}
 use Rattle.hlc_node.specs.declared.item.Body.TheVariants.{Write as a_write, Report as a_report, Retire as a_retire}
 use Rattle.hlc_events.specs.declared.event.CoreEvent.{CoreEvent}
-use Rattle.hlc_core.specs.declared.reply.CoreReply.{CoreReply}
-use Rattle.hlc_core.specs.Past.{Step, Started, stamp_of}
-use Rattle.hlc_core.specs.History.{step_of}
+use Rattle.hlc_core.specs.{declared.reply.CoreReply.CoreReply, History.step_of, Past.Step, Past.Started, Past.stamp_of}
 use Rattle.hlc_world_event.specs.declared.event.Event.TheVariants.{Write, Delete, Report, Retire, Send, Receive}
 use Rattle.hlc_world_event.specs.declared.event.Event.TheVariants.{Observe}
-use Rattle.hlc_world.specs.declared.reply.Reply.{Reply}
+use Rattle.hlc_world.specs.{declared.reply.Reply.Reply, Store.share, Store.core_past}
 use Rattle.hlc_world.specs.declared.reply.Reply.TheVariants.{Stamped, Sent, Received, Observed}
 use Rattle.hlc_world_event.specs.Events.{Event}
-use Rattle.hlc_world.specs.Store.{share, core_past}
 use Rattle.hlc_ranges.specs.Run.{Layout, Turn, Issued, Sent as Sends, Received as Receives, Observed as Observes}
 use Rattle.hlc_ranges.specs.Run.{Stepped}
 

@@ -2,12 +2,9 @@
 #![tactic(auto)]
 
 ghost use Rattle.std.specs.Prelude.{◌≡◌, ℕ, List, reverse};
-ghost use Rattle.hlc_world.specs.Schedule.{issued, last_stamp};
+ghost use Rattle.hlc_world.specs.{Schedule.issued, Schedule.last_stamp, Store.core_past, Expected.IsLegal};
 ghost use Rattle.hlc_world_event.specs.Events.{Event as AnEvent};
-ghost use Rattle.hlc_world.specs.Store.{core_past};
-ghost use Rattle.hlc_world.specs.declared.reply.Reply.{Reply as AReply};
-ghost use Rattle.hlc_world.specs.Expected.{IsLegal};
-ghost use Rattle.hlc_world.specs.Before.{HappenedBefore, IsStamped};
+ghost use Rattle.hlc_world.specs.{declared.reply.Reply.Reply as AReply, Before.HappenedBefore, Before.IsStamped};
 ghost use Rattle.hlc_ranges.specs.Run.{past_of, issued as issued_in, last_stamp as clock_in, IsLegal as IsLegalRun};
 ghost use Rattle.hlc_ranges.specs.Before.{HappenedBefore as HappenedBeforeIn, IsStamped as IsStampedIn};
 ghost use Rattle.hlc_world_run.specs.RunOf.{layout_of, run_of, place};

@@ -1,7 +1,5 @@
 -- Each store begins with what the one before it keeps, and goes on from there.
-use Rattle.hlc_ranges.proofs.Times.{clocks-on}
-use Rattle.hlc_ranges.proofs.Cuts.{complete-in}
-use Rattle.hlc_ranges.proofs.NewestWrites.{consistent}
+use Rattle.hlc_ranges.proofs.{Times.clocks-on, Cuts.complete-in, NewestWrites.consistent}
 use Rattle.hlc_ranges.proofs.Changes.{newest-led, floor-led, reads-led}
 use Rattle.hlc_ranges.proofs.cuts_go_on.Goals as goal
 

@@ -1,6 +1,5 @@
 -- The run of a schedule says what the schedule says, and each event has its place in it.
-use Rattle.hlc_world_run.proofs.Mirrors.{mirrored}
-use Rattle.hlc_world_run.proofs.Orders.{stamped, ordered, events}
+use Rattle.hlc_world_run.proofs.{Mirrors.mirrored, Orders.stamped, Orders.ordered, Orders.events}
 use Rattle.hlc_world_run.proofs.worlds_are_runs.Goals as goal
 
 pub returns-clause-legal : goal.returns-clause-legal

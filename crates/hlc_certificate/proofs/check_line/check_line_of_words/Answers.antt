@@ -1,6 +1,5 @@
 -- Where the words after the first do not fit, nothing has these words.
-use Rattle.std.proofs.Common.{◌≡◌, ◌∷◌, rules}
-use Rattle.std.specs.Prelude.{codes}
+use Rattle.std.{proofs.Common.◌≡◌, proofs.Common.◌∷◌, proofs.Common.rules, specs.Prelude.codes}
 use Rattle.hlc_certificate.proofs.CheckLines.{no_row, no_witness}
 use Rattle.hlc_certificate.proofs.check_line.check_line_of_words.Goals as goal
 

@@ -1,6 +1,5 @@
 -- One list is printed after another, and the content of each can be written as lines.
-use Rattle.hlc_certificate.proofs.PrintedLines.{printed_lists, all_fit}
-use Rattle.hlc_certificate.proofs.ReadBackLemmas.{printed_is_read}
+use Rattle.hlc_certificate.proofs.{PrintedLines.printed_lists, PrintedLines.all_fit, ReadBackLemmas.printed_is_read}
 use Rattle.hlc_certificate.proofs.print.put_certificate.Goals as goal
 
 pub returns-clause-text : goal.returns-clause-text

@@ -1,6 +1,5 @@
 -- One more line is printed, whose content can be written as a line.
-use Rattle.hlc_certificate.specs.CheckLine.{says_row}
-use Rattle.hlc_certificate.specs.CertificateText.{row_line}
+use Rattle.hlc_certificate.specs.{CheckLine.says_row, CertificateText.row_line}
 use Rattle.hlc_certificate.proofs.PrintedLines.{printed_next, fits_next}
 use Rattle.hlc_certificate.proofs.print.put_rows.Goals as goal
 

@@ -1,8 +1,7 @@
 -- The lines so far are printed, and what they say can be written as lines.
 use Rattle.std.proofs.Common.{take}
 use Rattle.hlc_text.specs.Printing.{Prints}
-use Rattle.hlc_certificate.specs.CheckLine.{says_row}
-use Rattle.hlc_certificate.specs.CertificateText.{row_line}
+use Rattle.hlc_certificate.specs.{CheckLine.says_row, CertificateText.row_line}
 use Rattle.hlc_certificate.proofs.PrintedLines.{all_lines, AllHaveLines}
 use Rattle.hlc_certificate.proofs.print.put_rows.Given as goal
 

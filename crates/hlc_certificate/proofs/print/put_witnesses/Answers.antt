@@ -1,6 +1,5 @@
 -- One more line is printed, whose content can be written as a line.
-use Rattle.hlc_certificate.specs.CheckLine.{says_witness}
-use Rattle.hlc_certificate.specs.CertificateText.{witness_line}
+use Rattle.hlc_certificate.specs.{CheckLine.says_witness, CertificateText.witness_line}
 use Rattle.hlc_certificate.proofs.PrintedLines.{printed_next, fits_next}
 use Rattle.hlc_certificate.proofs.print.put_witnesses.Goals as goal
 

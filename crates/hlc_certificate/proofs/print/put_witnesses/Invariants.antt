@@ -1,8 +1,7 @@
 -- The lines so far are printed, and what they say can be written as lines.
 use Rattle.std.proofs.Common.{take}
 use Rattle.hlc_text.specs.Printing.{Prints}
-use Rattle.hlc_certificate.specs.CheckLine.{says_witness}
-use Rattle.hlc_certificate.specs.CertificateText.{witness_line}
+use Rattle.hlc_certificate.specs.{CheckLine.says_witness, CertificateText.witness_line}
 use Rattle.hlc_certificate.proofs.PrintedLines.{all_lines, AllHaveLines}
 use Rattle.hlc_certificate.proofs.print.put_witnesses.Given as goal
 

@@ -1,7 +1,6 @@
 -- The least of those so far that have not retired.
 use Rattle.std.proofs.Common.{◌≡◌}
-use Rattle.hlc_heads.specs.Low.{least_left}
-use Rattle.hlc_heads.specs.Heads.{link_at}
+use Rattle.hlc_heads.specs.{Low.least_left, Heads.link_at}
 use Rattle.hlc_checkpoint.proofs.checkpoint.floor_of.Given as goal
 
 abbrev pub invariant-loop-link : goal.invariant-loop-link

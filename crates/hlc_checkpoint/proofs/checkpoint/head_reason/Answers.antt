@@ -1,7 +1,6 @@
 -- The floor of the links is that of the state, which without its rows is one of a store if no reason was found.
 use Rattle.std.proofs.Common.{◌≡◌, ◌≤◌, All, List, true≢false, sym, subst, rules}
-use Rattle.std.proofs.lemmas.Grind.{common_steps}
-use Rattle.std.proofs.lemmas.List.Elements.{All-nil}
+use Rattle.std.proofs.lemmas.{Grind.common_steps, List.Elements.All-nil}
 use Rattle.hlc_snapshot.specs.declared.snapshot.Snapshot.{Snapshot}
 use Rattle.hlc_checkpoint.specs.StoreView.{StoreView, greatest_head}
 use Rattle.hlc_checkpoint.specs.Checkpoint.{AreAtMost, HasLinks, HasRegister, IsStoreHead, floor_in}

@@ -1,6 +1,5 @@
 -- The link is that of the row's node, if there is one.
-use Rattle.std.proofs.Common.{◌≡◌, ◌≤◌, ◌<◌, List, length, Bool, refl, ap, arith, rules, get_or}
-use Rattle.std.specs.Prelude.{IsTrue, ◌↔◌}
+use Rattle.std.proofs.Common.{◌≡◌, ◌≤◌, ◌<◌, List, length, Bool, refl, ap, arith, rules, get_or, IsTrue, ◌↔◌}
 use Rattle.std.proofs.lemmas.Option.{get_or_from_slice_get, slice_get_read}
 use Rattle.hlc_rows.specs.declared.row.Row.{Row}
 use Rattle.hlc_intake.specs.IntakeView.{IntakeView}

@@ -1,10 +1,7 @@
 -- Nothing was against the parts, nor against the rows.
-use Rattle.std.proofs.Common.{All, rules}
-use Rattle.std.proofs.lemmas.Grind.{common_steps}
-use Rattle.hlc_witness.specs.Certificate.{RowsAscend}
-use Rattle.hlc_witness.specs.Cost.{AreInLimits}
-use Rattle.hlc_checkpoint.specs.StoreView.{IsUnderHead}
-use Rattle.hlc_checkpoint.specs.Checkpoint.{IsStoreHead}
+use Rattle.std.proofs.{Common.All, Common.rules, lemmas.Grind.common_steps}
+use Rattle.hlc_witness.specs.{Certificate.RowsAscend, Cost.AreInLimits}
+use Rattle.hlc_checkpoint.specs.{StoreView.IsUnderHead, Checkpoint.IsStoreHead}
 use Rattle.hlc_checkpoint.proofs.CheckpointLemmas.{head-checkpoint}
 use Rattle.hlc_checkpoint.proofs.checkpoint.reason_against.Goals as goal
 

@@ -1,7 +1,5 @@
 -- The closure compares as the order does, which is total.
-use Rattle.std.proofs.Common.{is_lt, rules}
-use Rattle.std.proofs.lemmas.Fn.{always_returns_same}
-use Rattle.std.proofs.lemmas.List.Sorted.{ranks_by}
+use Rattle.std.proofs.{Common.is_lt, Common.rules, lemmas.Fn.always_returns_same, lemmas.List.Sorted.ranks_by}
 use Rattle.hlc_rows.specs.declared.row.Row.{Row}
 use Rattle.hlc_witness.specs.Certificate.{row_cmp}
 use Rattle.hlc_checkpoint.proofs.AscendLemmas.{row_cmp_total, sorted-ascend}

@@ -1,10 +1,8 @@
 -- One more leaf is copied.
-use Rattle.std.proofs.Common.{◌∙◌, ap}
-use Rattle.std.proofs.lemmas.List.{take_all}
+use Rattle.std.proofs.{Common.◌∙◌, Common.ap, lemmas.List.take_all}
 use Rattle.hlc_table_column.specs.Rows.{rows_in}
 use Rattle.hlc_columns.specs.Table.{columns_in}
-use Rattle.hlc_checkpoint.specs.Sorted.{rows_on}
-use Rattle.hlc_checkpoint.proofs.Copied.{leaf_on}
+use Rattle.hlc_checkpoint.{specs.Sorted.rows_on, proofs.Copied.leaf_on}
 use Rattle.hlc_checkpoint.proofs.sorted.copies_on.Goals as goal
 
 pub loop-leaf-preserved : goal.loop-leaf-preserved

@@ -1,8 +1,7 @@
 -- One more row is copied, if it is on the side.
 use Rattle.std.proofs.Common.{◌∙◌, ℕ, List, Vec, Global, ap, sym, get_or, arith}
 use Rattle.hlc_rows.specs.declared.row.Row.{Row}
-use Rattle.hlc_checkpoint.specs.Sorted.{is_on}
-use Rattle.hlc_checkpoint.proofs.Copied.{kept_on, passed_on}
+use Rattle.hlc_checkpoint.{specs.Sorted.is_on, proofs.Copied.kept_on, proofs.Copied.passed_on}
 use Rattle.hlc_checkpoint.proofs.sorted.copy_column.Goals.{then-is_on+in_ok-row+in_ok-push, else-is_on}
 use Rattle.hlc_checkpoint.proofs.sorted.copy_column.Goals as goal
 

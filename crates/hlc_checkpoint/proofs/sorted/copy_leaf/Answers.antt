@@ -1,10 +1,7 @@
 -- One more column is copied.
-use Rattle.std.proofs.Common.{◌++◌, ◌∙◌, ap, ℕ, List, arith}
-use Rattle.std.proofs.lemmas.List.{take_all}
-use Rattle.hlc_table_column.specs.Cells.{Cell}
-use Rattle.hlc_table_column.specs.Rows.{rows_of, rows_in}
-use Rattle.hlc_checkpoint.specs.Sorted.{rows_on}
-use Rattle.hlc_checkpoint.proofs.Copied.{column_on}
+use Rattle.std.proofs.{Common.◌++◌, Common.◌∙◌, Common.ap, Common.ℕ, Common.List, Common.arith, lemmas.List.take_all}
+use Rattle.hlc_table_column.specs.{Cells.Cell, Rows.rows_of, Rows.rows_in}
+use Rattle.hlc_checkpoint.{specs.Sorted.rows_on, proofs.Copied.column_on}
 use Rattle.hlc_checkpoint.proofs.sorted.copy_leaf.Goals as goal
 
 pub loop-place-preserved : goal.loop-place-preserved

@@ -1,7 +1,6 @@
 -- One more column.
 use Rattle.std.proofs.Common.{◌∙◌, ap, sym, arith}
-use Rattle.hlc_columns.specs.Table.{keyed}
-use Rattle.hlc_columns.specs.Answers.{entries_left}
+use Rattle.hlc_columns.specs.{Table.keyed, Answers.entries_left}
 use Rattle.hlc_columns.proofs.Listed.{listed_all, listed_more}
 use Rattle.hlc_columns.proofs.above.take_columns.Goals as goal
 

@@ -3,11 +3,9 @@ use Rattle.std.proofs.Common.{◌≡◌, ◌∙◌, List, subst, sym, ap, true}
 use Rattle.std.specs.List.Sorted.{IsStrictlySortedBy}
 use Rattle.hlc_table_index.specs.Entries.{entries_in, entries_before, entries_from, keys_in, key_cmp}
 use Rattle.hlc_columns.specs.Answers.{AreAbove, starts_at, entries_left}
-use Rattle.hlc_columns.proofs.WalkLemmas.{Entry}
+use Rattle.hlc_columns.proofs.{WalkLemmas.Entry, Ranged.all_lead, above.walk_above.Goals.After-is_at}
 use Rattle.hlc_columns.proofs.Listed.{above_from, skip, skipped}
-use Rattle.hlc_columns.proofs.Ranged.{all_lead}
 use Rattle.hlc_columns.proofs.above.walk_above.Goals as goal
-use Rattle.hlc_columns.proofs.above.walk_above.Goals.{After-is_at}
 
 -- the columns that the walk has before the test
 abbrev ahead : After-is_at → List Entry

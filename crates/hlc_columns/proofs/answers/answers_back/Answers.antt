@@ -1,9 +1,8 @@
 -- The walk is over the columns of the range, from the last one on.
 use Rattle.std.proofs.Common.{◌∙◌, subst, sym, ap, option_copied}
 use Rattle.hlc_columns.specs.Answers.{AreAnswers, answers_in, entries_left_back, IsBetween}
-use Rattle.hlc_columns.specs.Table.{indexed_rows}
+use Rattle.hlc_columns.{specs.Table.indexed_rows, proofs.Answered.answers_are, proofs.Answered.answers_reverse}
 use Rattle.hlc_table_index.specs.Entries.{entries_in}
-use Rattle.hlc_columns.proofs.Answered.{answers_are, answers_reverse}
 use Rattle.hlc_columns.proofs.answers.answers_back.Goals as goal
 
 pub returns : goal.returns

@@ -1,7 +1,6 @@
 -- The walk is over the columns of the range.
 use Rattle.std.proofs.Common.{subst, sym, option_copied}
-use Rattle.hlc_columns.specs.Answers.{AreAnswers, answers_in, IsBetween}
-use Rattle.hlc_columns.specs.Table.{indexed_rows}
+use Rattle.hlc_columns.specs.{Answers.AreAnswers, Answers.answers_in, Answers.IsBetween, Table.indexed_rows}
 use Rattle.hlc_table_index.specs.Entries.{entries_in}
 use Rattle.hlc_columns.proofs.Answered.{answers_are}
 use Rattle.hlc_columns.proofs.answers.answers_between.Goals as goal

@@ -1,10 +1,8 @@
 -- The walk is over the columns of the range.
 use Rattle.std.proofs.Common.{subst, sym, option_copied}
-use Rattle.hlc_columns.specs.Answers.{IsBetween}
+use Rattle.hlc_columns.{specs.Answers.IsBetween, specs.Table.indexed_rows, proofs.Differing.differences_are}
 use Rattle.hlc_columns.specs.Differences.{AreDifferences, differences_in}
-use Rattle.hlc_columns.specs.Table.{indexed_rows}
 use Rattle.hlc_table_index.specs.Entries.{entries_in}
-use Rattle.hlc_columns.proofs.Differing.{differences_are}
 use Rattle.hlc_columns.proofs.changes.changes_between.Goals as goal
 
 pub returns : goal.returns

@@ -1,7 +1,6 @@
 -- The answers of the keys that are skipped are the same, so the remaining differences do not change.
 use Rattle.std.proofs.Common.{◌≡◌, length}
-use Rattle.hlc_columns.specs.Answers.{entries_left}
-use Rattle.hlc_columns.specs.Differences.{differences_in}
+use Rattle.hlc_columns.specs.{Answers.entries_left, Differences.differences_in}
 use Rattle.hlc_columns.proofs.changes.next_change.Given as goal
 
 abbrev pub invariant-loop-entry : goal.invariant-loop-entry

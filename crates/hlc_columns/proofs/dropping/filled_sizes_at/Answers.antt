@@ -1,12 +1,10 @@
 -- A column without rows has no part in the sizes.
 use Rattle.std.proofs.Common.{◌≡◌, ◌∙◌, [], ap, sym, arith, length}
 use Rattle.std.proofs.lemmas.List.Sums.{sum_by-cons}
-use Rattle.hlc_columns.specs.Table.{key_at, cells_at}
-use Rattle.hlc_columns.specs.Sizes.{sizes_of, Sizes}
-use Rattle.hlc_columns.proofs.WalkLemmas.{Entry}
-use Rattle.hlc_columns.proofs.KeptOf.{filled_some, filled_none}
-use Rattle.hlc_columns.proofs.dropping.filled_sizes_at.Goals as goal
+use Rattle.hlc_columns.specs.{Table.key_at, Table.cells_at, Sizes.sizes_of, Sizes.Sizes}
+use Rattle.hlc_columns.proofs.{WalkLemmas.Entry, KeptOf.filled_some, KeptOf.filled_none}
 use Rattle.hlc_columns.proofs.dropping.filled_sizes_at.Goals.{After-sizes_at-sizes}
+use Rattle.hlc_columns.proofs.dropping.filled_sizes_at.Goals as goal
 
 -- the column at the position
 abbrev own : After-sizes_at-sizes → Entry

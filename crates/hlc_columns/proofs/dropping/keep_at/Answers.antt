@@ -1,13 +1,10 @@
 -- If all flags of the column are set, nothing changes; otherwise its rows are dropped.
 use Rattle.std.proofs.Common.{◌≡◌, ◌∙◌, [], ap, sym, length, take, drop, get_or}
-use Rattle.std.specs.List.{items_where_true}
-use Rattle.std.proofs.lemmas.List.{get_or-map}
+use Rattle.std.{specs.List.items_where_true, proofs.lemmas.List.get_or-map}
 use Rattle.hlc_table_index.specs.Entries.{with_value_in}
-use Rattle.hlc_columns.specs.Table.{cells_at}
-use Rattle.hlc_columns.proofs.WalkLemmas.{Entry}
-use Rattle.hlc_columns.proofs.Dropped.{same_value, all_set}
+use Rattle.hlc_columns.{specs.Table.cells_at, proofs.dropping.keep_at.Goals.After-split_at-first}
+use Rattle.hlc_columns.proofs.{WalkLemmas.Entry, Dropped.same_value, Dropped.all_set}
 use Rattle.hlc_columns.proofs.dropping.keep_at.Goals as goal
-use Rattle.hlc_columns.proofs.dropping.keep_at.Goals.{After-split_at-first}
 
 its_many : (c : After-split_at-first) → c.len.result ≡ length (cells_at c.args.columns.now c.args.at c.args.slot)
 its_many c =

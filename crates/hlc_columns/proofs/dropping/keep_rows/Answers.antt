@@ -1,12 +1,11 @@
 -- One more leaf; and then the columns without rows are removed.
 use Rattle.std.proofs.Common.{◌<◌, ◌∙◌, ap, sym, subst, arith, length, All}
 use Rattle.hlc_table_index.specs.Entries.{entries_in}
-use Rattle.hlc_columns.specs.Table.{kept_in, table_rows}
+use Rattle.hlc_columns.specs.{Table.kept_in, Table.table_rows, Sizes.sizes_of}
 use Rattle.hlc_columns.proofs.Kept.{run_none, total_none, leaf_rows, column_inside, leaf_enough, next_leaves, next_left}
 use Rattle.hlc_columns.proofs.Kept.{run_all, kept_leaves, kept_rows, filled_rows, all_filled}
-use Rattle.hlc_columns.specs.Sizes.{sizes_of}
-use Rattle.hlc_columns.proofs.dropping.keep_rows.Goals as goal
 use Rattle.hlc_columns.proofs.dropping.keep_rows.Goals.{In-loop-at}
+use Rattle.hlc_columns.proofs.dropping.keep_rows.Goals as goal
 
 below : (c : In-loop-at) → c.loop-at.at < length c.args.columns.now
 below c = let lt = c.loop-at-test.true in let e = c.leaves-at-end.ensures.count in omega (arith, lt, e)

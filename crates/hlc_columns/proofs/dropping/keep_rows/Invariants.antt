@@ -1,7 +1,6 @@
 -- The columns of the first leaves have only their flagged rows, and the flags of the others are left.
 use Rattle.std.proofs.Common.{◌≡◌, ◌++◌, take, drop}
-use Rattle.hlc_columns.specs.Table.{kept_in}
-use Rattle.hlc_columns.specs.Sizes.{filled_sizes, Fit}
+use Rattle.hlc_columns.specs.{Table.kept_in, Sizes.filled_sizes, Sizes.Fit}
 use Rattle.hlc_columns.proofs.Kept.{run, total, leaf_rows}
 use Rattle.hlc_columns.proofs.dropping.keep_rows.Given as goal
 

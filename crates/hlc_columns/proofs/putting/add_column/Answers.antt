@@ -2,13 +2,9 @@
 use Rattle.std.proofs.Common.{◌≡◌, ◌<◌, refl, sym, ap, subst, length, arith, All, None}
 use Rattle.std.specs.Map.{lookup}
 use Rattle.hlc_table_index.specs.Entries.{entries_in}
-use Rattle.hlc_columns.specs.Parts.{new_row}
+use Rattle.hlc_columns.specs.{Parts.new_row, Table.indexed_rows, Sizes.sizes_of, Sizes.with_row, Sizes.with_key}
 use Rattle.hlc_table_column.specs.Cells.{value_bytes}
-use Rattle.hlc_columns.specs.Sizes.{sizes_of, with_row, with_key}
-use Rattle.hlc_columns.specs.Table.{indexed_rows}
-use Rattle.hlc_columns.proofs.FoundLemmas.{test}
-use Rattle.hlc_columns.proofs.Inserted.{all_inserted, added_as}
-use Rattle.hlc_columns.proofs.SizeLemmas.{sizes_added}
+use Rattle.hlc_columns.proofs.{FoundLemmas.test, SizeLemmas.sizes_added, Inserted.all_inserted, Inserted.added_as}
 use Rattle.hlc_columns.proofs.putting.add_column.Goals as goal
 
 pub returns-clause-ok : goal.returns-clause-ok

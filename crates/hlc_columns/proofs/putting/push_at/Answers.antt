@@ -1,13 +1,10 @@
 -- The row goes to the end of the column of the key at that position; all others stay.
 use Rattle.std.proofs.Common.{◌<◌, ◌≤◌, refl, sym, subst, length, arith, All, List, ℕ, [], get_or, ap, ◌∙◌}
-use Rattle.std.specs.Map.{set_value}
-use Rattle.std.proofs.lemmas.Result.{on_ok_weaker, on_err_weaker}
+use Rattle.std.{specs.Map.set_value, proofs.lemmas.Result.on_ok_weaker, proofs.lemmas.Result.on_err_weaker}
 use Rattle.hlc_table_index.specs.Entries.{entries_in, keys_in, with_value_in, IsEntryAt}
 use Rattle.hlc_table_index.proofs.EntryLemmas.{entry_found, entry_written}
-use Rattle.hlc_columns.specs.Table.{indexed_rows}
-use Rattle.hlc_columns.proofs.FoundLemmas.{test}
+use Rattle.hlc_columns.{specs.Table.indexed_rows, proofs.FoundLemmas.test, proofs.SizeLemmas.sizes_pushed}
 use Rattle.hlc_columns.proofs.Inserted.{all_set, found_some, pushed_as, kept_as, same_set}
-use Rattle.hlc_columns.proofs.SizeLemmas.{sizes_pushed}
 use Rattle.hlc_columns.proofs.putting.push_at.Goals as goal
 
 -- the key at the position

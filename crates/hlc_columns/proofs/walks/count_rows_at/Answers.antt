@@ -1,8 +1,7 @@
 -- One more column.
 use Rattle.std.proofs.Common.{◌≡◌, ◌+◌, ◌∙◌, ap, arith, List, length, filter}
 use Rattle.hlc_table_column.specs.Rows.{rows_of}
-use Rattle.hlc_columns.specs.Answers.{entries_left}
-use Rattle.hlc_columns.specs.Table.{indexed_rows, table_rows}
+use Rattle.hlc_columns.specs.{Answers.entries_left, Table.indexed_rows, Table.table_rows}
 use Rattle.hlc_columns.proofs.Ranged.{all_lead}
 use Rattle.hlc_columns.proofs.WalkLemmas.{Entry, within, few, all_from_first, count_next}
 use Rattle.hlc_columns.proofs.walks.count_rows_at.Goals as goal

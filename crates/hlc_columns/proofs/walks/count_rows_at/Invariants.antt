@@ -1,7 +1,6 @@
 -- The rows so far are counted, and those of the remaining columns are left.
 use Rattle.std.proofs.Common.{◌≡◌, ◌+◌, length, filter}
-use Rattle.hlc_columns.specs.Answers.{entries_left}
-use Rattle.hlc_columns.specs.Table.{indexed_rows, table_rows}
+use Rattle.hlc_columns.specs.{Answers.entries_left, Table.indexed_rows, Table.table_rows}
 use Rattle.hlc_columns.proofs.WalkLemmas.{within}
 use Rattle.hlc_columns.proofs.walks.count_rows_at.Given as goal
 

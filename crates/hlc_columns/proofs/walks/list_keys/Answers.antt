@@ -2,8 +2,7 @@
 use Rattle.std.proofs.Common.{◌∙◌, ◌++◌, ap, sym, map, Bor, List, ℕ, append-nil}
 use Rattle.hlc_table_index.specs.Entries.{keys_in}
 use Rattle.hlc_columns.specs.Answers.{entries_left}
-use Rattle.hlc_columns.proofs.Ranged.{all_lead}
-use Rattle.hlc_columns.proofs.WalkLemmas.{Entry, name_next, all_from_first}
+use Rattle.hlc_columns.proofs.{Ranged.all_lead, WalkLemmas.Entry, WalkLemmas.name_next, WalkLemmas.all_from_first}
 use Rattle.hlc_columns.proofs.walks.list_keys.Goals as goal
 
 pub loop-entry-init : goal.loop-entry-init

@@ -1,6 +1,5 @@
 -- An item only raises its own node's head, or retires the node, and a node joins at or above the floor.
-use Rattle.hlc_core.proofs.PastLemmas.{floor-grows, floor-joins}
-use Rattle.hlc_core.proofs.StayLemmas.{floor-never_falls}
+use Rattle.hlc_core.proofs.{PastLemmas.floor-grows, PastLemmas.floor-joins, StayLemmas.floor-never_falls}
 use Rattle.hlc_core.proofs.laws.the_floor_never_falls.Goals as goal
 
 pub returns-clause-took : goal.returns-clause-took

@@ -2,13 +2,10 @@
 use Rattle.std.proofs.Common.{◌≡◌, ◌∙◌, ◌<◌, ap, subst, sym, rules, slice_get, Some, None, ℕ, List, length, get_or}
 use Rattle.hlc_intake.specs.IntakeView.{IntakeView}
 use Rattle.std.specs.Prelude.{Ok, Err}
-use Rattle.std.proofs.lemmas.Option.{slice_get-get_or}
-use Rattle.std.proofs.lemmas.Result.{err_from_is_err_and}
+use Rattle.std.proofs.lemmas.{Option.slice_get-get_or, Result.err_from_is_err_and}
 use Rattle.hlc_node.specs.Items.{body_refusal}
 use Rattle.hlc_events.specs.declared.fault.CoreFault.TheVariants.{Link, Body}
-use Rattle.hlc_core.specs.Past.{of_body}
-use Rattle.hlc_core.proofs.Admits.{refused_first, next_admitted}
-use Rattle.hlc_core.proofs.Links.{LooksUp}
+use Rattle.hlc_core.{specs.Past.of_body, proofs.Admits.refused_first, proofs.Admits.next_admitted, proofs.Links.LooksUp}
 use Rattle.hlc_core.proofs.link.check.Goals as goal
 
 -- the link of the item's node

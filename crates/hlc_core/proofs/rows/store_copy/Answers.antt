@@ -2,8 +2,7 @@
 use Rattle.std.proofs.Common.{◌≡◌, sym, subst, Contains, [], None, option_copied}
 use Rattle.hlc_values.proofs.MemberLemmas.{Contains-first}
 use Rattle.hlc_rows.specs.declared.row.Row.{Row}
-use Rattle.hlc_node.specs.declared.item.Body.{Body}
-use Rattle.hlc_node.specs.Items.{body_refusal}
+use Rattle.hlc_node.specs.{declared.item.Body.Body, Items.body_refusal}
 use Rattle.hlc_core.specs.Past.{body_rows}
 use Rattle.hlc_rows.proofs.WritesLemmas.{good}
 use Rattle.hlc_core.proofs.rows.store_copy.Goals as goal

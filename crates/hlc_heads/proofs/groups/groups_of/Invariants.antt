@@ -1,7 +1,6 @@
 -- Each group that was looked at has its least head.
 use Rattle.std.proofs.Common.{ℕ, ◌<◌, ◌*◌, ◌+◌}
-use Rattle.hlc_heads.specs.Groups.{IsLeastIn, group_at}
-use Rattle.hlc_heads.specs.declared.groups.TheConstants.{GROUP}
+use Rattle.hlc_heads.specs.{Groups.IsLeastIn, Groups.group_at, declared.groups.TheConstants.GROUP}
 use Rattle.hlc_heads.proofs.groups.groups_of.Given as goal
 
 abbrev pub invariant-loop-group : goal.invariant-loop-group

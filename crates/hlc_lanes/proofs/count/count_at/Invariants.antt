@@ -1,6 +1,5 @@
 -- The stamps before the position are counted.
-use Rattle.std.proofs.Common.{◌≡◌, ◌-◌, ◌≤◌, length, take, leb}
-use Rattle.std.specs.Prelude.{count_by}
+use Rattle.std.proofs.Common.{◌≡◌, ◌-◌, ◌≤◌, length, take, leb, count_by}
 use Rattle.hlc_lanes.proofs.count.count_at.Given as goal
 
 abbrev pub invariant-loop-at : goal.invariant-loop-at

@@ -1,7 +1,6 @@
 -- The 1 bits of a mask are the lanes that pass the test.
 use Rattle.std.proofs.Common.{leb, ap, ◌∙◌, arith, w64}
-use lib.Count.{ones}
-use lib.Lanes.{chunk}
+use lib.{Count.ones, Lanes.chunk}
 use Rattle.std.proofs.lemmas.Simd.{bitmask_splat, ones-mask_l, length-chunk}
 use Rattle.hlc_lanes.proofs.count.count_in.Goals as goal
 

@@ -2,8 +2,7 @@
 use Rattle.std.proofs.Common.{◌∙◌, ap, ltb, length, arith, w64}
 use lib.Lanes.{sel_l, zip2}
 use Rattle.std.proofs.lemmas.Simd.{tops_compared, length-zip2, length-sel_l}
-use Rattle.hlc_lanes.specs.Greatest.{greatest}
-use Rattle.hlc_lanes.proofs.Lanes.{greatest_selected}
+use Rattle.hlc_lanes.{specs.Greatest.greatest, proofs.Lanes.greatest_selected}
 use Rattle.hlc_lanes.proofs.newest.greater.Goals as goal
 
 pub returns-clause-long : goal.returns-clause-long

@@ -1,7 +1,6 @@
 -- One more stamp.
 use Rattle.std.proofs.Common.{◌∙◌, ap, sym, max, get_or}
-use Rattle.hlc_lanes.specs.Greatest.{within}
-use Rattle.hlc_lanes.proofs.Lanes.{greatest_one}
+use Rattle.hlc_lanes.{specs.Greatest.within, proofs.Lanes.greatest_one}
 use Rattle.hlc_lanes.proofs.newest.greatest_rest.Goals as goal
 
 pub loop-stamp-preserved : goal.loop-stamp-preserved

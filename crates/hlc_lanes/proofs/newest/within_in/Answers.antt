@@ -1,6 +1,5 @@
 -- A selection by the mask of a test keeps the lanes that pass it.
-use Rattle.std.proofs.Common.{◌≡◌, ◌∙◌, ap, leb, length, w64}
-use Rattle.std.specs.Prelude.{replicate}
+use Rattle.std.proofs.Common.{◌≡◌, ◌∙◌, ap, leb, length, w64, replicate}
 use lib.Lanes.{chunk, sel_l}
 use Rattle.std.proofs.lemmas.Simd.{tops_compared, zip2_splat, length-chunk}
 use Rattle.hlc_lanes.proofs.Lanes.{at_length}

@@ -1,9 +1,7 @@
 -- Each moment of a legal history is legal, whatever past it began with.
 use Rattle.std.proofs.Common.{ℕ, List, [], ◌∷◌, ◌≡◌, ap, refl, subst}
-use Rattle.hlc_core.specs.Past.{Started}
-use Rattle.hlc_core.specs.StoreView.{StoreView, Represents}
+use Rattle.hlc_core.specs.{Past.Started, declared.reply.CoreReply.CoreReply, StoreView.StoreView, StoreView.Represents}
 use Rattle.hlc_events.specs.declared.event.CoreEvent.{CoreEvent}
-use Rattle.hlc_core.specs.declared.reply.CoreReply.{CoreReply}
 use Rattle.hlc_core.specs.History.{past_of, step_of, with_step, IsLegalHistory, IsExpected, IsLeft, LeavesPart}
 use Rattle.hlc_core.specs.From.{past_from, IsLegalFrom, IsLeftFrom}
 use Rattle.hlc_replicas.proofs.FaithfulFrom.{histories_are_faithful}

@@ -1,6 +1,5 @@
 -- The pairs so far and the remaining ones are the answers of the keys of the range.
-use Rattle.std.proofs.Common.{◌++◌, map}
-use Rattle.std.specs.Prelude.{option_copied}
+use Rattle.std.{proofs.Common.◌++◌, proofs.Common.map, specs.Prelude.option_copied}
 use Rattle.hlc_columns.specs.Answers.{AreAnswers, IsBetween}
 use Rattle.hlc_routing.specs.Listing.{of_pair}
 use Rattle.hlc_routing.proofs.listing.listed.Given as goal

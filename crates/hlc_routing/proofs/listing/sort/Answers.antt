@@ -1,9 +1,6 @@
 -- The closure compares keys as the order does, which is total.
-use Rattle.std.proofs.Common.{is_lt, rules, nat_cmp}
-use Rattle.std.specs.Cmp.Lexicographic.{slice_cmp}
-use Rattle.std.proofs.lemmas.Cmp.{nat_list_cmp_total}
-use Rattle.std.proofs.lemmas.Fn.{always_returns_same}
-use Rattle.std.proofs.lemmas.List.Sorted.{ranks_by}
+use Rattle.std.{proofs.Common.is_lt, proofs.Common.rules, proofs.Common.nat_cmp, specs.Cmp.Lexicographic.slice_cmp}
+use Rattle.std.proofs.lemmas.{Cmp.nat_list_cmp_total, List.Sorted.ranks_by, Fn.always_returns_same}
 use Rattle.hlc_core.specs.declared.listing.Pair.{Pair}
 use Rattle.hlc_routing.proofs.Gathered.{sorted-ascend}
 use Rattle.hlc_routing.proofs.listing.sort.Goals as goal

@@ -2,8 +2,7 @@
 use Rattle.std.proofs.Common.{subst, arith}
 use Rattle.hlc_table_column.specs.Rows.{rows_in}
 use Rattle.hlc_columns.specs.Table.{columns_in}
-use Rattle.hlc_routing.specs.Placing.{ArePlaced}
-use Rattle.hlc_routing.proofs.Placed.{leaf-next, take-all}
+use Rattle.hlc_routing.{specs.Placing.ArePlaced, proofs.Placed.leaf-next, proofs.Placed.take-all}
 use Rattle.hlc_routing.proofs.placing.other_of.Goals as goal
 
 pub loop-at-preserved : goal.loop-at-preserved

@@ -1,8 +1,6 @@
 -- A key is among those before only if its mark is set.
 use Rattle.std.proofs.Common.{◌≡◌, refl, inl, inr, sym, ◌∙◌, ◌-◌}
-use Rattle.hlc_rows.specs.Spelled.{write_seen}
-use Rattle.hlc_rows.specs.Limits.{write_refusal}
-use Rattle.hlc_rows.specs.Writes.{first_of}
+use Rattle.hlc_rows.specs.{Spelled.write_seen, Writes.first_of, Limits.write_refusal}
 use Rattle.hlc_rows.proofs.TwiceLemmas.{one-more, passed-found, passed-more, refused-twice}
 use Rattle.hlc_rows.proofs.write.many_fault.Goals.{else-marks-one-via-then-marks-one+then-marks-two+else-first_have_key}
 use Rattle.hlc_rows.proofs.write.many_fault.Goals.{else-marks-one-via-then-marks-one+else-marks-two}

@@ -1,7 +1,6 @@
 -- The writes before are of different keys, and the mark of each of their keys is set; the reason so far is their first.
 use Rattle.std.proofs.Common.{◌≡◌, length}
-use Rattle.hlc_rows.specs.Writes.{first_of, writes_refusal}
-use Rattle.hlc_rows.proofs.TwiceLemmas.{Passed}
+use Rattle.hlc_rows.{specs.Writes.first_of, specs.Writes.writes_refusal, proofs.TwiceLemmas.Passed}
 use Rattle.hlc_rows.proofs.write.many_fault.Given as goal
 
 abbrev pub invariant-loop-first : goal.invariant-loop-first

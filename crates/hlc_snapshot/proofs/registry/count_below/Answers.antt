@@ -1,8 +1,7 @@
 -- The ids ascend, so the lower ones come first.
 use Rattle.std.proofs.Common.{rules, ltb}
 use Rattle.std.proofs.lemmas.List.Sorted.{IsPartitionPoint-from_clause, IsPartitionedBy-ltb}
-use Rattle.hlc_snapshot.specs.declared.snapshot.Snapshot.{Snapshot}
-use Rattle.hlc_snapshot.proofs.Found.{ids-non_decreasing}
+use Rattle.hlc_snapshot.{specs.declared.snapshot.Snapshot.Snapshot, proofs.Found.ids-non_decreasing}
 use Rattle.hlc_snapshot.proofs.registry.count_below.Goals as goal
 
 pub returns : goal.returns

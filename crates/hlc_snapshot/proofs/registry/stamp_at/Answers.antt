@@ -1,6 +1,5 @@
 -- Ids ascend, so the snapshot at the position is the only one with its id.
-use Rattle.std.proofs.Common.{sym}
-use borrow.Author.Tests.{ltb-true}
+use Rattle.std.proofs.Common.{sym, ltb-true}
 use Rattle.hlc_snapshot.proofs.Found.{stamp_in-found}
 use Rattle.hlc_snapshot.proofs.registry.stamp_at.Goals as goal
 

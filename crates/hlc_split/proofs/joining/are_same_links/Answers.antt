@@ -1,6 +1,5 @@
 -- `==` decides whether two links are the same.
-use Rattle.std.proofs.Common.{arith}
-use Rattle.std.proofs.lemmas.Bool.Decides.{nat_tests}
+use Rattle.std.proofs.{Common.arith, lemmas.Bool.Decides.nat_tests}
 use Rattle.hlc_split.proofs.Same.{by_elements, same_link}
 use Rattle.hlc_split.proofs.joining.are_same_links.Goals as goal
 

@@ -1,6 +1,5 @@
 -- `==` decides whether two snapshots are the same.
-use Rattle.std.proofs.Common.{arith}
-use Rattle.std.proofs.lemmas.Bool.Decides.{nat_tests}
+use Rattle.std.proofs.{Common.arith, lemmas.Bool.Decides.nat_tests}
 use Rattle.hlc_split.proofs.Same.{by_elements, same_snapshot}
 use Rattle.hlc_split.proofs.joining.are_same_snapshots.Goals as goal
 

@@ -1,10 +1,8 @@
 -- The keys are divided, so each is answered as by its side. The horizons are one, so both parts were vacuumed to it.
-use Rattle.std.proofs.Common.{◌≡◌, ◌++◌, rules}
-use Rattle.std.proofs.lemmas.Grind.{common_steps}
+use Rattle.std.proofs.{Common.◌≡◌, Common.◌++◌, Common.rules, lemmas.Grind.common_steps}
 use Rattle.hlc_core.specs.StoreView.{with_rows}
 use Rattle.hlc_split.specs.Merge.{AreJoinable}
-use Rattle.hlc_split.proofs.Onward.{own_merged_represents}
-use Rattle.hlc_split.proofs.Sides.{merged_answers, merged_is_checkpoint}
+use Rattle.hlc_split.proofs.{Onward.own_merged_represents, Sides.merged_answers, Sides.merged_is_checkpoint}
 use Rattle.hlc_split.proofs.joining.merge.Goals as goal
 
 pub returns-clause-answers : goal.returns-clause-answers

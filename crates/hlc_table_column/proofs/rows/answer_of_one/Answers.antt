@@ -1,7 +1,6 @@
 -- The only row answers exactly where it is at or below the bound.
 use Rattle.std.proofs.Common.{◌≤◌, ◌<◌, sym, ◌∙◌, refl, arith}
-use Rattle.hlc_table_column.specs.Rows.{row_of}
-use Rattle.hlc_table_column.proofs.FirstLemmas.{one_above, one_within}
+use Rattle.hlc_table_column.{specs.Rows.row_of, proofs.FirstLemmas.one_above, proofs.FirstLemmas.one_within}
 use Rattle.hlc_table_column.proofs.rows.answer_of_one.Goals as goal
 
 pub returns-then-stamp-bits : goal.returns-then-stamp-bits

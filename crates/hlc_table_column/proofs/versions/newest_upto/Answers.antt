@@ -1,10 +1,8 @@
 -- One more row is not left, or the first that is, or newer than the best so far, or not.
-use Rattle.std.proofs.Common.{Some, sym, subst, ◌∙◌}
-use Rattle.std.proofs.lemmas.Option.{slice_get_within}
-use Rattle.hlc_table_column.specs.Versions.{IsNewestLeft}
+use Rattle.std.proofs.{Common.Some, Common.sym, Common.subst, Common.◌∙◌, lemmas.Option.slice_get_within}
+use Rattle.hlc_table_column.{specs.Versions.IsNewestLeft, proofs.versions.newest_upto.Goals.In-Some}
 use Rattle.hlc_table_column.proofs.KeyLemmas.{at_place, one_found, one_newer, one_older}
 use Rattle.hlc_table_column.proofs.versions.newest_upto.Goals as goal
-use Rattle.hlc_table_column.proofs.versions.newest_upto.Goals.{In-Some}
 
 -- the best so far
 best_is : (c : In-Some) → IsNewestLeft c.args.from c.args.to c.args.last c.args.lanes.now c.args.place

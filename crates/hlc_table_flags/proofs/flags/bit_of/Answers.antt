@@ -1,6 +1,5 @@
 -- The lowest bit after a shift.
-use Rattle.std.proofs.Common.{◌/◌, ◌%◌, ap, get_or, nat_eq}
-use Rattle.std.proofs.lemmas.Nat.Bits.{shr_and_one}
+use Rattle.std.proofs.{Common.◌/◌, Common.◌%◌, Common.ap, Common.get_or, Common.nat_eq, lemmas.Nat.Bits.shr_and_one}
 use Rattle.hlc_table_flags.proofs.flags.bit_of.Goals as goal
 
 pub returns : goal.returns

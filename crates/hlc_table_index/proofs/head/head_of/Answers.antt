@@ -1,7 +1,6 @@
 -- Eight bytes, and eight others after them.
 use Rattle.std.proofs.Common.{◌∙◌, ◌-◌, ap, arith, length, drop, take_all, length-drop}
-use Rattle.hlc_table_index.specs.Head.{head_upto}
-use Rattle.hlc_table_index.proofs.Heads.{head_one, head_two}
+use Rattle.hlc_table_index.{specs.Head.head_upto, proofs.Heads.head_one, proofs.Heads.head_two}
 use Rattle.hlc_table_index.proofs.head.head_of.Goals as goal
 
 pub returns-then-key-le8-clause-value : goal.returns-then-key-le8-clause-value

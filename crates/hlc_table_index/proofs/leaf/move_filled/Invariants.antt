@@ -1,8 +1,6 @@
 -- The filled entries so far are at the front, the later ones are as they were, and each head is that of its key.
-use Rattle.std.proofs.Common.{◌≡◌, map}
-use Rattle.std.proofs.lemmas.List.Filters.{FiltersInPlace}
-use Rattle.hlc_table_index.specs.Head.{head_of}
-use Rattle.hlc_table_index.specs.Entries.{keys_in}
+use Rattle.std.proofs.{Common.◌≡◌, Common.map, lemmas.List.Filters.FiltersInPlace}
+use Rattle.hlc_table_index.specs.{Head.head_of, Entries.keys_in}
 use Rattle.hlc_table_index.proofs.leaf.move_filled.Given as goal
 
 abbrev pub invariant-loop-i : goal.invariant-loop-i

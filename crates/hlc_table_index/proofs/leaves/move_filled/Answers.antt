@@ -1,10 +1,9 @@
 -- One more leaf: it still has an entry and moves to the front, or it has none.
 use Rattle.std.proofs.Common.{◌≡◌, ◌<◌, ◌∙◌, All, arith, length, subst, ap, sym, refl, filter, get_or-set_same}
-use Rattle.hlc_table_index.specs.Head.{head_of, AreBytes}
-use Rattle.hlc_table_index.specs.Entries.{keys_in, first_key}
+use Rattle.hlc_table_index.specs.{Head.head_of, Head.AreBytes, Entries.keys_in, Entries.first_key}
 use Rattle.hlc_table_index.proofs.Kept.{keeps_no, keeps_yes}
-use Rattle.hlc_table_index.proofs.leaves.move_filled.Goals as goal
 use Rattle.hlc_table_index.proofs.leaves.move_filled.Goals.{then-len-gt0, else-len-gt0}
+use Rattle.hlc_table_index.proofs.leaves.move_filled.Goals as goal
 
 pub loop-i-preserved : goal.loop-i-preserved
 loop-i-preserved g c =

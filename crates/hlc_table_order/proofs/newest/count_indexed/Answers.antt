@@ -1,9 +1,7 @@
 -- The rows at or below the bound are at the front of the index.
 use Rattle.std.proofs.Common.{◌≡◌, ℕ, get_or, rules, leb, true, false, length, arith}
-use Rattle.std.specs.List.Sorted.{IsPartitionPoint}
-use Rattle.std.proofs.lemmas.List.Sorted.{IsPartitionPoint-from_clause}
-use Rattle.hlc_table_order.proofs.PlaceLemmas.{stamps_partitioned, all_indexed}
-use Rattle.hlc_table_order.proofs.CountLemmas.{index_counted}
+use Rattle.std.{specs.List.Sorted.IsPartitionPoint, proofs.lemmas.List.Sorted.IsPartitionPoint-from_clause}
+use Rattle.hlc_table_order.proofs.{PlaceLemmas.stamps_partitioned, PlaceLemmas.all_indexed, CountLemmas.index_counted}
 use Rattle.hlc_table_order.proofs.newest.count_indexed.Goals as goal
 
 pub returns-then-is_last_within : goal.returns-then-is_last_within

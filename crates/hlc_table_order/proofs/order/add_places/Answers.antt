@@ -1,7 +1,6 @@
 -- One more position is numbered.
 use Rattle.std.proofs.Common.{◌+◌, List, ℕ, subst, sym, arith}
-use Rattle.hlc_table_order.specs.Order.{IsNumbered}
-use Rattle.hlc_table_order.proofs.PlaceLemmas.{numbered_more}
+use Rattle.hlc_table_order.{specs.Order.IsNumbered, proofs.PlaceLemmas.numbered_more}
 use Rattle.hlc_table_order.proofs.order.add_places.Goals as goal
 
 pub loop-place-preserved : goal.loop-place-preserved

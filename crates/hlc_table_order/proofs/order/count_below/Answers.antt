@@ -1,11 +1,9 @@
 -- The stamps ascend along the index, so those below a stamp come first.
 use Rattle.std.proofs.Common.{◌≡◌, ℕ, get_or, rules, arith, ltb, true, false}
-use Rattle.std.proofs.lemmas.Bool.Decides.{nat_tests}
+use Rattle.std.proofs.lemmas.{Bool.Decides.nat_tests, List.Sorted.IsPartitionPoint-from_clause}
 use Rattle.std.specs.List.Sorted.{IsPartitionPoint}
-use Rattle.std.proofs.lemmas.List.Sorted.{IsPartitionPoint-from_clause}
-use Rattle.hlc_table_order.proofs.PlaceLemmas.{stamps_partitioned_below}
+use Rattle.hlc_table_order.proofs.{PlaceLemmas.stamps_partitioned_below, order.count_below.Goals.After-partition_point}
 use Rattle.hlc_table_order.proofs.order.count_below.Goals as goal
-use Rattle.hlc_table_order.proofs.order.count_below.Goals.{After-partition_point}
 
 point : (c : After-partition_point) → IsPartitionPoint (λ p. ltb (get_or c.args.stamps.now p 0) c.args.stamp ≡ true)
     (λ p. ltb (get_or c.args.stamps.now p 0) c.args.stamp ≡ false) c.args.order.now c.partition_point.result

@@ -1,10 +1,7 @@
 -- The first positions, each once, sorted, and as many as remain after the list is cut.
 use Rattle.std.proofs.Common.{rules, ◌≡◌, ◌∙◌, ◌<◌, ℕ, List, [], length, take, min, nat_le, ap, arith, if◌then◌else◌}
-use Rattle.std.proofs.Common.{length-take}
-use Rattle.std.specs.Ordering.{is_lt}
-use Rattle.std.proofs.lemmas.Bool.{lt-leb}
-use Rattle.std.proofs.lemmas.Fn.{always_returns_same}
-use Rattle.std.proofs.lemmas.List.Sorted.{length_permutation, ranks_by}
+use Rattle.std.proofs.Common.{length-take, is_lt}
+use Rattle.std.proofs.lemmas.{Bool.lt-leb, Fn.always_returns_same, List.Sorted.length_permutation, List.Sorted.ranks_by}
 use Rattle.hlc_table_order.specs.Order.{place_cmp}
 use Rattle.hlc_table_order.proofs.PlaceLemmas.{sorted_index, numbered_below, numbered_every, place_order}
 use Rattle.hlc_table_order.proofs.order.index_again.Goals as goal

@@ -2,9 +2,7 @@
 use Rattle.std.proofs.Common.{◌≡◌, ◌-◌, ◌∷◌, ◌++◌, [], ◌∙◌, ℕ, List, length, get_or, subst, sym, arith, cond, true}
 use Rattle.std.proofs.Common.{is_ok, false}
 use Rattle.std.proofs.lemmas.List.{get_or_default}
-use Rattle.hlc_table_order.specs.Newest.{NotAbove}
-use Rattle.hlc_table_order.specs.Order.{IsIndex}
-use Rattle.hlc_table_order.proofs.PlaceLemmas.{pushed_index}
+use Rattle.hlc_table_order.{specs.Newest.NotAbove, specs.Order.IsIndex, proofs.PlaceLemmas.pushed_index}
 use Rattle.hlc_table_order.proofs.order.index_next.Goals as goal
 
 pub returns-then-is_below : goal.returns-then-is_below

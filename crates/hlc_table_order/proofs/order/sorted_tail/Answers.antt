@@ -1,10 +1,7 @@
 -- A list that is sorted by stamp, node and the later position ascends.
-use Rattle.std.proofs.Common.{rules, ◌≡◌, ℕ}
+use Rattle.std.proofs.{Common.rules, Common.◌≡◌, Common.ℕ, lemmas.Fn.always_returns_same, lemmas.List.Sorted.ranks_by}
 use Rattle.std.specs.Ordering.{is_lt}
-use Rattle.std.proofs.lemmas.Fn.{always_returns_same}
-use Rattle.std.proofs.lemmas.List.Sorted.{ranks_by}
-use Rattle.hlc_table_order.specs.Order.{place_cmp}
-use Rattle.hlc_table_order.proofs.PlaceLemmas.{sorted_rises, place_order}
+use Rattle.hlc_table_order.{specs.Order.place_cmp, proofs.PlaceLemmas.sorted_rises, proofs.PlaceLemmas.place_order}
 use Rattle.hlc_table_order.proofs.order.sorted_tail.Goals as goal
 
 pub returns-clause-rises : goal.returns-clause-rises

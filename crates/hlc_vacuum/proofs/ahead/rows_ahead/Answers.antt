@@ -1,7 +1,6 @@
 -- The first columns have no more rows than all have.
 use Rattle.std.proofs.Common.{◌≡◌, ◌++◌, ◌∙◌, ap, sym, arith, length, length-append, take, drop}
-use Rattle.std.proofs.lemmas.Grind.{flat_map-append}
-use Rattle.std.proofs.lemmas.List.{take-append-drop}
+use Rattle.std.proofs.lemmas.{Grind.flat_map-append, List.take-append-drop}
 use Rattle.hlc_table_column.specs.Rows.{rows_in, rows_in_one}
 use Rattle.hlc_vacuum.proofs.ahead.rows_ahead.Goals as goal
 

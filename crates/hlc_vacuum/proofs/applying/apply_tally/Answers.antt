@@ -2,12 +2,11 @@
 use Rattle.std.proofs.Common.{◌≡◌, ◌∙◌, length, ap, count_by, not, sym}
 use Rattle.std.specs.List.{items_where_true}
 use Rattle.hlc_clock.specs.Points.{last_point}
-use Rattle.hlc_vacuum_draft.specs.Plan.{TallyView}
-use Rattle.hlc_vacuum_draft.specs.declared.report.Numbers.{Numbers}
+use Rattle.hlc_vacuum_draft.specs.{Plan.TallyView, declared.report.Numbers.Numbers}
 use Rattle.hlc_vacuum_draft.proofs.ChosenLemmas.{length_chosen}
 use Rattle.hlc_vacuum_draft.proofs.VacuumLemmas.{vacuums_keep_fewest, vacuums_keep_cheapest}
-use Rattle.hlc_vacuum.proofs.applying.apply_tally.Goals as goal
 use Rattle.hlc_vacuum.proofs.applying.apply_tally.Goals.{After-drop_rows}
+use Rattle.hlc_vacuum.proofs.applying.apply_tally.Goals as goal
 
 rows_left : (c : After-drop_rows)
     → c.drop_rows.new.table ≡ items_where_true c.requires.plan.keep c.args.table.now

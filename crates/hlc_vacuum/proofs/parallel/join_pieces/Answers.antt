@@ -1,11 +1,9 @@
 -- Each piece is added to those before it.
 use Rattle.std.proofs.Common.{◌≡◌, ◌∙◌, ◌++◌, ◌∷◌, [], sym, ap, subst, append_assoc, arith, rules}
-use Rattle.std.specs.List.{AllZip}
-use Rattle.std.proofs.lemmas.Grind.{common_steps}
+use Rattle.std.{specs.List.AllZip, proofs.lemmas.Grind.common_steps}
 use Rattle.hlc_table_column.specs.Rows.{KeysAscend}
 use Rattle.hlc_columns.specs.Table.{columns_in}
-use Rattle.hlc_vacuum.specs.Leaves.{IsPieceOf}
-use Rattle.hlc_vacuum.specs.Parallel.{DraftsPiece}
+use Rattle.hlc_vacuum.specs.{Leaves.IsPieceOf, Parallel.DraftsPiece}
 use Rattle.hlc_vacuum.proofs.Pieces.{JoinsPieces, pieces_on, pieces_none}
 use Rattle.hlc_vacuum.proofs.parallel.join_pieces.Goals as goal
 

@@ -1,6 +1,5 @@
 -- The pieces so far are joined.
-use Rattle.std.proofs.Common.{◌≡◌, ◌++◌}
-use Rattle.std.specs.Vec.Iter.{into_iter_items}
+use Rattle.std.{proofs.Common.◌≡◌, proofs.Common.◌++◌, specs.Vec.Iter.into_iter_items}
 use Rattle.hlc_vacuum.proofs.Pieces.{JoinsPieces}
 use Rattle.hlc_vacuum.proofs.parallel.join_pieces.Given as goal
 

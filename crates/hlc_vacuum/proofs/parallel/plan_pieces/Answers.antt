@@ -7,8 +7,7 @@ use Rattle.rayon.proofs.ToStd.{slice-AllZip, chunks_of-concat}
 use Rattle.hlc_clock.specs.Points.{PointsAscend}
 use Rattle.hlc_table_column.specs.Rows.{KeysAscend}
 use Rattle.hlc_columns.specs.Table.{columns_in}
-use Rattle.hlc_vacuum.specs.Parallel.{DraftsPiece, leaves_of}
-use Rattle.hlc_vacuum.proofs.Pieces.{piece_ascends}
+use Rattle.hlc_vacuum.{specs.Parallel.DraftsPiece, specs.Parallel.leaves_of, proofs.Pieces.piece_ascends}
 use Rattle.hlc_vacuum.proofs.parallel.plan_pieces.Goals as goal
 
 pub collect-requires-clause-ready : goal.collect-requires-clause-ready

@@ -4,9 +4,8 @@ use Rattle.std.proofs.lemmas.List.{drop_all}
 use Rattle.hlc_table_column.specs.Rows.{rows_with}
 use Rattle.hlc_columns.specs.Table.{rows_kept}
 use Rattle.hlc_vacuum.specs.Part.{all_kept, HaveFlags}
-use Rattle.hlc_vacuum.proofs.PartRows.{flags-step, kept-step}
+use Rattle.hlc_vacuum.proofs.{PartRows.flags-step, PartRows.kept-step, part.keep_of_keys.Goals.After-as_slice}
 use Rattle.hlc_vacuum.proofs.part.keep_of_keys.Goals as goal
-use Rattle.hlc_vacuum.proofs.part.keep_of_keys.Goals.{After-as_slice}
 
 pub loop-key-init : goal.loop-key-init
 loop-key-init c = record { rows = refl; enough = c.requires }

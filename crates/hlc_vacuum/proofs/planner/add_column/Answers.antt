@@ -1,8 +1,6 @@
 -- The plan is of the key and its rows.
-use Rattle.std.proofs.Common.{subst, List, ℕ, None}
-use Rattle.std.proofs.lemmas.Result.{on_ok_weaker}
-use Rattle.hlc_table_column.specs.Cells.{Cell}
-use Rattle.hlc_table_column.specs.Rows.{rows_of}
+use Rattle.std.proofs.{Common.subst, Common.List, Common.ℕ, Common.None, lemmas.Result.on_ok_weaker}
+use Rattle.hlc_table_column.specs.{Cells.Cell, Rows.rows_of}
 use Rattle.hlc_witness.specs.AllChanges.{key_changes}
 use Rattle.hlc_vacuum_draft.specs.KeyPlan.{AddsPlan}
 use Rattle.hlc_vacuum.proofs.planner.add_column.Goals as goal

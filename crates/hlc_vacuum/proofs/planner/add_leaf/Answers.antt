@@ -1,6 +1,5 @@
 -- Each column adds its plan and its changes to those before it.
-use Rattle.std.proofs.Common.{subst, arith, None, take}
-use Rattle.std.proofs.lemmas.List.{take_all}
+use Rattle.std.proofs.{Common.subst, Common.arith, Common.None, Common.take, lemmas.List.take_all}
 use Rattle.hlc_table_column.specs.Rows.{rows_in_one}
 use Rattle.hlc_witness.specs.AllChanges.{key_changes}
 use Rattle.hlc_vacuum_draft.specs.KeyPlan.{own_changes}

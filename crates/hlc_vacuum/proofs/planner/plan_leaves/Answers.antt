@@ -1,6 +1,5 @@
 -- Each leaf adds the plans of its columns and their changes to those before it.
-use Rattle.std.proofs.Common.{◌∙◌, ap, subst, sym, take}
-use Rattle.std.proofs.lemmas.List.{take_all}
+use Rattle.std.proofs.{Common.◌∙◌, Common.ap, Common.subst, Common.sym, Common.take, lemmas.List.take_all}
 use Rattle.hlc_columns.specs.Table.{columns_in}
 use Rattle.hlc_vacuum_draft.specs.KeyPlan.{IsDraftOf, own_changes}
 use Rattle.hlc_vacuum_draft.proofs.JoinedLemmas.{draft_none, own-append}

@@ -1,10 +1,8 @@
 -- The plan is of the columns of all leaves, which have the rows of the table.
-use Rattle.std.proofs.Common.{subst}
-use Rattle.std.proofs.lemmas.Result.{IfOk-weaker}
+use Rattle.std.proofs.{Common.subst, lemmas.Result.IfOk-weaker}
 use Rattle.hlc_columns.specs.Table.{columns_in}
 use Rattle.hlc_vacuum_draft.specs.Plan.{IsPlanOf}
-use Rattle.hlc_vacuum.specs.Leaves.{IsPieceOf}
-use Rattle.hlc_vacuum.proofs.Planned.{piece_plans}
+use Rattle.hlc_vacuum.{specs.Leaves.IsPieceOf, proofs.Planned.piece_plans}
 use Rattle.hlc_vacuum.proofs.planner.plan_table.Goals as goal
 
 pub returns-clause-made : goal.returns-clause-made

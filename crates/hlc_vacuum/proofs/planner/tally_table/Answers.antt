@@ -1,9 +1,7 @@
 -- The tally is of the columns of all leaves, which have the rows of the table.
-use Rattle.std.proofs.Common.{subst}
-use Rattle.std.proofs.lemmas.Result.{IfOk-weaker}
+use Rattle.std.proofs.{Common.subst, lemmas.Result.IfOk-weaker}
 use Rattle.hlc_columns.specs.Table.{columns_in}
-use Rattle.hlc_vacuum_draft.specs.Plan.{IsTallyOf}
-use Rattle.hlc_vacuum_draft.specs.KeyPlan.{IsDraftOf}
+use Rattle.hlc_vacuum_draft.specs.{Plan.IsTallyOf, KeyPlan.IsDraftOf}
 use Rattle.hlc_vacuum.proofs.Planned.{draft_is_tally}
 use Rattle.hlc_vacuum.proofs.planner.tally_table.Goals as goal
 

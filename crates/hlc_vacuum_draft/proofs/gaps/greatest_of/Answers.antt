@@ -1,6 +1,5 @@
 -- At the end no stamp is above the greatest.
-use Rattle.std.proofs.Common.{◌≤◌, arith}
-use Rattle.std.proofs.lemmas.List.Elements.{All-from_get_or}
+use Rattle.std.proofs.{Common.◌≤◌, Common.arith, lemmas.List.Elements.All-from_get_or}
 use Rattle.hlc_vacuum_draft.proofs.gaps.greatest_of.Goals as goal
 
 pub returns : goal.returns

@@ -1,6 +1,5 @@
 -- At the end each stamp is below the gap or at or above its end.
-use Rattle.std.proofs.Common.{◌<◌, ◌≤◌, ◌⊎◌, arith}
-use Rattle.std.proofs.lemmas.List.Elements.{All-from_get_or}
+use Rattle.std.proofs.{Common.◌<◌, Common.◌≤◌, Common.◌⊎◌, Common.arith, lemmas.List.Elements.All-from_get_or}
 use Rattle.hlc_vacuum_draft.proofs.gaps.least_from.Goals as goal
 
 pub returns : goal.returns

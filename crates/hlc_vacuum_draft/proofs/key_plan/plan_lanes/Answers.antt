@@ -1,19 +1,13 @@
 -- At each point either nothing is recorded or the newest row is marked.
 use Rattle.std.proofs.Common.{◌≡◌, ◌<◌, ◌+◌, ◌++◌, ◌∷◌, [], ℕ, List, length, map, sym, ap, ◌∙◌, refl, subst, ltb}
-use Rattle.std.proofs.Common.{get_or, inl, inr, true≢false, option_copied}
-use Rattle.std.specs.Prelude.{IfSome}
-use Rattle.std.proofs.lemmas.Bool.{cases_Bool}
-use Rattle.std.proofs.lemmas.List.{length-map, get_or_default}
+use Rattle.std.proofs.Common.{get_or, inl, inr, true≢false, option_copied, IfSome}
+use Rattle.std.proofs.lemmas.{Bool.cases_Bool, List.length-map, List.get_or_default}
 use Rattle.hlc_rows.specs.Rows.{answer, newest}
 use Rattle.hlc_witness.specs.Changes.{answer_at}
 use Rattle.hlc_clock.specs.Points.{last_point}
-use Rattle.hlc_table_column.specs.Cells.{Cell}
-use Rattle.hlc_table_column.specs.Rows.{row_of, rows_of}
-use Rattle.hlc_vacuum_draft.specs.Draft.{IsDraft}
-use Rattle.hlc_vacuum_draft.specs.KeyPlan.{IsKeyPlan}
-use Rattle.hlc_vacuum_draft.proofs.SoFar.{KeyPlanSoFar}
-use Rattle.hlc_vacuum_draft.proofs.JoinedLemmas.{key_vacuums}
-use Rattle.hlc_vacuum_draft.proofs.Drafts.{draft-above}
+use Rattle.hlc_table_column.specs.{Cells.Cell, Rows.row_of, Rows.rows_of}
+use Rattle.hlc_vacuum_draft.specs.{Draft.IsDraft, KeyPlan.IsKeyPlan}
+use Rattle.hlc_vacuum_draft.proofs.{SoFar.KeyPlanSoFar, Drafts.draft-above, JoinedLemmas.key_vacuums}
 use Rattle.hlc_vacuum_draft.proofs.Steps.{same_on, change_on, plan_done, flagged, next_before}
 use Rattle.hlc_vacuum_draft.proofs.key_plan.plan_lanes.Goals as goal
 

@@ -1,7 +1,6 @@
 -- Ascending points are found by binary search, and the point before another is just before it.
 use Rattle.std.proofs.Common.{true≢false, sym, ◌∙◌, subst, arith, Ok, Err}
-use Rattle.std.proofs.lemmas.Bool.{eqb-true, eq-eqb, ltb-true, lt-ltb}
-use Rattle.std.proofs.lemmas.List.Sorted.{searched}
+use Rattle.std.proofs.lemmas.{Bool.eqb-true, Bool.eq-eqb, Bool.ltb-true, Bool.lt-ltb, List.Sorted.searched}
 use Rattle.hlc_clock.specs.Points.{IsPointBefore}
 use Rattle.hlc_witness.proofs.PlaceLemmas.{place_of, place_before, no_place, never_falling, first_point, first_only}
 use Rattle.hlc_witness.proofs.PlaceLemmas.{next_point, next_only}

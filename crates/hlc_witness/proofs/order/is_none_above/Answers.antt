@@ -2,8 +2,7 @@
 use Rattle.std.proofs.Common.{◌≡◌, ◌<◌, ◌≤◌, true≢false, sym, ap, refl, arith, get_or}
 use Rattle.hlc_rows.specs.declared.row.Row.{Row}
 use Rattle.hlc_clock.specs.Points.{last_point}
-use Rattle.hlc_witness.proofs.PlaceLemmas.{last_point-is}
-use Rattle.hlc_witness.proofs.Ascending.{is_gt-above}
+use Rattle.hlc_witness.proofs.{PlaceLemmas.last_point-is, Ascending.is_gt-above}
 use Rattle.hlc_witness.proofs.order.is_none_above.Goals as goal
 
 pub returns-then-gt : goal.returns-then-gt

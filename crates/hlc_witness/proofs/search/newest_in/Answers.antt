@@ -1,7 +1,6 @@
 -- The search ends after the last row that does not come after the key and the stamp.
 use Rattle.std.proofs.Common.{rules, arith, sym, ◌∙◌, true≢false}
-use Rattle.std.proofs.lemmas.Slice.Eq.{bytes_eq-Decides}
-use Rattle.std.proofs.lemmas.List.Sorted.{IsPartitionPoint-from_clause}
+use Rattle.std.proofs.lemmas.{Slice.Eq.bytes_eq-Decides, List.Sorted.IsPartitionPoint-from_clause}
 use Rattle.hlc_witness.specs.Reached.{is_reached}
 use Rattle.hlc_witness.proofs.LastReached.{partitioned, none_at_start, last_newest, last_other}
 use Rattle.hlc_witness.proofs.search.newest_in.Goals as goal

@@ -1,7 +1,6 @@
 -- One more row was checked; it is of a new version if all rows are those of a checkpoint.
 use Rattle.std.proofs.Common.{ap, Some}
-use Rattle.hlc_checkpoint.specs.Growing.{with_row}
-use Rattle.hlc_checkpoint.proofs.Grown.{grown-fresh, grown-more}
+use Rattle.hlc_checkpoint.{specs.Growing.with_row, proofs.Grown.grown-fresh, proofs.Grown.grown-more}
 use Rattle.hlc_checkpoint.proofs.growing.Growing.add.Goals as goal
 
 pub put-requires : goal.put-requires

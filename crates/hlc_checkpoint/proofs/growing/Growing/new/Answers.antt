@@ -1,7 +1,6 @@
 -- Nothing was added.
 use Rattle.std.proofs.Common.{[]}
-use Rattle.hlc_checkpoint.specs.StoreView.{with_rows}
-use Rattle.hlc_checkpoint.proofs.Grown.{grown-none}
+use Rattle.hlc_checkpoint.{specs.StoreView.with_rows, proofs.Grown.grown-none}
 use Rattle.hlc_checkpoint.proofs.growing.Growing.new.Goals as goal
 
 pub invariant_of-result : goal.invariant_of-result

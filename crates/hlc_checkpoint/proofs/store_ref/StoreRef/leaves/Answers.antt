@@ -3,8 +3,7 @@ use Rattle.std.proofs.Common.{subst, sym}
 use Rattle.hlc_rows.specs.Rows.{IsRowSet}
 use Rattle.hlc_witness.specs.Cost.{AreInLimits}
 use Rattle.hlc_columns.specs.Table.{columns_in}
-use Rattle.hlc_checkpoint.specs.StoreView.{StoreView}
-use Rattle.hlc_checkpoint.proofs.LentLemmas.{all-writable}
+use Rattle.hlc_checkpoint.{specs.StoreView.StoreView, proofs.LentLemmas.all-writable}
 use Rattle.hlc_checkpoint.proofs.store_ref.StoreRef.leaves.Goals as goal
 
 pub invariant_of-result : goal.invariant_of-result

@@ -4,9 +4,8 @@ use Rattle.std.specs.List.Sorted.{IsStrictlySortedBy}
 use Rattle.hlc_table_index.specs.Entries.{entries_in, entries_before, entries_from, keys_in, key_cmp}
 use Rattle.hlc_columns.specs.Answers.{is_from, leading}
 use Rattle.hlc_columns.proofs.Ranged.{within, walked_below, walked_all, before_end, all_before}
-use Rattle.hlc_columns.proofs.WalkLemmas.{Entry}
+use Rattle.hlc_columns.proofs.{WalkLemmas.Entry, answers.WalkBack.between.Goals.After-seek-at}
 use Rattle.hlc_columns.proofs.answers.WalkBack.between.Goals as goal
-use Rattle.hlc_columns.proofs.answers.WalkBack.between.Goals.{After-seek-at}
 
 -- the entries that a walk through these has left, in their order
 abbrev left_of : List ℕ → List Entry → List Entry

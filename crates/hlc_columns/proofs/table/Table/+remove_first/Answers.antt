@@ -1,10 +1,8 @@
 -- The rows of the later writes go out first, and then that of the first one.
 use Rattle.std.proofs.Common.{◌≡◌, ◌∙◌, ◌∷◌, ◌-◌, refl, ap, subst, take}
 use Rattle.hlc_rows.proofs.TwiceLemmas.{take-more}
-use Rattle.hlc_rows.specs.Spelled.{write_seen}
-use Rattle.hlc_rows.specs.Writes.{row_written, rows_written}
-use Rattle.hlc_columns.specs.Table.{AllInserted}
-use Rattle.hlc_columns.proofs.Removed.{first-left}
+use Rattle.hlc_rows.specs.{Spelled.write_seen, Writes.row_written, Writes.rows_written}
+use Rattle.hlc_columns.{specs.Table.AllInserted, proofs.Removed.first-left}
 use Rattle.hlc_columns.proofs.table.Table.+remove_first.Goals as goal
 
 pub returns : goal.returns

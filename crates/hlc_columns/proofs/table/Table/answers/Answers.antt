@@ -1,8 +1,6 @@
 -- The range of all keys.
 use Rattle.std.proofs.Common.{subst}
-use Rattle.hlc_columns.specs.Answers.{AreAnswers}
-use Rattle.hlc_columns.specs.Table.{indexed_rows}
-use Rattle.hlc_columns.proofs.Answered.{all_are}
+use Rattle.hlc_columns.{specs.Answers.AreAnswers, specs.Table.indexed_rows, proofs.Answered.all_are}
 use Rattle.hlc_columns.proofs.table.Table.answers.Goals as goal
 
 pub returns : goal.returns

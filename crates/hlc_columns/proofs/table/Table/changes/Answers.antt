@@ -1,8 +1,6 @@
 -- The range of all keys.
 use Rattle.std.proofs.Common.{subst}
-use Rattle.hlc_columns.specs.Differences.{AreDifferences}
-use Rattle.hlc_columns.specs.Table.{indexed_rows}
-use Rattle.hlc_columns.proofs.Differing.{all_differ}
+use Rattle.hlc_columns.{specs.Differences.AreDifferences, specs.Table.indexed_rows, proofs.Differing.all_differ}
 use Rattle.hlc_columns.proofs.table.Table.changes.Goals as goal
 
 pub returns : goal.returns

@@ -2,11 +2,10 @@
 use Rattle.std.proofs.Common.{◌≡◌, ◌<◌, ◌∙◌, List, Some, None, ap, sym, subst, length, option_copied, IfSome}
 use Rattle.std.proofs.lemmas.Map.Entries.{All-lookup}
 use Rattle.hlc_table_index.specs.Entries.{entries_in, is_key}
-use Rattle.hlc_table_column.specs.Cells.{Cell}
-use Rattle.hlc_table_column.specs.Rows.{rows_of, rows_with}
+use Rattle.hlc_table_column.specs.{Cells.Cell, Rows.rows_of, Rows.rows_with}
 use Rattle.hlc_columns.proofs.FoundLemmas.{cells_in, rows_in_table, found_absent}
-use Rattle.hlc_columns.proofs.table.Table.column.Goals as goal
 use Rattle.hlc_columns.proofs.table.Table.column.Goals.{After-get}
+use Rattle.hlc_columns.proofs.table.Table.column.Goals as goal
 
 rows_are : (c : After-get)
     → rows_with c.args.key.now c.args.self.now ≡ rows_of c.args.key.now (cells_in (option_copied c.get.result))

@@ -1,9 +1,7 @@
 -- The columns listed are the first of those above the key.
-use Rattle.std.proofs.Common.{subst}
-use Rattle.std.proofs.lemmas.Result.{IfOk-weaker}
+use Rattle.std.proofs.{Common.subst, lemmas.Result.IfOk-weaker}
 use Rattle.hlc_table_index.specs.Entries.{entries_in}
-use Rattle.hlc_columns.specs.Answers.{AreNext}
-use Rattle.hlc_columns.proofs.Next.{are_next}
+use Rattle.hlc_columns.{specs.Answers.AreNext, proofs.Next.are_next}
 use Rattle.hlc_columns.proofs.table.Table.columns_after.Goals as goal
 
 pub returns-clause-next : goal.returns-clause-next

@@ -1,12 +1,11 @@
 -- The row goes to the end of its key's column, or into a column of its own; all others stay.
 use Rattle.std.proofs.Common.{◌≡◌, ◌∙◌, subst, OnOk, OnErr}
 use Rattle.std.proofs.lemmas.Result.{on_ok_weaker, on_err_weaker}
-use Rattle.hlc_rows.specs.declared.row.Row.{Row as ARow}
-use Rattle.hlc_rows.specs.Rows.{IsRowSet}
+use Rattle.hlc_rows.specs.{declared.row.Row.Row as ARow, Rows.IsRowSet}
 use Rattle.hlc_columns.specs.Table.{indexed_rows, InsertedLast}
 use Rattle.hlc_columns.proofs.Inserted.{inserted-IsPermutation, either-IsRowSet}
-use Rattle.hlc_columns.proofs.table.Table.insert_ascending.Goals as goal
 use Rattle.hlc_columns.proofs.table.Table.insert_ascending.Goals.{After-put_row}
+use Rattle.hlc_columns.proofs.table.Table.insert_ascending.Goals as goal
 
 -- the row that is added
 abbrev row_in : After-put_row → ARow

@@ -1,16 +1,14 @@
 -- Rows of the key go, or the key has none.
 use Rattle.std.proofs.Common.{◌≡◌, ◌∙◌, List, [], ap, sym, subst, length, arith, take, drop, get_or, length-take-le}
 use Rattle.std.proofs.lemmas.List.{length-map, get_or-map}
-use Rattle.hlc_rows.specs.declared.row.Row.{Row}
-use Rattle.hlc_rows.specs.Rows.{IsRowSet}
+use Rattle.hlc_rows.specs.{declared.row.Row.Row, Rows.IsRowSet}
 use Rattle.hlc_table_index.specs.Entries.{entries_in}
 use Rattle.hlc_table_column.specs.Rows.{row_of, rows_with}
 use Rattle.hlc_columns.specs.Table.{rows_kept, cells_at}
-use Rattle.hlc_columns.proofs.WalkLemmas.{Entry}
-use Rattle.hlc_columns.proofs.FoundLemmas.{absent_rows}
+use Rattle.hlc_columns.proofs.{WalkLemmas.Entry, FoundLemmas.absent_rows}
 use Rattle.hlc_columns.proofs.KeptOf.{rows_there, rows_left, filled_left, kept_row_set, none_of, kept_none}
-use Rattle.hlc_columns.proofs.table.Table.keep_of.Goals as goal
 use Rattle.hlc_columns.proofs.table.Table.keep_of.Goals.{After-len, In_default}
+use Rattle.hlc_columns.proofs.table.Table.keep_of.Goals as goal
 
 -- the number of rows of the key
 its_many : (c : After-len) → length (rows_with c.args.key.now c.args.self.now)

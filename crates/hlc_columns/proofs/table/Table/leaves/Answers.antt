@@ -1,15 +1,13 @@
 -- The leaves listed are those of the index.
 use Rattle.std.proofs.Common.{◌≡◌, ◌<◌, ◌∙◌, List, All, length, map, ap, sym, subst}
-use Rattle.std.proofs.lemmas.List.Elements.{All-map}
-use Rattle.std.proofs.lemmas.Result.{IfOk-weaker}
+use Rattle.std.proofs.lemmas.{List.Elements.All-map, Result.IfOk-weaker}
 use Rattle.hlc_rows.specs.Rows.{newest}
 use Rattle.hlc_table_index.specs.Entries.{entries_in}
 use Rattle.hlc_table_column.specs.Rows.{KeyCells, KeysAscend, AreAlone, rows_in}
 use Rattle.hlc_columns.specs.Table.{columns_in, keyed}
-use Rattle.hlc_columns.proofs.FoundLemmas.{newest_alone}
+use Rattle.hlc_columns.proofs.{FoundLemmas.newest_alone, table.Table.leaves.Goals.After-list_leaves}
 use Rattle.hlc_columns.proofs.Keys.{rows_keyed, keys_keyed, leaves_keyed}
 use Rattle.hlc_columns.proofs.table.Table.leaves.Goals as goal
-use Rattle.hlc_columns.proofs.table.Table.leaves.Goals.{After-list_leaves}
 
 -- the columns of the leaves listed are those of all entries
 all_listed : (c : After-list_leaves) (list : List (List KeyCells)) → list ≡ map keyed c.self.inside.columns

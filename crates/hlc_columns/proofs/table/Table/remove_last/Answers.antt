@@ -3,8 +3,7 @@ use Rattle.std.proofs.Common.{rules, ◌-◌, ◌∙◌, ◌∷◌, [], true, fa
 use Rattle.std.proofs.Common.{length-append}
 use Rattle.std.proofs.lemmas.List.{length-map, length-replicate}
 use Rattle.hlc_table_column.specs.Rows.{row_of, rows_with}
-use Rattle.hlc_columns.specs.Table.{rows_kept}
-use Rattle.hlc_columns.proofs.Removed.{last_out, is_there}
+use Rattle.hlc_columns.{specs.Table.rows_kept, proofs.Removed.last_out, proofs.Removed.is_there}
 use Rattle.hlc_columns.proofs.table.Table.remove_last.Goals as goal
 
 pub returns-in_default : goal.returns-in_default

@@ -1,9 +1,7 @@
 -- The stored sizes are those of the columns.
-use Rattle.std.proofs.Common.{◌<◌, subst, sym, length}
-use Rattle.std.proofs.lemmas.List.Elements.{recursion_from_All}
+use Rattle.std.proofs.{Common.◌<◌, Common.subst, Common.sym, Common.length, lemmas.List.Elements.recursion_from_All}
 use Rattle.hlc_table_index.specs.Entries.{entries_in}
-use Rattle.hlc_columns.specs.Sizes.{AreSizes}
-use Rattle.hlc_columns.proofs.SizeLemmas.{are_sizes}
+use Rattle.hlc_columns.{specs.Sizes.AreSizes, proofs.SizeLemmas.are_sizes}
 use Rattle.hlc_columns.proofs.table.Table.sizes.Goals as goal
 
 pub returns : goal.returns

@@ -1,12 +1,10 @@
 -- The rows of the key are those of its column.
 use Rattle.std.proofs.Common.{◌≡◌, subst, sym}
-use Rattle.hlc_table_column.specs.Rows.{rows_of, rows_with}
+use Rattle.hlc_table_column.specs.{Rows.rows_of, Rows.rows_with, Versions.AreVersions}
 use Rattle.hlc_columns.specs.Table.{cells_in}
-use Rattle.hlc_table_column.specs.Versions.{AreVersions}
 use Rattle.hlc_table_column.proofs.KeyLemmas.{column_apart, versions_are}
-use Rattle.hlc_columns.proofs.FoundLemmas.{rows_found}
+use Rattle.hlc_columns.proofs.{FoundLemmas.rows_found, table.Table.versions.Goals.After-column}
 use Rattle.hlc_columns.proofs.table.Table.versions.Goals as goal
-use Rattle.hlc_columns.proofs.table.Table.versions.Goals.{After-column}
 
 rows_are : (c : After-column) → rows_of c.args.key.now (cells_in c.column.result)
     ≡ rows_with c.args.key.now c.args.self.now

@@ -1,12 +1,9 @@
 -- The copies of an item that is not refused are the rows of its past.
-use Rattle.std.proofs.Common.{◌+◌, inl, inr, refl}
-use Rattle.std.proofs.lemmas.Result.{err_from_is_err_and}
+use Rattle.std.proofs.{Common.◌+◌, Common.inl, Common.inr, Common.refl, lemmas.Result.err_from_is_err_and}
 use Rattle.hlc_node.specs.Items.{retires}
 use Rattle.hlc_heads.specs.Heads.{a_link}
 use Rattle.hlc_core.proofs.Links.{fault-expected, admitted, admitted-expected}
-use Rattle.hlc_core.proofs.TakingLemmas.{took}
-use Rattle.hlc_core.proofs.Consistent.{consistent-accept}
-use Rattle.hlc_core.proofs.Sound.{sound-accept, sound-moved}
+use Rattle.hlc_core.proofs.{TakingLemmas.took, Consistent.consistent-accept, Sound.sound-accept, Sound.sound-moved}
 use Rattle.hlc_core.proofs.Moved.{fresh, consistent-moved, represents-moved}
 use Rattle.hlc_core.proofs.store.Core.accept_ref.Goals as goal
 

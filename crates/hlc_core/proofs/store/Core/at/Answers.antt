@@ -2,9 +2,8 @@
 use Rattle.std.proofs.Common.{◌≡◌, Some, sym, ap, ◌∙◌, subst, ℕ, List}
 use Rattle.hlc_rows.specs.Rows.{answer}
 use Rattle.hlc_columns.specs.View.{Seen}
-use Rattle.hlc_core.specs.Past.{stamp_of, writes}
+use Rattle.hlc_core.{specs.Past.stamp_of, specs.Past.writes, proofs.Answering.answer-alike}
 use Rattle.hlc_snapshot.specs.RegistryView.{stamp_in}
-use Rattle.hlc_core.proofs.Answering.{answer-alike}
 use Rattle.hlc_core.proofs.store.Core.at.Goals as goal
 
 pub returns : goal.returns

@@ -2,9 +2,7 @@
 use Rattle.std.proofs.Common.{subst}
 use Rattle.hlc_columns.specs.Answers.{in_part}
 use Rattle.hlc_vacuum.specs.Part.{IsPartVacuum}
-use Rattle.hlc_core.proofs.Consistent.{consistent-fewer}
-use Rattle.hlc_core.proofs.Sound.{sound-vacuum}
-use Rattle.hlc_core.proofs.PartVacuumLemmas.{part-vacuums_keys}
+use Rattle.hlc_core.proofs.{Consistent.consistent-fewer, Sound.sound-vacuum, PartVacuumLemmas.part-vacuums_keys}
 use Rattle.hlc_core.proofs.store.Core.carry_out_part.Goals as goal
 
 pub apply_part-made-requires : goal.apply_part-made-requires

@@ -2,9 +2,7 @@
 use Rattle.std.proofs.Common.{◌∙◌, ap}
 use Rattle.hlc_vacuum_draft.specs.Report.{numbers_in, report_of}
 use Rattle.hlc_vacuum.specs.Part.{with_plan}
-use Rattle.hlc_core.proofs.Consistent.{consistent-fewer}
-use Rattle.hlc_core.proofs.Sound.{sound-vacuum}
-use Rattle.hlc_core.proofs.PartVacuumLemmas.{part-vacuums_keys}
+use Rattle.hlc_core.proofs.{Consistent.consistent-fewer, Sound.sound-vacuum, PartVacuumLemmas.part-vacuums_keys}
 use Rattle.hlc_core.proofs.store.Core.carry_out_part_tally.Goals as goal
 
 pub apply_part_tally-made-requires : goal.apply_part_tally-made-requires

@@ -1,11 +1,8 @@
 -- The part was planned for an event that asks for it.
 use Rattle.std.proofs.Common.{subst, sym}
 use Rattle.hlc_vacuum_draft.specs.declared.report.Report.{Report}
-use Rattle.hlc_core.specs.declared.reply.CoreReply.TheVariants.{VacuumedPart}
-use Rattle.hlc_core.specs.declared.planned.Planned.{Planned}
-use Rattle.hlc_core.specs.History.{IsMove}
-use Rattle.hlc_core.specs.Planned.{IsPlannedFor}
-use Rattle.hlc_core.proofs.StepLemmas.{part_is_move}
+use Rattle.hlc_core.specs.declared.{reply.CoreReply.TheVariants.VacuumedPart, planned.Planned.Planned}
+use Rattle.hlc_core.{specs.History.IsMove, specs.Planned.IsPlannedFor, proofs.StepLemmas.part_is_move}
 use Rattle.hlc_vacuum.proofs.WithinLemmas.{within-same}
 use Rattle.hlc_core.proofs.store.Core.carry_out_planned.Goals as goal
 

@@ -4,20 +4,15 @@ use Rattle.std.specs.List.{items_where_true}
 use Rattle.hlc_snapshot.specs.RegistryView.{stamps_to}
 use Rattle.hlc_clock.specs.Points.{ArePoints}
 use Rattle.hlc_witness.specs.Cost.{rows_cost}
-use Rattle.hlc_vacuum_draft.specs.declared.report.Numbers.{Numbers}
+use Rattle.hlc_vacuum_draft.specs.{declared.report.Numbers.Numbers, Report.numbers_in, Report.report_of}
 use Rattle.hlc_vacuum_draft.specs.Plan.{PlanView, TallyView, IsPlanOf, tally_of}
-use Rattle.hlc_vacuum_draft.specs.Report.{numbers_in, report_of}
 use Rattle.hlc_vacuum_draft.specs.Vacuumed.{IsVacuumOf, rows_to}
-use Rattle.hlc_core.specs.Past.{floor, horizon}
-use Rattle.hlc_core.specs.StoreView.{StoreView}
+use Rattle.hlc_core.specs.{Past.floor, Past.horizon, StoreView.StoreView}
 use Rattle.hlc_clock.proofs.PointLemmas.{points-last}
-use Rattle.hlc_core.proofs.PastLemmas.{vacuum-none}
-use Rattle.hlc_core.proofs.VacuumLemmas.{vacuums}
-use Rattle.hlc_core.proofs.Consistent.{consistent-fewer}
-use Rattle.hlc_core.proofs.CheckpointLemmas.{floor-in}
-use Rattle.hlc_core.proofs.Sound.{sound-vacuum}
-use Rattle.hlc_core.proofs.store.Core.carry_out_tally.Goals as goal
+use Rattle.hlc_core.proofs.{PastLemmas.vacuum-none, CheckpointLemmas.floor-in}
+use Rattle.hlc_core.proofs.{VacuumLemmas.vacuums, Sound.sound-vacuum, Consistent.consistent-fewer}
 use Rattle.hlc_core.proofs.store.Core.carry_out_tally.Goals.{After-apply_tally-numbers}
+use Rattle.hlc_core.proofs.store.Core.carry_out_tally.Goals as goal
 
 pub apply_tally-numbers-requires : goal.apply_tally-numbers-requires
 apply_tally-numbers-requires c =

@@ -1,6 +1,5 @@
 -- The plan drops no row, and the report is its own; or it drops a row, so that fewer answer alike.
-use Rattle.std.proofs.Common.{◌≡◌, ◌<◌, ap, subst, sym, arith}
-use Rattle.std.specs.Prelude.{count_by, not}
+use Rattle.std.proofs.Common.{◌≡◌, ◌<◌, ap, subst, sym, arith, count_by, not}
 use Rattle.hlc_vacuum_draft.specs.declared.report.Report.{Report}
 use Rattle.hlc_core.specs.Certified.{IsCertified}
 use Rattle.hlc_core.proofs.CertifiedLemmas.{plan-certifies, plan-leaves-fewer}

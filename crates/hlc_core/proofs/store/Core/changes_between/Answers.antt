@@ -1,6 +1,5 @@
 -- The stored rows answer at both open snapshots as all accepted writes do.
-use Rattle.std.proofs.Common.{sym}
-use Rattle.std.specs.Prelude.{option_copied}
+use Rattle.std.{proofs.Common.sym, specs.Prelude.option_copied}
 use Rattle.hlc_columns.specs.Answers.{IsBetween}
 use Rattle.hlc_core.proofs.Answering.{compares-alike}
 use Rattle.hlc_core.proofs.store.Core.changes_between.Goals as goal

@@ -1,11 +1,10 @@
 -- The parts are the state with its rows above the stamp, so they are a checkpoint.
 use Rattle.std.proofs.Common.{subst}
-use Rattle.hlc_core.specs.StoreView.{StoreView}
-use Rattle.hlc_core.specs.Checkpoint.{IsCopyAbove}
+use Rattle.hlc_core.specs.{StoreView.StoreView, Checkpoint.IsCopyAbove}
 use Rattle.hlc_checkpoint.specs.Sorted.{AreRowsAbove}
 use Rattle.hlc_checkpoint.proofs.CheckpointLemmas.{listed-above, store-above}
-use Rattle.hlc_core.proofs.store.Core.checkpoint_above.Goals as goal
 use Rattle.hlc_core.proofs.store.Core.checkpoint_above.Goals.{In_ok-with_rows}
+use Rattle.hlc_core.proofs.store.Core.checkpoint_above.Goals as goal
 
 is_copy : (c : In_ok-with_rows) → IsCopyAbove c.args.since c.args.self.now c.in_ok-with_rows.field-0
 is_copy c =

@@ -1,6 +1,5 @@
 -- What it does after each past is a step of each history.
-use Rattle.hlc_core.specs.History.{past_of}
-use Rattle.hlc_core.proofs.StepLemmas.{move_is_step}
+use Rattle.hlc_core.{specs.History.past_of, proofs.StepLemmas.move_is_step}
 use Rattle.hlc_core.proofs.store.Core.finish.Goals as goal
 
 pub returns-clause-step : goal.returns-clause-step

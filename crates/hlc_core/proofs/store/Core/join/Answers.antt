@@ -3,10 +3,8 @@ use Rattle.std.proofs.Common.{◌≡◌, ◌≤◌, ◌∙◌, Ok, subst, arith,
 use Rattle.std.proofs.lemmas.Grind.{common_steps}
 use Rattle.hlc_heads.specs.Heads.{Joins, floor_of}
 use Rattle.hlc_heads.proofs.LowLemmas.{floor-is}
-use Rattle.hlc_core.proofs.CheckpointLemmas.{floor-in}
+use Rattle.hlc_core.proofs.{CheckpointLemmas.floor-in, Sound.sound-joined, Consistent.consistent-joined}
 use Rattle.hlc_core.proofs.Joining.{joins, joins-none, both}
-use Rattle.hlc_core.proofs.Consistent.{consistent-joined}
-use Rattle.hlc_core.proofs.Sound.{sound-joined}
 use Rattle.hlc_core.proofs.store.Core.join.Goals as goal
 
 pub invariant_of-self-2 : goal.invariant_of-self-2

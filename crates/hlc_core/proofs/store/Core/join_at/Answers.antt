@@ -1,13 +1,10 @@
 -- There is one more link, at the start, so the core represents the join too.
 use Rattle.std.proofs.Common.{◌≡◌, ◌≤◌, ◌∙◌, Ok, Err, subst, arith, rules}
-use Rattle.std.proofs.lemmas.Grind.{common_steps}
-use Rattle.std.proofs.lemmas.Result.{err_from_is_err_and}
+use Rattle.std.proofs.lemmas.{Grind.common_steps, Result.err_from_is_err_and}
 use Rattle.hlc_heads.specs.Heads.{JoinsAt}
 use Rattle.hlc_core.specs.Past.{floor}
-use Rattle.hlc_core.proofs.CheckpointLemmas.{floor-in}
+use Rattle.hlc_core.proofs.{CheckpointLemmas.floor-in, Sound.sound-joined, Consistent.consistent-joined}
 use Rattle.hlc_core.proofs.Joining.{joins, joins-none, joins-at_none, refused, shortage}
-use Rattle.hlc_core.proofs.Consistent.{consistent-joined}
-use Rattle.hlc_core.proofs.Sound.{sound-joined}
 use Rattle.hlc_core.proofs.store.Core.join_at.Goals as goal
 
 pub invariant_of-self-2 : goal.invariant_of-self-2

@@ -1,7 +1,6 @@
 -- The parts and the table are those of a copy of a checkpoint, so they are the state of a store.
 use Rattle.std.proofs.Common.{◌≡◌, sym, subst, arith}
-use Rattle.hlc_checkpoint.specs.StoreView.{StoreView}
-use Rattle.hlc_checkpoint.specs.Checkpoint.{IsCheckpoint, IsCopyOf, IsStore}
+use Rattle.hlc_checkpoint.specs.{StoreView.StoreView, Checkpoint.IsCheckpoint, Checkpoint.IsCopyOf, Checkpoint.IsStore}
 use Rattle.hlc_checkpoint.proofs.CheckpointLemmas.{store-copy}
 use Rattle.hlc_core.proofs.store.Core.resuming.Goals as goal
 

@@ -1,6 +1,5 @@
 -- What it does after each past is a step of each history.
-use Rattle.hlc_core.specs.History.{past_of}
-use Rattle.hlc_core.proofs.StepLemmas.{moves_are_steps}
+use Rattle.hlc_core.{specs.History.past_of, proofs.StepLemmas.moves_are_steps}
 use Rattle.hlc_core.proofs.store.Core.step_ref.Goals as goal
 
 pub returns-clause-represents : goal.returns-clause-represents

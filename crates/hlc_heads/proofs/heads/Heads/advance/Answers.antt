@@ -1,9 +1,7 @@
 -- The least of all groups is the floor, which does not change if the node's head was above it.
-use Rattle.std.proofs.Common.{rules, ◌≢◌, List, subst}
-use Rattle.std.proofs.lemmas.Grind.{common_steps}
+use Rattle.std.proofs.{Common.rules, Common.◌≢◌, Common.List, Common.subst, lemmas.Grind.common_steps}
 use Rattle.hlc_intake.specs.IntakeView.{IntakeView}
-use Rattle.hlc_heads.specs.Heads.{HeadsView, IsSized, advanced, link_at}
-use Rattle.hlc_heads.specs.Groups.{AreGroups}
+use Rattle.hlc_heads.specs.{Heads.HeadsView, Heads.IsSized, Heads.advanced, Heads.link_at, Groups.AreGroups}
 use Rattle.hlc_heads.proofs.LeastGroups.{found_floor, floor-stays}
 use Rattle.hlc_heads.proofs.heads.Heads.advance.Goals as goal
 

@@ -1,7 +1,6 @@
 -- A join at the floor is never below it.
 use Rattle.std.proofs.Common.{◌≡◌, ℕ, Ok, Err, subst, arith}
-use Rattle.hlc_heads.specs.declared.heads.JoinFault.{JoinFault}
-use Rattle.hlc_heads.specs.declared.heads.JoinFault.TheVariants.{TooManyNodes, BelowFloor}
+use Rattle.hlc_heads.specs.declared.heads.JoinFault.{JoinFault, TheVariants.TooManyNodes, TheVariants.BelowFloor}
 use Rattle.hlc_heads.specs.Heads.{HeadsView, Joins, JoinsAt, IsFloor, floor_of}
 use Rattle.hlc_heads.proofs.LowLemmas.{floor-is}
 use Rattle.hlc_heads.proofs.heads.Heads.join.Goals as goal

@@ -1,15 +1,11 @@
 -- The least head of the node's group is the lower of the earlier one and the start, and the least of all groups is the
 -- floor.
-use Rattle.std.proofs.Common.{rules, ◌≡◌, ◌<◌, ◌≤◌, ◌/◌, ℕ, List, length, Some, None, Option}
-use Rattle.std.proofs.Common.{refl, sym, subst, slice_set, ap, arith}
-use Rattle.std.proofs.lemmas.Grind.{common_steps}
-use Rattle.std.proofs.lemmas.List.{get_or_default}
-use Rattle.std.proofs.lemmas.Result.{err_from_is_err_and}
-use Rattle.hlc_heads.specs.declared.heads.TheConstants.{MAX_NODES}
-use Rattle.hlc_heads.specs.declared.groups.TheConstants.{GROUP}
+use Rattle.std.proofs.Common.{rules, ◌≡◌, ◌<◌, ◌≤◌, ◌/◌, ℕ, List, length, Some, None, Option, refl, sym, subst}
+use Rattle.std.proofs.Common.{slice_set, ap, arith}
+use Rattle.std.proofs.lemmas.{Grind.common_steps, List.get_or_default, Result.err_from_is_err_and}
+use Rattle.hlc_heads.specs.declared.{heads.TheConstants.MAX_NODES, groups.TheConstants.GROUP}
 use Rattle.hlc_heads.specs.Heads.{HeadsView, IsSized, IsFloor, joined}
-use Rattle.hlc_heads.specs.Groups.{AreGroups, group_at}
-use Rattle.hlc_heads.proofs.LowLemmas.{floor-is}
+use Rattle.hlc_heads.{specs.Groups.AreGroups, specs.Groups.group_at, proofs.LowLemmas.floor-is}
 use Rattle.hlc_heads.proofs.LeastGroups.{IsLower, groups_join, found_floor, joined-sized}
 use Rattle.hlc_heads.proofs.heads.Heads.join_at.Goals as goal
 

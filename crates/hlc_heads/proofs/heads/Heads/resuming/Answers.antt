@@ -1,8 +1,7 @@
 -- The least of all groups is the floor.
 use Rattle.std.proofs.Common.{List, subst, sym}
 use Rattle.hlc_intake.specs.IntakeView.{IntakeView}
-use Rattle.hlc_heads.specs.Heads.{HeadsView, IsFloor}
-use Rattle.hlc_heads.specs.Groups.{AreGroups}
+use Rattle.hlc_heads.specs.{Heads.HeadsView, Heads.IsFloor, Groups.AreGroups}
 use Rattle.hlc_heads.proofs.LeastGroups.{found_floor}
 use Rattle.hlc_heads.proofs.heads.Heads.resuming.Goals as goal
 

@@ -1,9 +1,7 @@
 -- The item of the node that acts extends the run.
 use Rattle.std.proofs.Common.{ap, sym, ◌∙◌}
-use Rattle.hlc_node.specs.Node.{NodeView}
-use Rattle.hlc_node.specs.declared.item.Body.TheVariants.{Retire}
-use Rattle.hlc_routing.specs.Machine.{Issues, moved}
-use Rattle.hlc_routing.proofs.Machines.{issue-goes_on}
+use Rattle.hlc_node.specs.{Node.NodeView, declared.item.Body.TheVariants.Retire}
+use Rattle.hlc_routing.{specs.Machine.Issues, specs.Machine.moved, proofs.Machines.issue-goes_on}
 use Rattle.hlc_routing.proofs.machine.Machine.retire.Goals as goal
 
 pub returns-in-Ok-clause-extends : goal.returns-in-Ok-clause-extends

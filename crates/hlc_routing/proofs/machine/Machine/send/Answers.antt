@@ -1,6 +1,5 @@
 -- The clock stamps the event above all that it has seen.
-use Rattle.hlc_routing.specs.Machine.{MachineView}
-use Rattle.hlc_routing.proofs.Machines.{sent-by_clock}
+use Rattle.hlc_routing.{specs.Machine.MachineView, proofs.Machines.sent-by_clock}
 use Rattle.hlc_routing.proofs.machine.Machine.send.Goals as goal
 
 pub returns-clause-extends : goal.returns-clause-extends

@@ -1,9 +1,7 @@
 -- The item of the node that acts extends the run.
 use Rattle.std.proofs.Common.{◌≡◌, ap, sym, ◌∙◌}
-use Rattle.hlc_node.specs.Node.{NodeView}
-use Rattle.hlc_node.specs.declared.item.Body.TheVariants.{Write}
-use Rattle.hlc_routing.specs.Division.{store_of}
-use Rattle.hlc_routing.specs.Machine.{Issues, moved}
+use Rattle.hlc_node.specs.{Node.NodeView, declared.item.Body.TheVariants.Write}
+use Rattle.hlc_routing.specs.{Division.store_of, Machine.Issues, Machine.moved}
 use Rattle.hlc_routing.proofs.Machines.{issue-goes_on}
 use Rattle.hlc_routing.proofs.machine.Machine.write.Goals as goal
 

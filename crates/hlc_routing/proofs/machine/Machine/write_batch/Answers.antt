@@ -1,11 +1,8 @@
 -- The item of the node that acts extends the run: each of its keys is in the store.
-use Rattle.std.proofs.Common.{◌≡◌, All, ap, sym, ◌∙◌}
-use Rattle.std.proofs.lemmas.List.Elements.{All-weaker}
+use Rattle.std.proofs.{Common.◌≡◌, Common.All, Common.ap, Common.sym, Common.◌∙◌, lemmas.List.Elements.All-weaker}
 use Rattle.hlc_rows.specs.declared.write.Write.{Write}
-use Rattle.hlc_node.specs.Node.{NodeView}
-use Rattle.hlc_node.specs.declared.item.Body.TheVariants.{Batch}
-use Rattle.hlc_routing.specs.Division.{store_of}
-use Rattle.hlc_routing.specs.Machine.{Issues, moved}
+use Rattle.hlc_node.specs.{Node.NodeView, declared.item.Body.TheVariants.Batch}
+use Rattle.hlc_routing.specs.{Division.store_of, Machine.Issues, Machine.moved}
 use Rattle.hlc_routing.proofs.Machines.{issue-goes_on}
 use Rattle.hlc_routing.proofs.machine.Machine.write_batch.Goals as goal
 

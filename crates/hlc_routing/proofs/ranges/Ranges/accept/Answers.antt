@@ -1,15 +1,13 @@
 -- The store's step extends the run, or the store refuses the item.
-use Rattle.std.proofs.Common.{◌∷◌, refl, subst, rules}
+use Rattle.std.proofs.{Common.◌∷◌, Common.refl, Common.subst, Common.rules, lemmas.Option.slice_get_read}
 use Rattle.std.specs.Prelude.{OnOk, IfErr}
-use Rattle.std.proofs.lemmas.Option.{slice_get_read}
 use Rattle.hlc_core.specs.Past.{Took}
 use Rattle.hlc_ranges.specs.Run.{Stepped, past_of}
 use Rattle.hlc_routing.specs.Ranges.{RangesView, Represents, IsOfStore, IsRefusedFor, HasTaken}
 use Rattle.hlc_routing.specs.declared.fault.RangesFault.TheVariants.{Store}
-use Rattle.hlc_routing.proofs.Stepping.{with_store}
-use Rattle.hlc_routing.proofs.Accepting.{accepted, refused, taken}
-use Rattle.hlc_routing.proofs.ranges.Ranges.accept.Goals as goal
+use Rattle.hlc_routing.proofs.{Stepping.with_store, Accepting.accepted, Accepting.refused, Accepting.taken}
 use Rattle.hlc_routing.proofs.ranges.Ranges.accept.Goals.{in-Ok, in-Err}
+use Rattle.hlc_routing.proofs.ranges.Ranges.accept.Goals as goal
 
 pub returns-clause-represents : goal.returns-clause-represents
 returns-clause-represents c = λ layout run h issued'.

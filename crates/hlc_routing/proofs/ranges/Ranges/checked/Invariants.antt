@@ -1,6 +1,5 @@
 -- The stores so far have rows of their keys.
-use Rattle.std.proofs.Common.{◌≡◌, ℕ, ◌<◌, Some}
-use Rattle.std.specs.Prelude.{slice_get}
+use Rattle.std.{proofs.Common.◌≡◌, proofs.Common.ℕ, proofs.Common.◌<◌, proofs.Common.Some, specs.Prelude.slice_get}
 use Rattle.hlc_core.specs.StoreView.{StoreView}
 use Rattle.hlc_routing.specs.Placing.{ArePlaced}
 use Rattle.hlc_routing.proofs.ranges.Ranges.checked.Given as goal

@@ -1,7 +1,6 @@
 -- Each store's checkpoint is the store's, and represents its past.
 use Rattle.std.proofs.Common.{◌≡◌, length, Some, refl, ap, subst, arith}
-use Rattle.std.specs.Prelude.{slice_get}
-use Rattle.std.proofs.lemmas.Option.{slice_get_read}
+use Rattle.std.{specs.Prelude.slice_get, proofs.lemmas.Option.slice_get_read}
 use Rattle.hlc_routing.proofs.Copying.{AreCopied, one-copied, all-kept, all-copied}
 use Rattle.hlc_routing.proofs.ranges.Ranges.checkpoints.Goals as goal
 

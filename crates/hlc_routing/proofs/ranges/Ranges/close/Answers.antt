@@ -1,12 +1,10 @@
 -- The store's step extends the run, or the store has no such snapshot.
-use Rattle.std.proofs.Common.{refl, subst}
-use Rattle.std.proofs.lemmas.Option.{slice_get_read, slice_get_within}
+use Rattle.std.proofs.{Common.refl, Common.subst, lemmas.Option.slice_get_read, lemmas.Option.slice_get_within}
 use Rattle.hlc_core.specs.Calls.{Closes}
 use Rattle.hlc_ranges.specs.Run.{past_of}
 use Rattle.hlc_routing.specs.Ranges.{RangesView}
-use Rattle.hlc_routing.proofs.Accepting.{closed}
+use Rattle.hlc_routing.proofs.{Accepting.closed, ranges.Ranges.close.Goals.in-Ok, ranges.Ranges.close.Goals.in-Err}
 use Rattle.hlc_routing.proofs.ranges.Ranges.close.Goals as goal
-use Rattle.hlc_routing.proofs.ranges.Ranges.close.Goals.{in-Ok, in-Err}
 
 pub returns-clause-represents : goal.returns-clause-represents
 returns-clause-represents c = λ layout run h.

@@ -1,8 +1,6 @@
 -- One store after another closes its snapshot.
-use Rattle.std.proofs.Common.{◌≡◌, refl, sym, ◌∙◌, subst, arith, length}
-use Rattle.hlc_routing.specs.Ranges.{Represents}
-use Rattle.hlc_routing.specs.All.{each_closed, AreOpenUpto}
-use Rattle.std.specs.Prelude.{IsTrue, ◌↔◌}
+use Rattle.std.proofs.Common.{◌≡◌, refl, sym, ◌∙◌, subst, arith, length, IsTrue, ◌↔◌}
+use Rattle.hlc_routing.specs.{Ranges.Represents, All.each_closed, All.AreOpenUpto}
 use Rattle.hlc_routing.proofs.Closing.{upto-none, closed-next, not-upto, still-upto}
 use Rattle.hlc_routing.proofs.ranges.Ranges.close_each.Goals.{then-not-close_open, else-not-close_open}
 use Rattle.hlc_routing.proofs.ranges.Ranges.close_each.Goals as goal

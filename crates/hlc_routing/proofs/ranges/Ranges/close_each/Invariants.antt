@@ -1,9 +1,7 @@
 -- Each snapshot so far was closed where it was open, and all were or not.
-use Rattle.std.proofs.Common.{◌≡◌, List}
-use Rattle.std.specs.Prelude.{IsTrue, ◌↔◌}
+use Rattle.std.{proofs.Common.◌≡◌, proofs.Common.List, specs.Prelude.IsTrue, specs.Prelude.◌↔◌}
 use Rattle.hlc_ranges.specs.Run.{Layout, Turn}
-use Rattle.hlc_routing.specs.Ranges.{Represents}
-use Rattle.hlc_routing.specs.All.{each_closed, AreOpenUpto}
+use Rattle.hlc_routing.specs.{Ranges.Represents, All.each_closed, All.AreOpenUpto}
 use Rattle.hlc_routing.proofs.ranges.Ranges.close_each.Given as goal
 
 abbrev pub invariant-loop-store : goal.invariant-loop-store

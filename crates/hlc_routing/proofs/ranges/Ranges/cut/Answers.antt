@@ -1,7 +1,6 @@
 -- The least floor so far is that of all stores in the end.
 use Rattle.std.proofs.Common.{◌≡◌, ◌+◌, length, Some, refl, ap, sym, subst, arith}
-use Rattle.std.specs.Prelude.{slice_get}
-use Rattle.std.proofs.lemmas.Option.{slice_get_read}
+use Rattle.std.{specs.Prelude.slice_get, proofs.lemmas.Option.slice_get_read}
 use Rattle.hlc_routing.specs.Ranges.{RangesView}
 use Rattle.hlc_routing.proofs.Floors.{IsLeastTo, first, next, least, is-cut}
 use Rattle.hlc_routing.proofs.ranges.Ranges.cut.Goals as goal

@@ -1,11 +1,8 @@
 -- One store more: it has the keys that belong to it, with the answers of its past.
 use Rattle.std.proofs.Common.{◌≡◌, ℕ, ◌<◌, List, length, get_or, Some, refl, ap, sym, ◌∙◌, subst, arith}
 use Rattle.std.specs.Prelude.{slice_get, option_copied}
-use Rattle.std.proofs.lemmas.Grind.{common_steps}
-use Rattle.std.proofs.lemmas.Option.{gets, slice_get_read}
-use Rattle.hlc_core.specs.Past.{stamp_of}
-use Rattle.hlc_core.specs.StoreView.{StoreView}
-use Rattle.hlc_core.specs.View.{Views}
+use Rattle.std.proofs.lemmas.{Grind.common_steps, Option.gets, Option.slice_get_read}
+use Rattle.hlc_core.specs.{Past.stamp_of, View.Views, StoreView.StoreView}
 use Rattle.hlc_ranges.specs.Run.{past_of}
 use Rattle.hlc_routing.proofs.Gathered.{none-gathered, next-seen, seen-shut}
 use Rattle.hlc_routing.proofs.ranges.Ranges.gather.Goals as goal

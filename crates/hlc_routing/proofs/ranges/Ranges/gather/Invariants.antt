@@ -1,10 +1,7 @@
 -- The pairs of the stores so far.
-use Rattle.std.proofs.Common.{List}
-use Rattle.std.specs.Prelude.{option_copied}
+use Rattle.std.{proofs.Common.List, specs.Prelude.option_copied}
 use Rattle.hlc_ranges.specs.Run.{Layout, Turn}
-use Rattle.hlc_routing.specs.Ranges.{Represents}
-use Rattle.hlc_routing.specs.All.{IsOpenAll}
-use Rattle.hlc_routing.specs.Listing.{ArePairsOf}
+use Rattle.hlc_routing.specs.{Ranges.Represents, All.IsOpenAll, Listing.ArePairsOf}
 use Rattle.hlc_routing.proofs.ranges.Ranges.gather.Given as goal
 
 abbrev pub invariant-loop-store : goal.invariant-loop-store

@@ -1,7 +1,6 @@
 -- The snapshot's id there is open at its stamp, or is not.
 use Rattle.std.proofs.Common.{◌≡◌, ℕ, List, length, Some, None, false, ap, sym, ◌∙◌, subst, rules}
-use Rattle.std.specs.Prelude.{slice_get, nat_lt}
-use Rattle.std.proofs.lemmas.Option.{slice_get-get_or}
+use Rattle.std.{specs.Prelude.slice_get, specs.Prelude.nat_lt, proofs.lemmas.Option.slice_get-get_or}
 use Rattle.hlc_core.specs.StoreView.{StoreView}
 use Rattle.hlc_ranges.specs.Run.{past_of}
 use Rattle.hlc_routing.proofs.OpenAll.{one-id, not-there}

@@ -1,6 +1,5 @@
 -- Each store was asked, or one has it not open.
-use Rattle.std.proofs.Common.{◌≡◌, ◌<◌, length, true, false, refl, ap, subst, arith, rules}
-use Rattle.std.specs.Prelude.{is_some}
+use Rattle.std.proofs.Common.{◌≡◌, ◌<◌, length, true, false, refl, ap, subst, arith, rules, is_some}
 use Rattle.hlc_routing.proofs.OpenAll.{IsOpenUpto, open-here, open-all, open-next, id-open, id-shut}
 use Rattle.hlc_routing.proofs.ranges.Ranges.is_open_all.Goals as goal
 

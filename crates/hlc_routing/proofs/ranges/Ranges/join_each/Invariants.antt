@@ -1,8 +1,7 @@
 -- The node has joined each store so far.
 use Rattle.std.proofs.Common.{◌≡◌, ◌≤◌, List, length, vec_capacity}
 use Rattle.hlc_ranges.specs.Run.{Layout, Turn}
-use Rattle.hlc_routing.specs.Ranges.{Represents}
-use Rattle.hlc_routing.proofs.Joining.{HaveJoinedTo}
+use Rattle.hlc_routing.{specs.Ranges.Represents, proofs.Joining.HaveJoinedTo}
 use Rattle.hlc_routing.proofs.ranges.Ranges.join_each.Given as goal
 
 abbrev pub invariant-loop-store : goal.invariant-loop-store

@@ -1,8 +1,6 @@
 -- A snapshot that is open in all stores is at a cut, at which each store answers for its keys.
 use Rattle.std.proofs.Common.{◌≡◌, true, false, sym, ◌∙◌, inl, refl}
-use Rattle.hlc_routing.specs.All.{IsOpenAll}
-use Rattle.hlc_routing.proofs.Opening.{open-cut}
-use Rattle.hlc_routing.proofs.Gathered.{gathered}
+use Rattle.hlc_routing.{specs.All.IsOpenAll, proofs.Opening.open-cut, proofs.Gathered.gathered}
 use Rattle.hlc_routing.proofs.ranges.Ranges.list_at.Goals as goal
 
 pub returns-clause-ok : goal.returns-clause-ok

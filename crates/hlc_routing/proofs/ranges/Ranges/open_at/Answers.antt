@@ -1,8 +1,7 @@
 -- All stores opened it, or those that did have closed it again.
 use Rattle.std.proofs.Common.{inr, sym, subst}
-use Rattle.hlc_routing.specs.All.{HasOpenedSome}
+use Rattle.hlc_routing.{specs.All.HasOpenedSome, proofs.Closing.closed-each}
 use Rattle.hlc_routing.proofs.Opening.{opening, all-opened, opened-cut, few-opened}
-use Rattle.hlc_routing.proofs.Closing.{closed-each}
 use Rattle.hlc_routing.proofs.ranges.Ranges.open_at.Goals as goal
 
 pub returns-in-Ok-open_each-clause-represents : goal.returns-in-Ok-open_each-clause-represents

@@ -1,7 +1,6 @@
 -- One store after another opens the snapshot, or refuses it.
 use Rattle.std.proofs.Common.{◌≡◌, ◌+◌, ◌<◌, length, refl, ap, ◌∙◌, subst, arith, length-append}
-use Rattle.hlc_routing.specs.Ranges.{OpensIn}
-use Rattle.hlc_routing.specs.All.{each_stepped}
+use Rattle.hlc_routing.specs.{Ranges.OpensIn, All.each_stepped}
 use Rattle.hlc_routing.proofs.Opening.{opening, none-opened, one-opened, one-refused}
 use Rattle.hlc_routing.proofs.ranges.Ranges.open_each.Goals as goal
 

@@ -1,8 +1,7 @@
 -- Each store so far has opened the snapshot.
 use Rattle.std.proofs.Common.{◌≡◌, ◌≤◌, List, length, vec_capacity}
 use Rattle.hlc_ranges.specs.Run.{Layout, Turn}
-use Rattle.hlc_routing.specs.Ranges.{Represents}
-use Rattle.hlc_routing.specs.All.{HasOpenedTo}
+use Rattle.hlc_routing.specs.{Ranges.Represents, All.HasOpenedTo}
 use Rattle.hlc_routing.proofs.ranges.Ranges.open_each.Given as goal
 
 abbrev pub invariant-loop-store : goal.invariant-loop-store

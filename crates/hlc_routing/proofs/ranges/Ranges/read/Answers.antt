@@ -5,8 +5,7 @@ use Rattle.std.proofs.lemmas.Option.{slice_get_read}
 use Rattle.hlc_rows.specs.Rows.{answer}
 use Rattle.hlc_core.specs.Past.{stamp_of, writes}
 use Rattle.hlc_ranges.specs.Run.{past_of}
-use Rattle.hlc_routing.specs.Ranges.{RangesView}
-use Rattle.hlc_routing.proofs.Reading.{newest}
+use Rattle.hlc_routing.{specs.Ranges.RangesView, proofs.Reading.newest}
 use Rattle.hlc_routing.proofs.ranges.Ranges.read.Goals as goal
 
 pub returns-clause-represents : goal.returns-clause-represents

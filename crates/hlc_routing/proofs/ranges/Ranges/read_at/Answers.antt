@@ -1,13 +1,10 @@
 -- The snapshot is open in the key's store, at its stamp, or it is not; open in all stores it is at a cut.
-use Rattle.std.proofs.Common.{◌≡◌, ℕ, ◌<◌, length, Some, ap, sym, subst, arith}
-use Rattle.std.specs.Prelude.{option_copied, is_some}
+use Rattle.std.proofs.Common.{◌≡◌, ℕ, ◌<◌, length, Some, ap, sym, subst, arith, option_copied, is_some}
 use Rattle.hlc_rows.specs.Rows.{answer}
 use Rattle.hlc_core.specs.Past.{stamp_of, writes}
 use Rattle.hlc_ranges.specs.Run.{past_of}
-use Rattle.hlc_routing.specs.Division.{store_of}
-use Rattle.hlc_routing.specs.All.{IsOpenAt}
-use Rattle.hlc_routing.proofs.Opening.{open-cut}
-use Rattle.hlc_routing.proofs.OpenAll.{open-here, id-shut, read-ok, read-err}
+use Rattle.hlc_routing.specs.{Division.store_of, All.IsOpenAt}
+use Rattle.hlc_routing.proofs.{Opening.open-cut, OpenAll.open-here, OpenAll.id-shut, OpenAll.read-ok, OpenAll.read-err}
 use Rattle.hlc_routing.proofs.ranges.Ranges.read_at.Goals as goal
 
 pub returns-in_default-clause-newest : goal.returns-in_default-clause-newest

@@ -1,12 +1,10 @@
 -- The store's step extends the run, or the store refuses it.
-use Rattle.std.proofs.Common.{refl, subst}
-use Rattle.std.proofs.lemmas.Option.{slice_get_read}
+use Rattle.std.proofs.{Common.refl, Common.subst, lemmas.Option.slice_get_read}
 use Rattle.hlc_core.specs.Calls.{VacuumsTo}
 use Rattle.hlc_ranges.specs.Run.{past_of}
-use Rattle.hlc_routing.specs.Ranges.{RangesView}
-use Rattle.hlc_routing.proofs.Vacuuming.{vacuumed, not-vacuumed}
-use Rattle.hlc_routing.proofs.ranges.Ranges.vacuum_in.Goals as goal
+use Rattle.hlc_routing.{specs.Ranges.RangesView, proofs.Vacuuming.vacuumed, proofs.Vacuuming.not-vacuumed}
 use Rattle.hlc_routing.proofs.ranges.Ranges.vacuum_in.Goals.{in-Ok, in-Err}
+use Rattle.hlc_routing.proofs.ranges.Ranges.vacuum_in.Goals as goal
 
 pub returns-clause-represents : goal.returns-clause-represents
 returns-clause-represents c = λ layout run h.

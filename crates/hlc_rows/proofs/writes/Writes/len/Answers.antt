@@ -1,7 +1,6 @@
 -- As many writes are read as are asked for.
 use Rattle.std.proofs.Common.{◌≡◌, ◌∙◌, sym, ap, length}
-use Rattle.hlc_rows.specs.Spelled.{writes_in, writes_seen}
-use Rattle.hlc_rows.proofs.SpelledLemmas.{writes_count}
+use Rattle.hlc_rows.{specs.Spelled.writes_in, specs.Spelled.writes_seen, proofs.SpelledLemmas.writes_count}
 use Rattle.hlc_rows.proofs.writes.Writes.len.Goals as goal
 
 pub returns-in-Bytes : goal.returns-in-Bytes

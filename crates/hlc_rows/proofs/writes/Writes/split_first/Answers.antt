@@ -1,7 +1,6 @@
 -- The first write is at the front of the bytes.
 use Rattle.std.proofs.Common.{◌∙◌, sym, ap, List, ◌∷◌, option_copied}
-use Rattle.hlc_rows.specs.declared.write.Write.{Write}
-use Rattle.hlc_rows.specs.Spelled.{a_write, writes_seen}
+use Rattle.hlc_rows.specs.{declared.write.Write.Write, Spelled.a_write, Spelled.writes_seen}
 use Rattle.hlc_rows.proofs.SpelledLemmas.{writes_none, front}
 use Rattle.hlc_rows.proofs.writes.Writes.split_first.Goals as goal
 

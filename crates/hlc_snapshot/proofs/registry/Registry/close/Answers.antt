@@ -1,7 +1,6 @@
 -- The state is the snapshots without the one with the id, so each clause is that of a closing.
-use Rattle.std.proofs.Common.{◌≡◌, rules, sym, ◌∙◌, refl}
+use Rattle.std.proofs.{Common.◌≡◌, Common.rules, Common.sym, Common.◌∙◌, Common.refl, lemmas.Fn.filter_same}
 use Rattle.std.specs.Prelude.{◌==◌, not}
-use Rattle.std.proofs.lemmas.Fn.{filter_same}
 use Rattle.hlc_snapshot.specs.RegistryView.{without}
 use Rattle.hlc_snapshot.proofs.RegisterLemmas.{closed-map, closed-is_register}
 use Rattle.hlc_snapshot.proofs.registry.Registry.close.Goals as goal

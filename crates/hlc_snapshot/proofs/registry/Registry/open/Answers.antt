@@ -1,6 +1,5 @@
 -- The snapshot of the next id is pushed, so the map after it is that of an opening.
-use Rattle.std.proofs.Common.{◌∙◌}
-use Rattle.std.proofs.lemmas.Bool.{cond-true}
+use Rattle.std.proofs.{Common.◌∙◌, lemmas.Bool.cond-true}
 use Rattle.hlc_snapshot.proofs.RegisterLemmas.{next_id-fresh, opened-map}
 use Rattle.hlc_snapshot.proofs.registry.Registry.open.Goals as goal
 

@@ -1,15 +1,11 @@
 -- The first snapshot that is not lower has the id, or none has.
-use Rattle.std.proofs.Common.{◌∙◌, sym, ap, true≢false}
-use Rattle.std.specs.Prelude.{AllPairs}
-use Rattle.std.proofs.lemmas.Bool.{lt-ltb}
+use Rattle.std.proofs.Common.{◌∙◌, sym, ap, true≢false, AllPairs, lt-ltb, ltb-true}
 use Rattle.std.proofs.lemmas.List.{get_or_default}
-use borrow.Author.Tests.{ltb-true}
 use Rattle.hlc_snapshot.specs.declared.snapshot.Snapshot.{Snapshot}
-use Rattle.hlc_snapshot.proofs.Rising.{IsOlder}
-use Rattle.hlc_snapshot.proofs.Found.{stamp_in-found, stamp_in-missing}
-use Rattle.hlc_snapshot.proofs.registry.Registry.stamp_of.Goals as goal
+use Rattle.hlc_snapshot.proofs.{Rising.IsOlder, Found.stamp_in-found, Found.stamp_in-missing}
 use Rattle.hlc_snapshot.proofs.registry.Registry.stamp_of.Goals.{in_default-via-in-Some+else-snapshot-id}
 use Rattle.hlc_snapshot.proofs.registry.Registry.stamp_of.Goals.{in_default-via-in_default}
+use Rattle.hlc_snapshot.proofs.registry.Registry.stamp_of.Goals as goal
 
 pub returns-in-Some-clause-value : goal.returns-in-Some-clause-value
 returns-in-Some-clause-value c =

@@ -1,7 +1,6 @@
 -- The row at the position is the next to move; after the last one all have moved.
 use Rattle.std.proofs.Common.{◌++◌, ◌∷◌, [], List, ap, ◌∙◌, arith, length, length-append, length-take-le, take_all}
-use Rattle.hlc_table_column.specs.Cells.{Cell}
-use Rattle.hlc_table_column.proofs.Moved.{at_same, rest_same, moved_more}
+use Rattle.hlc_table_column.{specs.Cells.Cell, proofs.Moved.at_same, proofs.Moved.rest_same, proofs.Moved.moved_more}
 use Rattle.hlc_table_column.proofs.few.Few.pour.Goals as goal
 
 pub push-requires : goal.push-requires

@@ -1,8 +1,7 @@
 -- The answer is the value of the newest row.
 use Rattle.std.proofs.Common.{sym, option_copied}
-use Rattle.hlc_table_column.specs.Rows.{rows_of}
+use Rattle.hlc_table_column.{specs.Rows.rows_of, proofs.Beside.answer_there}
 use Rattle.hlc_rows.proofs.NewestLemmas.{answer_none}
-use Rattle.hlc_table_column.proofs.Beside.{answer_there}
 use Rattle.hlc_table_column.proofs.lanes.Lanes.answer.Goals as goal
 
 pub returns-in_default : goal.returns-in_default

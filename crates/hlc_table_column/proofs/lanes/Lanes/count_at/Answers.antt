@@ -1,11 +1,8 @@
 -- There are as many rows at or below the bound as stamps: those of the index, and those after it, which the kernel
 -- counts.
 use Rattle.std.proofs.Common.{◌≡◌, ◌∙◌, ℕ, ap, sym, map, length, drop, leb}
-use Rattle.std.specs.List.{count_by}
-use Rattle.std.proofs.lemmas.List.{take_rest}
-use Rattle.std.proofs.lemmas.List.Sums.{length-filter}
-use Rattle.hlc_table_column.specs.Cells.{Cell}
-use Rattle.hlc_table_column.proofs.Beside.{rows_within, stamps_of_cells}
+use Rattle.std.{specs.List.count_by, proofs.lemmas.List.take_rest, proofs.lemmas.List.Sums.length-filter}
+use Rattle.hlc_table_column.{specs.Cells.Cell, proofs.Beside.rows_within, proofs.Beside.stamps_of_cells}
 use Rattle.hlc_table_order.proofs.CountLemmas.{counted_all}
 use Rattle.hlc_table_column.proofs.lanes.Lanes.count_at.Goals as goal
 

@@ -1,8 +1,7 @@
 -- The best of all rows is the newest row.
 use Rattle.std.proofs.Common.{◌≡◌, ◌<◌, ℕ, List, length, IfSome}
 use Rattle.hlc_rows.specs.Rows.{newest}
-use Rattle.hlc_table_column.specs.Rows.{rows_of, at_place}
-use Rattle.hlc_table_column.proofs.NewestRow.{placed}
+use Rattle.hlc_table_column.{specs.Rows.rows_of, specs.Rows.at_place, proofs.NewestRow.placed}
 use Rattle.hlc_table_column.proofs.lanes.Lanes.newest_on.Goals as goal
 
 found : (c : goal.After-newest_from) → IfSome c.newest_from.result (λ i. i < length c.args.self.now)

@@ -1,7 +1,6 @@
 -- The stamps of the rows are the stored ones.
 use Rattle.std.proofs.Common.{◌∙◌, ap, map}
-use Rattle.hlc_table_column.specs.Cells.{Cell}
-use Rattle.hlc_table_column.proofs.Beside.{stamps_of_cells}
+use Rattle.hlc_table_column.{specs.Cells.Cell, proofs.Beside.stamps_of_cells}
 use Rattle.hlc_table_column.proofs.lanes.Lanes.stamps.Goals as goal
 
 pub returns : goal.returns

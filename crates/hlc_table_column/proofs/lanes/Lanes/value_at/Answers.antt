@@ -2,8 +2,7 @@
 use Rattle.std.proofs.Common.{◌≡◌, sym, ap, ◌∙◌, subst, Some, slice_get, true≢false, length, List, arith, lt-ltb}
 use Rattle.std.proofs.Common.{ltb-true}
 use Rattle.std.proofs.lemmas.Option.{slice_get_within, get_or_from_slice_get}
-use Rattle.hlc_table_column.specs.Cells.{Cell}
-use Rattle.hlc_table_column.proofs.Beside.{length_cells, each_there}
+use Rattle.hlc_table_column.{specs.Cells.Cell, proofs.Beside.length_cells, proofs.Beside.each_there}
 use Rattle.hlc_table_column.proofs.lanes.Lanes.value_at.Goals as goal
 
 pub returns-in_default-clause-value : goal.returns-in_default-clause-value

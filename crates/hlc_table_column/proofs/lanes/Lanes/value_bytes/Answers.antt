@@ -1,7 +1,6 @@
 -- The values of the rows are the stored ones.
 use Rattle.std.proofs.Common.{◌∙◌, ap, sum_by}
-use Rattle.hlc_table_column.specs.Cells.{cell_bytes}
-use Rattle.hlc_table_column.proofs.Beside.{cells_values}
+use Rattle.hlc_table_column.{specs.Cells.cell_bytes, proofs.Beside.cells_values}
 use Rattle.hlc_table_column.proofs.lanes.Lanes.value_bytes.Goals as goal
 
 pub returns : goal.returns

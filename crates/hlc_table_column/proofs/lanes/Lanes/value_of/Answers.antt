@@ -1,8 +1,7 @@
 -- At the position of the newest row its value is the answer.
 use Rattle.std.proofs.Common.{◌<◌, sym, ap, ◌∙◌, subst, length, option_copied, IfSome}
-use Rattle.hlc_table_column.specs.Rows.{rows_of, at_place}
+use Rattle.hlc_table_column.{specs.Rows.rows_of, specs.Rows.at_place, proofs.Beside.answer_there}
 use Rattle.hlc_rows.proofs.NewestLemmas.{answer_none}
-use Rattle.hlc_table_column.proofs.Beside.{answer_there}
 use Rattle.hlc_table_column.proofs.lanes.Lanes.value_of.Goals as goal
 
 pub returns-in-Some : goal.returns-in-Some

@@ -1,8 +1,7 @@
 -- What is at the position in each list.
 use Rattle.std.proofs.Common.{◌≡◌, ◌<◌, ◌∙◌, ap, ap₂, subst, sym, length, List, slice_get, Some}
 use Rattle.std.proofs.lemmas.Option.{same_Some}
-use Rattle.hlc_table_column.specs.Cells.{Cell}
-use Rattle.hlc_table_column.proofs.Beside.{length_cells, each_there}
+use Rattle.hlc_table_column.{specs.Cells.Cell, proofs.Beside.length_cells, proofs.Beside.each_there}
 use Rattle.hlc_table_column.proofs.lanes.Lanes.version_at.Goals as goal
 
 pub item_at-requires : goal.item_at-requires

@@ -1,8 +1,6 @@
 -- The lists have one item each.
 use Rattle.std.proofs.Common.{◌≡◌, ap, sym, subst, ◌∙◌, length, slice_get, Some, ◌-◌}
-use Rattle.hlc_table_column.specs.Cells.{CellsWithRoom}
-use Rattle.hlc_table_column.proofs.Beside.{length_cells}
-use Rattle.hlc_table_column.proofs.Moved.{one_cell}
+use Rattle.hlc_table_column.{specs.Cells.CellsWithRoom, proofs.Beside.length_cells, proofs.Moved.one_cell}
 use Rattle.hlc_table_column.proofs.lists.Lists.into_row.Goals as goal
 
 pub returns : goal.returns

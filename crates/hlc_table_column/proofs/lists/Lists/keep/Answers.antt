@@ -2,10 +2,8 @@
 -- remain, none was dropped, and it is the old one.
 use Rattle.std.proofs.Common.{ap₂, sym, ap, ◌∙◌, length, arith, rules, min}
 use Rattle.std.specs.List.{items_where_true}
-use Rattle.hlc_table_column.specs.Cells.{CellsWithRoom}
+use Rattle.hlc_table_column.{specs.Cells.CellsWithRoom, proofs.Chosen.all_chosen, proofs.Moved.with_room}
 use Rattle.hlc_table_column.proofs.Beside.{length_cells, cells_chosen, length_chosen_same, beside_chosen}
-use Rattle.hlc_table_column.proofs.Chosen.{all_chosen}
-use Rattle.hlc_table_column.proofs.Moved.{with_room}
 use Rattle.hlc_table_order.proofs.PlaceLemmas.{index_as}
 use Rattle.hlc_table_column.proofs.lists.Lists.keep.Goals as goal
 

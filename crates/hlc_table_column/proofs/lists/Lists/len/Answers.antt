@@ -1,7 +1,6 @@
 -- There is a row for each stamp.
 use Rattle.std.proofs.Common.{length, sym, ap, ◌∙◌}
-use Rattle.hlc_table_column.specs.Cells.{CellsWithRoom}
-use Rattle.hlc_table_column.proofs.Beside.{length_cells}
+use Rattle.hlc_table_column.{specs.Cells.CellsWithRoom, proofs.Beside.length_cells}
 use Rattle.hlc_table_column.proofs.lists.Lists.len.Goals as goal
 
 pub returns : goal.returns

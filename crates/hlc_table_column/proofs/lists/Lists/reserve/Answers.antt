@@ -1,7 +1,6 @@
 -- The items of each list stay, and the one with the least room says how many rows fit.
 use Rattle.std.proofs.Common.{length, sym, ap, ◌∙◌, refl, arith, true≢false}
-use Rattle.hlc_table_column.proofs.Beside.{length_cells}
-use Rattle.hlc_table_column.proofs.Moved.{same_lists, fits_each}
+use Rattle.hlc_table_column.proofs.{Beside.length_cells, Moved.same_lists, Moved.fits_each}
 use Rattle.hlc_table_column.proofs.lists.Lists.reserve.Goals as goal
 
 pub invariant_of-self : goal.invariant_of-self

@@ -2,8 +2,7 @@
 use Rattle.std.proofs.Common.{ℕ, List, length, sym, ap, ◌∙◌, subst}
 use Rattle.hlc_table_order.specs.Order.{IsIndex}
 use Rattle.hlc_table_order.proofs.PlaceLemmas.{index_as}
-use Rattle.hlc_table_column.specs.Cells.{CellsWithRoom}
-use Rattle.hlc_table_column.proofs.Moved.{room_kept}
+use Rattle.hlc_table_column.{specs.Cells.CellsWithRoom, proofs.Moved.room_kept}
 use Rattle.hlc_table_column.proofs.lists.Lists.shrink.Goals as goal
 
 pub invariant_of-self : goal.invariant_of-self

@@ -1,9 +1,7 @@
 -- Without a row there is no answer.
 use Rattle.std.proofs.Common.{List, [], sym, ap, ◌∙◌}
 use Rattle.hlc_rows.proofs.NewestLemmas.{answer_none}
-use Rattle.hlc_table_column.specs.Cells.{Cell}
-use Rattle.hlc_table_column.specs.Forms.{cells_in_form}
-use Rattle.hlc_table_column.specs.Rows.{rows_of}
+use Rattle.hlc_table_column.specs.{Cells.Cell, Rows.rows_of, Forms.cells_in_form}
 use Rattle.hlc_rows.specs.Rows.{answer}
 use Rattle.hlc_table_column.proofs.FirstLemmas.{newest_nil}
 use Rattle.hlc_table_column.proofs.rows.Rows.answer.Goals as goal

@@ -1,6 +1,5 @@
 -- The first flags are set.
-use Rattle.std.proofs.Common.{◌≡◌, true, take}
-use Rattle.std.specs.List.{list_all}
+use Rattle.std.{proofs.Common.◌≡◌, proofs.Common.true, proofs.Common.take, specs.List.list_all}
 use Rattle.hlc_table_flags.proofs.flags.Flags.are_set.Given as goal
 
 abbrev pub invariant-loop-at : goal.invariant-loop-at

@@ -1,10 +1,9 @@
 -- A flag of either form.
 use Rattle.std.proofs.Common.{◌≡◌, ◌-◌, ◌*◌, ◌^◌, ◌<◌, ◌≤◌, ◌∙◌, false, ap, sym, subst, arith, length, get_or}
-use Rattle.hlc_table_flags.specs.Bits.{bits_in}
-use Rattle.hlc_table_flags.specs.Forms.{flags_in, IsInWords}
+use Rattle.hlc_table_flags.specs.{Bits.bits_in, Forms.flags_in, Forms.IsInWords}
 use Rattle.hlc_table_flags.proofs.BitLemmas.{bits_length, bits_get}
-use Rattle.hlc_table_flags.proofs.flags.Flags.is_set.Goals as goal
 use Rattle.hlc_table_flags.proofs.flags.Flags.is_set.Goals.{In-Bytes, In-Bits}
+use Rattle.hlc_table_flags.proofs.flags.Flags.is_set.Goals as goal
 
 bytes_are : (c : In-Bytes) → c.in-Bytes.flags.now ≡ c.args.self.now
 bytes_are c = ap flags_in (sym c.in-Bytes.is) ∙ c.self.view_is

@@ -1,7 +1,6 @@
 -- Of either form.
 use Rattle.std.proofs.Common.{◌-◌, ◌∙◌, ap, sym, length}
-use Rattle.hlc_table_flags.specs.Forms.{flags_in}
-use Rattle.hlc_table_flags.proofs.BitLemmas.{bits_length}
+use Rattle.hlc_table_flags.{specs.Forms.flags_in, proofs.BitLemmas.bits_length}
 use Rattle.hlc_table_flags.proofs.flags.Flags.len.Goals as goal
 
 pub returns-in-Bytes : goal.returns-in-Bytes

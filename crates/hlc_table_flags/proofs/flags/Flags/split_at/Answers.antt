@@ -1,13 +1,12 @@
 -- The bits up to a position, and those from there on; of a run two runs.
 use Rattle.std.proofs.Common.{◌≡◌, ◌+◌, ◌-◌, ◌*◌, ◌^◌, ◌<◌, ◌≤◌, ◌∙◌, ap, sym, subst, arith, length, take, drop}
 use Rattle.std.proofs.Common.{replicate, true, false, length-append}
-use Rattle.hlc_table_flags.specs.Bits.{bits_in}
-use Rattle.hlc_table_flags.specs.Forms.{flags_in, IsInWords}
+use Rattle.hlc_table_flags.specs.{Bits.bits_in, Forms.flags_in, Forms.IsInWords}
 use Rattle.std.proofs.lemmas.List.{length-replicate}
 use Rattle.hlc_table_flags.proofs.BitLemmas.{bits_length, bits_take, bits_drop}
 use Rattle.hlc_table_flags.proofs.RunLemmas.{run, run_take, run_drop}
-use Rattle.hlc_table_flags.proofs.flags.Flags.split_at.Goals as goal
 use Rattle.hlc_table_flags.proofs.flags.Flags.split_at.Goals.{In-Bits, In-Run, After-of_bits}
+use Rattle.hlc_table_flags.proofs.flags.Flags.split_at.Goals as goal
 
 bits_are : (c : In-Bits) → bits_in c.in-Bits.words.now c.in-Bits.from (c.in-Bits.to - c.in-Bits.from) ≡ c.args.self
 bits_are c = ap flags_in (sym c.in-Bits.is) ∙ c.self.view_is

@@ -1,7 +1,6 @@
 -- No words have no bit.
 use Rattle.std.proofs.Common.{◌∙◌, ap, length, refl}
-use Rattle.hlc_table_flags.specs.Bits.{bit_in}
-use Rattle.hlc_table_flags.proofs.WordLemmas.{no_bits}
+use Rattle.hlc_table_flags.{specs.Bits.bit_in, proofs.WordLemmas.no_bits}
 use Rattle.hlc_table_flags.proofs.list.FlagList.new.Goals as goal
 
 pub invariant_of-result : goal.invariant_of-result

@@ -2,10 +2,9 @@
 use Rattle.std.proofs.Common.{◌≡◌, ◌+◌, ◌-◌, ◌<◌, ◌∙◌, ◌∷◌, ◌++◌, [], ℕ, false, true, refl, ap, sym, subst, arith}
 use Rattle.std.proofs.Common.{length, set, rules}
 use Rattle.hlc_table_flags.specs.Bits.{bit_in, bits_in}
-use Rattle.hlc_table_flags.proofs.BitLemmas.{bits_length, bits_more, set_last}
-use Rattle.hlc_table_flags.proofs.WordLemmas.{with_zero}
-use Rattle.hlc_table_flags.proofs.list.FlagList.push.Goals as goal
+use Rattle.hlc_table_flags.proofs.{BitLemmas.bits_length, BitLemmas.bits_more, BitLemmas.set_last, WordLemmas.with_zero}
 use Rattle.hlc_table_flags.proofs.list.FlagList.push.Goals.{Joined-self-eq0, then-self-eq0+in_ok-push, else-self-eq0}
+use Rattle.hlc_table_flags.proofs.list.FlagList.push.Goals as goal
 
 next : (c : Joined-self-eq0) → c.in_ok-len.len ≡ c.self.inside.len + 1
 next c = search rules

@@ -1,9 +1,8 @@
 -- One bit of one word is set.
 use Rattle.std.proofs.Common.{◌+◌, ◌<◌, ◌/◌, ◌%◌, ◌*◌, ◌^◌, ◌∙◌, ℕ, ap, arith, length, length-set, bit_or}
-use Rattle.hlc_table_flags.proofs.BitLemmas.{bits_length}
+use Rattle.hlc_table_flags.proofs.{BitLemmas.bits_length, list.FlagList.set_after.Goals.After-self}
 use Rattle.hlc_table_flags.proofs.WordLemmas.{set_word, set_none, set_flag}
 use Rattle.hlc_table_flags.proofs.list.FlagList.set_after.Goals as goal
-use Rattle.hlc_table_flags.proofs.list.FlagList.set_after.Goals.{After-self}
 
 -- the position
 abbrev at : After-self → ℕ

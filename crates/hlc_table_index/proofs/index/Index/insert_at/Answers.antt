@@ -4,9 +4,8 @@ use Rattle.std.proofs.Common.{inl, inr}
 use Rattle.std.proofs.lemmas.Result.{on_ok_weaker, on_err_weaker}
 use Rattle.hlc_table_index.specs.Entries.{keys_in, entries_in, IsGap, IsSlot}
 use Rattle.hlc_table_index.proofs.Places.{slot_empty, slot_end, grown, grown_ascend, pushed, end_place, with_is}
-use Rattle.hlc_table_index.proofs.index.Index.insert_at.Given.{Over}
+use Rattle.hlc_table_index.proofs.index.Index.insert_at.{Given.Over, Goals.After-is_full_end}
 use Rattle.hlc_table_index.proofs.index.Index.insert_at.Goals as goal
-use Rattle.hlc_table_index.proofs.index.Index.insert_at.Goals.{After-is_full_end}
 
 -- the first entry of all
 pub invariant_of-self : goal.invariant_of-self

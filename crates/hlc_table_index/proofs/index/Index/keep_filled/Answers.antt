@@ -1,6 +1,5 @@
 -- Some of the ascending keys still ascend.
-use Rattle.std.specs.List.Sorted.{IsStrictlySortedBy}
-use Rattle.std.proofs.Common.{subst, sym}
+use Rattle.std.{specs.List.Sorted.IsStrictlySortedBy, proofs.Common.subst, proofs.Common.sym}
 use Rattle.hlc_table_index.specs.Entries.{key_cmp, keys_in, entries_in}
 use Rattle.hlc_table_index.proofs.SlotLemmas.{ascend_kept}
 use Rattle.hlc_table_index.proofs.index.Index.keep_filled.Goals as goal

@@ -2,11 +2,9 @@
 use Rattle.std.proofs.Common.{◌≡◌, ◌-◌, ◌∙◌, ap, arith, subst, sym, Less, None, [], get_or, length}
 use Rattle.std.specs.Map.{lookup}
 use Rattle.hlc_table_index.specs.Entries.{keys_in, key_cmp, is_key, entries_in, IsEntryAt, IsGap}
-use Rattle.hlc_table_index.proofs.Heads.{same_key}
-use Rattle.hlc_table_index.proofs.Places.{gap_empty, gap_end, gap_absent}
-use Rattle.hlc_table_index.proofs.index.Index.locate_last.Given.{Over}
+use Rattle.hlc_table_index.proofs.{Heads.same_key, Places.gap_empty, Places.gap_end, Places.gap_absent}
+use Rattle.hlc_table_index.proofs.index.Index.locate_last.{Given.Over, Goals.In-Less}
 use Rattle.hlc_table_index.proofs.index.Index.locate_last.Goals as goal
-use Rattle.hlc_table_index.proofs.index.Index.locate_last.Goals.{In-Less}
 
 pub returns-then-count-eq0-clause-gap : goal.returns-then-count-eq0-clause-gap
 returns-then-count-eq0-clause-gap g c =

@@ -1,8 +1,6 @@
 -- The keys of the other entries still ascend.
-use Rattle.std.specs.List.Sorted.{IsStrictlySortedBy}
-use Rattle.std.proofs.Common.{subst, sym}
-use Rattle.hlc_table_index.specs.Entries.{key_cmp, keys_in}
-use Rattle.hlc_table_index.proofs.RemovalLemmas.{ascend_removed}
+use Rattle.std.{specs.List.Sorted.IsStrictlySortedBy, proofs.Common.subst, proofs.Common.sym}
+use Rattle.hlc_table_index.{specs.Entries.key_cmp, specs.Entries.keys_in, proofs.RemovalLemmas.ascend_removed}
 use Rattle.hlc_table_index.proofs.index.Index.remove.Goals as goal
 
 pub invariant_of-self : goal.invariant_of-self

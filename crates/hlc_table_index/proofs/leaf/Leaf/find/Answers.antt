@@ -2,9 +2,8 @@
 use Rattle.std.proofs.Common.{sym, ◌∙◌, ◌≡◌, ◌<◌, arith, subst, length, true, Greater}
 use Rattle.hlc_table_index.specs.Entries.{keys_in, key_cmp, IsBelowAt}
 use Rattle.hlc_table_index.proofs.Heads.{same_key, as_many, headed_below, headed_above}
-use Rattle.hlc_table_index.proofs.leaf.Leaf.find.Given.{Over}
+use Rattle.hlc_table_index.proofs.leaf.Leaf.find.{Given.Over, Goals.After-place_of_head-first}
 use Rattle.hlc_table_index.proofs.leaf.Leaf.find.Goals as goal
-use Rattle.hlc_table_index.proofs.leaf.Leaf.find.Goals.{After-place_of_head-first}
 
 many : (g : Over) (c : After-place_of_head-first g) → length c.as_slice.result.now ≡ length (keys_in c.args.self.now)
 many g c =

@@ -1,6 +1,5 @@
 -- One more head and one more key, at the same slot.
-use Rattle.std.proofs.Common.{◌∙◌, ap, List, ℕ}
-use Rattle.std.specs.List.{insert}
+use Rattle.std.{proofs.Common.◌∙◌, proofs.Common.ap, proofs.Common.List, proofs.Common.ℕ, specs.List.insert}
 use Rattle.hlc_table_index.proofs.LeafLemmas.{leaf_insert}
 use Rattle.hlc_table_index.proofs.leaf.Leaf.insert.Goals as goal
 

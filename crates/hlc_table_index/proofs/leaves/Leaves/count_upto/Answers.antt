@@ -1,9 +1,8 @@
 -- The heads of the first keys decide between them.
 use Rattle.hlc_table_index.specs.Entries.{first_keys, IsUptoAt}
 use Rattle.hlc_table_index.proofs.Tops.{headed_upto, headed_above}
-use Rattle.hlc_table_index.proofs.leaves.Leaves.count_upto.Given.{Over}
+use Rattle.hlc_table_index.proofs.leaves.Leaves.count_upto.{Given.Over, Goals.After-place_of_head-place}
 use Rattle.hlc_table_index.proofs.leaves.Leaves.count_upto.Goals as goal
-use Rattle.hlc_table_index.proofs.leaves.Leaves.count_upto.Goals.{After-place_of_head-place}
 
 upto : (g : Over) (c : After-place_of_head-place g) → IsUptoAt (first_keys c.args.self.now)
     c.place_of_head-place.result.0 c.args.key.now

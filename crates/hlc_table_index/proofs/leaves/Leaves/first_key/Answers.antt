@@ -1,7 +1,6 @@
 -- The first key of a leaf is one of the first keys of all, and those consist of bytes.
 use Rattle.std.proofs.Common.{sym, subst}
-use Rattle.hlc_table_index.specs.Head.{AreBytes}
-use Rattle.hlc_table_index.proofs.Tops.{first_bytes, first_read}
+use Rattle.hlc_table_index.{specs.Head.AreBytes, proofs.Tops.first_bytes, proofs.Tops.first_read}
 use Rattle.hlc_table_index.proofs.leaves.Leaves.first_key.Goals as goal
 
 pub returns-clause-key : goal.returns-clause-key

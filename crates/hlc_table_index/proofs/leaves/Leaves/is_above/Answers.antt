@@ -1,6 +1,5 @@
 -- A head above that of the key belongs to a key above it.
-use Rattle.std.proofs.Common.{◌<◌, refl, subst, ltb-true}
-use Rattle.std.proofs.lemmas.List.{get_or_read}
+use Rattle.std.proofs.{Common.◌<◌, Common.refl, Common.subst, Common.ltb-true, lemmas.List.get_or_read}
 use Rattle.hlc_table_index.proofs.Tops.{headed_above}
 use Rattle.hlc_table_index.proofs.leaves.Leaves.is_above.Goals as goal
 

@@ -1,6 +1,5 @@
 -- The leaves that are kept have the heads of their first keys.
-use Rattle.std.proofs.Common.{◌≡◌, take, arith}
-use Rattle.std.proofs.lemmas.Grind.{common_steps}
+use Rattle.std.proofs.{Common.◌≡◌, Common.take, Common.arith, lemmas.Grind.common_steps}
 use Rattle.hlc_table_index.proofs.leaves.Leaves.keep_filled.Goals as goal
 
 pub invariant_of-self : goal.invariant_of-self

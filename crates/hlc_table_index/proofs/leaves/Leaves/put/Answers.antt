@@ -1,7 +1,6 @@
 -- The entry goes into the leaf, or into one of its two parts.
 use Rattle.std.proofs.Common.{◌∙◌, ap, arith, [], length, get_or, length-take, length-drop}
-use Rattle.std.specs.List.{insert}
-use Rattle.std.proofs.lemmas.Result.{on_ok_weaker, on_err_weaker}
+use Rattle.std.{specs.List.insert, proofs.lemmas.Result.on_ok_weaker, proofs.lemmas.Result.on_err_weaker}
 use Rattle.hlc_table_index.specs.Entries.{entries_in}
 use Rattle.hlc_table_index.proofs.Joined.{joined_set, many, front_is, back_is, cut_same, cut_front, cut_back}
 use Rattle.hlc_table_index.proofs.leaves.Leaves.put.Goals as goal

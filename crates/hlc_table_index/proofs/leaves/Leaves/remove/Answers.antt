@@ -1,9 +1,7 @@
 -- The leaf and its top are removed if it is empty. Otherwise its first key changes only if the first entry is removed.
 use Rattle.std.proofs.Common.{◌∙◌, ◌<◌, ap, refl, subst, arith, [], length}
-use Rattle.hlc_table_index.specs.Head.{head_of, AreBytes}
-use Rattle.hlc_table_index.specs.Entries.{first_key}
-use Rattle.hlc_table_index.proofs.Heads.{length_keys}
-use Rattle.hlc_table_index.proofs.Tops.{leaves_set, leaves_kept}
+use Rattle.hlc_table_index.specs.{Head.head_of, Head.AreBytes, Entries.first_key}
+use Rattle.hlc_table_index.proofs.{Heads.length_keys, Tops.leaves_set, Tops.leaves_kept}
 use Rattle.hlc_table_index.proofs.RemovalLemmas.{leaves_without, read_back, first_stays, entries_removed}
 use Rattle.hlc_table_index.proofs.leaves.Leaves.remove.Goals as goal
 

@@ -1,6 +1,5 @@
 -- The front part keeps its first key, and the back part begins with the key at the slot.
-use Rattle.std.proofs.Common.{◌∙◌, ◌+◌, sym, ap, subst, arith, List, ℕ, [], length, get_or}
-use Rattle.std.specs.List.{insert}
+use Rattle.std.proofs.Common.{◌∙◌, ◌+◌, sym, ap, subst, arith, List, ℕ, [], length, get_or, insert}
 use Rattle.hlc_table_index.proofs.Tops.{split_leaves, AreLeaves}
 use Rattle.hlc_table_index.proofs.leaves.Leaves.split.Goals as goal
 

@@ -3,24 +3,18 @@ use Rattle.std.proofs.Common.{◌≡◌, ◌<◌, ◌+◌, ◌++◌, ◌∷◌, 
 use Rattle.std.proofs.Common.{get_or, option_copied, Option, Some, None, Bool, true, set, ap₂, true≢false, rules, arith}
 use Rattle.std.specs.Prelude.{IfSome, MatchOption}
 use Rattle.std.proofs.lemmas.List.{length-map, get_or_default, length-append, length-set}
-use Rattle.hlc_rows.specs.Rows.{answer, newest}
-use Rattle.hlc_witness.specs.Changes.{answer_at}
-use Rattle.hlc_witness.specs.Cost.{cost_of}
+use Rattle.hlc_rows.specs.{Rows.answer, Rows.newest, declared.row.Row.Row}
+use Rattle.hlc_witness.specs.{Changes.answer_at, Cost.cost_of, declared.witness.Witness.Witness}
 use Rattle.hlc_clock.specs.Points.{last_point}
-use Rattle.hlc_table_column.specs.Cells.{Cell}
-use Rattle.hlc_table_column.specs.Rows.{row_of, rows_of}
-use Rattle.hlc_rows.specs.declared.row.Row.{Row}
-use Rattle.hlc_witness.specs.declared.witness.Witness.{Witness}
+use Rattle.hlc_table_column.specs.{Cells.Cell, Rows.row_of, Rows.rows_of}
 use Rattle.hlc_vacuum_draft.specs.declared.draft.Draft.{Draft}
-use Rattle.hlc_vacuum_draft.proofs.SoFar.{point_before, AddedSoFar}
-use Rattle.hlc_vacuum_draft.proofs.Costs.{cost-none}
-use Rattle.hlc_vacuum_draft.proofs.Drafts.{draft-above}
-use Rattle.hlc_vacuum_draft.proofs.Steps.{same_added, change_added, change_here, next_before}
-use Rattle.hlc_vacuum_draft.proofs.Steps.{added_all, all_found, none_left}
+use Rattle.hlc_vacuum_draft.proofs.{SoFar.point_before, SoFar.AddedSoFar, Costs.cost-none, Drafts.draft-above}
+use Rattle.hlc_vacuum_draft.proofs.Steps.{same_added, change_added, change_here, next_before, added_all, all_found}
+use Rattle.hlc_vacuum_draft.proofs.Steps.{none_left}
 use Rattle.hlc_vacuum_draft.proofs.Quiet.{IsQuiet, quiet_answer, quiet_on, quiet_from, quiet_first, quiet_rest}
 use Rattle.hlc_vacuum_draft.proofs.Quiet.{before_below}
-use Rattle.hlc_vacuum_draft.proofs.draft.Draft.add.Goals as goal
 use Rattle.hlc_vacuum_draft.proofs.draft.Draft.add.Goals.{then-not-are_equal+in_ok-note+in_ok-count, else-not-are_equal}
+use Rattle.hlc_vacuum_draft.proofs.draft.Draft.add.Goals as goal
 
 -- marking a row does not change the number of flags
 marked_length : (flags more : List Bool) (from : ℕ) (place : Option ℕ)

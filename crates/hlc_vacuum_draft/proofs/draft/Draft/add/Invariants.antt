@@ -2,11 +2,9 @@
 -- is known, and no row is
 -- in the gap after it.
 use Rattle.std.proofs.Common.{◌≡◌, ◌+◌, List, length, option_copied}
-use Rattle.hlc_witness.specs.Changes.{answer_at}
-use Rattle.hlc_witness.specs.declared.witness.Witness.{Witness}
+use Rattle.hlc_witness.specs.{Changes.answer_at, declared.witness.Witness.Witness}
 use Rattle.hlc_table_column.specs.Rows.{rows_of}
-use Rattle.hlc_vacuum_draft.proofs.SoFar.{point_before, AddedSoFar}
-use Rattle.hlc_vacuum_draft.proofs.Quiet.{IsQuiet}
+use Rattle.hlc_vacuum_draft.proofs.{SoFar.point_before, SoFar.AddedSoFar, Quiet.IsQuiet}
 use Rattle.hlc_vacuum_draft.proofs.draft.Draft.add.Given as goal
 
 abbrev pub invariant-loop-point : goal.invariant-loop-point

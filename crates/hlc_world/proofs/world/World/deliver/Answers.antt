@@ -1,12 +1,10 @@
 -- The item that is found is the issued one, and the store takes a copy of it.
-use Rattle.std.proofs.Common.{◌∙◌, sym, ap, refl}
+use Rattle.std.{proofs.Common.◌∙◌, proofs.Common.sym, proofs.Common.ap, proofs.Common.refl, specs.Prelude.slice_get}
 use Rattle.std.proofs.lemmas.Option.{slice_get_read, slice_get_within}
-use Rattle.std.specs.Prelude.{slice_get}
-use Rattle.hlc_world.specs.Store.{core_past}
-use Rattle.hlc_world.specs.declared.reply.Reply.TheVariants.{Refused}
+use Rattle.hlc_world.specs.{Store.core_past, declared.reply.Reply.TheVariants.Refused}
 use Rattle.hlc_world.proofs.StoreEvents.{found, answered, reply_of}
-use Rattle.hlc_world.proofs.world.World.deliver.Goals as goal
 use Rattle.hlc_world.proofs.world.World.deliver.Goals.{in-Ok, in-Err}
+use Rattle.hlc_world.proofs.world.World.deliver.Goals as goal
 
 pub returns-clause-represents : goal.returns-clause-represents
 returns-clause-represents c = λ nodes s h.

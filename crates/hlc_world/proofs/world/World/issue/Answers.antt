@@ -1,9 +1,8 @@
 -- The node issues the item, or returns the expected refusal, and the other nodes do not change.
-use Rattle.std.proofs.Common.{refl}
-use Rattle.std.proofs.lemmas.Option.{slice_get_read}
+use Rattle.std.proofs.{Common.refl, lemmas.Option.slice_get_read}
 use Rattle.hlc_world.proofs.Nodes.{issues, issues_not}
-use Rattle.hlc_world.proofs.world.World.issue.Goals as goal
 use Rattle.hlc_world.proofs.world.World.issue.Goals.{in-Ok, in-Err}
+use Rattle.hlc_world.proofs.world.World.issue.Goals as goal
 
 pub returns-clause-represents : goal.returns-clause-represents
 returns-clause-represents c = λ nodes s h.

@@ -1,7 +1,6 @@
 -- The store assigns the next number, and the floor as the start of the node's clock.
 use Rattle.std.proofs.Common.{ℕ, ap}
-use Rattle.hlc_world.specs.Store.{core_past}
-use Rattle.hlc_world.proofs.StoreEvents.{joins}
+use Rattle.hlc_world.{specs.Store.core_past, proofs.StoreEvents.joins}
 use Rattle.hlc_world.proofs.world.World.join.Goals as goal
 
 pub returns-in-Ok-clause-represents : goal.returns-in-Ok-clause-represents

@@ -1,12 +1,10 @@
 -- The node sees the stamp of the open snapshot.
-use Rattle.std.proofs.Common.{◌≡◌, refl, sym, Some}
-use Rattle.std.proofs.lemmas.Option.{slice_get_read}
+use Rattle.std.proofs.{Common.◌≡◌, Common.refl, Common.sym, Common.Some, lemmas.Option.slice_get_read}
 use Rattle.hlc_core.specs.Past.{stamp_of}
-use Rattle.hlc_world.specs.Store.{core_past}
-use Rattle.hlc_world.specs.declared.reply.Reply.TheVariants.{Observed}
+use Rattle.hlc_world.specs.{Store.core_past, declared.reply.Reply.TheVariants.Observed}
 use Rattle.hlc_world.proofs.Nodes.{observe-is, sees, sees_not}
-use Rattle.hlc_world.proofs.world.World.observe.Goals as goal
 use Rattle.hlc_world.proofs.world.World.observe.Goals.{in-Ok, in-Err}
+use Rattle.hlc_world.proofs.world.World.observe.Goals as goal
 
 pub returns-clause-represents : goal.returns-clause-represents
 returns-clause-represents c = λ nodes s h.

@@ -1,11 +1,10 @@
 -- The node sees the stamp of the message, which is stored under the message's number.
 use Rattle.std.proofs.Common.{◌≡◌, refl, sym, ◌∙◌, ap, Some}
-use Rattle.std.proofs.lemmas.Option.{slice_get_read}
-use Rattle.std.specs.Prelude.{slice_get}
+use Rattle.std.{proofs.lemmas.Option.slice_get_read, specs.Prelude.slice_get}
 use Rattle.hlc_world.specs.declared.reply.Reply.TheVariants.{Received}
 use Rattle.hlc_world.proofs.Nodes.{message-there, receive-is, sees, sees_not}
-use Rattle.hlc_world.proofs.world.World.receive.Goals as goal
 use Rattle.hlc_world.proofs.world.World.receive.Goals.{in-Ok, in-Err}
+use Rattle.hlc_world.proofs.world.World.receive.Goals as goal
 
 pub returns-clause-represents : goal.returns-clause-represents
 returns-clause-represents c = λ nodes s h.

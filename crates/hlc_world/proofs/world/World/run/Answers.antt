@@ -1,7 +1,6 @@
 -- The world is faithful before the first event, and step by step it stays so.
 use Rattle.std.proofs.Common.{◌≡◌, ◌∙◌, subst, ◌++◌, sym, ap, length, length-append, ◌+◌, append_assoc, arith, rules}
-use Rattle.hlc_world.specs.Schedule.{after}
-use Rattle.hlc_world.specs.Headline.{IsFaithful}
+use Rattle.hlc_world.specs.{Schedule.after, Headline.IsFaithful}
 use Rattle.std.proofs.lemmas.Grind.{common_steps}
 use Rattle.hlc_world.proofs.Faithful.{faithful, after-push}
 use Rattle.hlc_world.proofs.world.World.run.Goals as goal

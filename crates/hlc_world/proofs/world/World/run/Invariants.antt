@@ -1,10 +1,7 @@
 -- There are as many replies as events so far, and the world represents the schedule with them, and is faithful to it.
 use Rattle.std.proofs.Common.{◌≡◌, ℕ, List, ◌++◌, length, vec_capacity}
-use Rattle.hlc_world.specs.declared.reply.Reply.{Reply}
-use Rattle.hlc_world.specs.Schedule.{after}
+use Rattle.hlc_world.specs.{declared.reply.Reply.Reply, WorldView.Represents, Schedule.after, Headline.IsFaithful}
 use Rattle.hlc_world_event.specs.Events.{Event}
-use Rattle.hlc_world.specs.WorldView.{Represents}
-use Rattle.hlc_world.specs.Headline.{IsFaithful}
 use Rattle.std.specs.Vec.Iter.{into_iter_items}
 use Rattle.hlc_world.proofs.world.World.run.Given as goal
 

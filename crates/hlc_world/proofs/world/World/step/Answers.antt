@@ -1,10 +1,7 @@
 -- What is true of every legal schedule is true of the one with this event, which the world represents.
 use Rattle.std.proofs.Common.{◌∷◌}
-use Rattle.hlc_world.proofs.Times.{less, closed}
-use Rattle.hlc_world.proofs.Orderly.{complete, below_clocks}
-use Rattle.hlc_world.proofs.Rises.{rising}
-use Rattle.hlc_world.proofs.StoreEvents.{goes-by-number}
-use Rattle.hlc_world.proofs.Faithful.{faithful}
+use Rattle.hlc_world.proofs.{Times.less, Times.closed, StoreEvents.goes-by-number}
+use Rattle.hlc_world.proofs.{Orderly.complete, Orderly.below_clocks, Rises.rising, Faithful.faithful}
 use Rattle.hlc_world.proofs.world.World.step.Goals as goal
 
 pub returns-clause-ordered : goal.returns-clause-ordered
