@@ -1,5 +1,10 @@
 //! The calls that make increments of checkpoints, and apply them.
-ghost use Rattle.std.specs.Prelude.{◌≡◌, ◌≢◌};
+ghost use Rattle.std.specs.Prelude.{◌≡◌, ◌≢◌, ℕ, ◌++◌, List, IfSome};
+ghost use Rattle.hlc_core.specs.Past.{Step};
+ghost use Rattle.hlc_core.specs.StoreView.{StoreView, Represents};
+ghost use Rattle.hlc_saved.specs.Saved.{AreOf, BytesRepresent};
+ghost use Rattle.hlc_increment.specs.Increment.{IncrementView, IsIncrementOf, without_drops};
+ghost use Rattle.hlc_increment.specs.Bytes.{IncrementFits, increment_bytes};
 ghost use Rattle.hlc_ffi.specs.Handle.{OnReader, IsGivenBack};
 ghost use Rattle.hlc_ffi.specs.Outputs.{OnOutput};
 ghost use Rattle.hlc_increment_calls.specs.Increments.{AreAdvanced, AreIncrementOf, IsNotAdvanced, IsRefusedIncrement};
@@ -42,6 +47,7 @@ pub extern "C" fn hlc_increment_make(
 }
 
 /// Makes the bytes of the checkpoint that an older one becomes by an increment. Returns 0, or 108, or as `apply` does.
+/// The older one may be made by an increment too (`chained`), and nothing goes back (`back`).
 #[unsafe(no_mangle)]
 pub extern "C" fn hlc_increment_apply(
     alloc: Global,
@@ -54,6 +60,17 @@ pub extern "C" fn hlc_increment_apply(
     ensures answer { OnOutput output.old.value output.new.value result len.new (word.new ≡ 0)
         (λ made. (word.new ≡ 0) × AreAdvanced older.now bytes.now made)
         (IsNotAdvanced older.now bytes.now result word.new) }
+    ensures chained { result ≡ 0 → (before after : ℕ) (kept newer : StoreView) (read : IncrementView)
+        (past mid more : List Step) → AreOf older.now before kept → Represents kept (without_drops mid ++ past)
+        → bytes.now ≡ increment_bytes after read → IncrementFits after read → IsIncrementOf newer read
+        → Represents newer (more ++ (mid ++ past)) → IfSome output.new.value (λ made.
+        BytesRepresent made.items after (without_drops more ++ (without_drops mid ++ past))) }
+    ensures back { result ≡ 0 → (before after : ℕ) (kept earlier : StoreView) (read : IncrementView)
+        (past mid more : List Step) → AreOf older.now before kept
+        → Represents kept (more ++ (without_drops mid ++ past)) → bytes.now ≡ increment_bytes after read
+        → IncrementFits after read → IsIncrementOf earlier read → Represents earlier (mid ++ past)
+        → IfSome output.new.value (λ made.
+        BytesRepresent made.items after (more ++ (without_drops mid ++ past))) }
     ensures nothing { result ≢ 0 → (len.new ≡ 0) × (output.new.value ≡ output.old.value) }
 {
     *len = 0;
