@@ -1,7 +1,7 @@
 -- What replicas of one log have in common: the same items of each node, and the same nodes that joined at the same
 -- starts, in any order between the links, with any snapshots and vacuums between.
-use Rattle.std.specs.Prelude.{◌≡◌, ℕ, Bool, false, List, [], ◌∷◌, ◌++◌, ◌==◌, if◌then◌else◌}
-use Rattle.hlc_node.specs.{declared.item.Item.Item, Items.retires}
+use Rattle.std.specs.Prelude.{◌≡◌, ℕ, List, [], ◌∷◌, ◌++◌, ◌==◌, if◌then◌else◌}
+use Rattle.hlc_node.specs.declared.item.Item.{Item}
 use Rattle.hlc_core.specs.Past.{Step, Began, initial_nodes, Took, Joined, IsLegal}
 use Rattle.hlc_core.specs.StoreView.{StoreView}
 
@@ -10,11 +10,6 @@ abbrev pub items_of : ℕ → List Step → List Item
 items_of n [] = []
 items_of n (Took item ∷ past) = if item.node == n then item ∷ items_of n past else items_of n past
 items_of n (_ ∷ past) = items_of n past
-
--- the first of some items is its node's last one
-abbrev pub have_ended : List Item → Bool
-have_ended [] = false
-have_ended (item ∷ items) = retires item.body
 
 -- the nodes that joined, each with its start, the last one first
 abbrev pub joins_of : List Step → List (ℕ × ℕ)
