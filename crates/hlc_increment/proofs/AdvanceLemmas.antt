@@ -1,25 +1,19 @@
 -- An older checkpoint with the rows of an increment represents the past of the newer store, but that vacuums since the
 -- older one dropped nothing.
-use Rattle.std.proofs.Common.{◌≡◌, ℕ, ◌+◌, ◌<◌, ◌≤◌, ◌⊎◌, List, [], ◌∷◌, ◌++◌, length, Contains, true, refl, ap}
-use Rattle.std.proofs.Common.{sym, ◌∙◌, subst, inl, inr, arith, leb, ltb, filter, IsPermutation, All, not, cond}
-use Rattle.std.proofs.Common.{◌&&◌, Bool, false}
-use Rattle.std.specs.Prelude.{◌==◌}
-use Rattle.std.proofs.lemmas.Bool.{cases_lt, leb-true, le-leb, ltb-true, lt-ltb, lt-leb}
-use Rattle.std.proofs.lemmas.List.{length-append, append_assoc}
+use Rattle.std.proofs.Common.{◌≡◌, ℕ, ◌+◌, ◌<◌, ◌≤◌, ◌⊎◌, List, [], ◌∷◌, ◌++◌, length, Contains, true, refl, ap, sym}
+use Rattle.std.proofs.Common.{◌∙◌, subst, inl, inr, arith, leb, ltb, filter, IsPermutation, All, not, cond, ◌&&◌, Bool}
+use Rattle.std.proofs.Common.{false, ◌==◌, leb-true, le-leb, ltb-true, lt-ltb, length-append, append_assoc}
+use Rattle.std.proofs.lemmas.Bool.{cases_lt, lt-leb}
 use Rattle.std.proofs.lemmas.List.Elements.{Contains-append_left, Contains-append_right, Contains-append_cases}
 use Rattle.std.proofs.lemmas.List.Elements.{filter-append, filter_passes, All-contains, All-weaker}
 use Rattle.std.proofs.lemmas.List.Sorted.{All-permutation, Contains-permutation, IsPermutation-sym, length_permutation}
-use Rattle.hlc_values.proofs.MemberLemmas.{Contains-first, Contains-rest, Contains-cons_cases}
-use Rattle.hlc_values.proofs.MemberLemmas.{Contains-filter, Contains-from_filter}
-use Rattle.hlc_rows.specs.declared.row.Row.{Row}
-use Rattle.hlc_rows.specs.declared.write.Write.{Write as AWrite}
-use Rattle.hlc_rows.specs.Writes.{rows_written}
-use Rattle.hlc_node.specs.declared.item.Item.{Item}
-use Rattle.hlc_node.specs.declared.item.Body.{Body}
+use Rattle.hlc_values.proofs.MemberLemmas.{Contains-first, Contains-rest, Contains-cons_cases, Contains-filter}
+use Rattle.hlc_values.proofs.MemberLemmas.{Contains-from_filter}
+use Rattle.hlc_rows.specs.declared.{row.Row.Row, write.Write.Write as AWrite}
+use Rattle.hlc_rows.specs.{Writes.rows_written, Rows.answer, Rows.IsRowSet, Rows.IsSameVersion}
+use Rattle.hlc_node.specs.declared.item.{Item.Item, Body.Body}
 use Rattle.hlc_node.specs.declared.item.Body.TheVariants.{Write, Batch, Report, Retire}
-use Rattle.hlc_rows.specs.Rows.{answer, IsRowSet, IsSameVersion}
-use Rattle.hlc_snapshot.specs.declared.snapshot.Snapshot.{Snapshot}
-use Rattle.hlc_snapshot.specs.RegistryView.{stamps, without}
+use Rattle.hlc_snapshot.specs.{declared.snapshot.Snapshot.Snapshot, RegistryView.stamps, RegistryView.without}
 use Rattle.hlc_table_column.specs.Rows.{rows_to}
 use Rattle.hlc_table_column.proofs.FlagLemmas.{filter-IsRowSet}
 use Rattle.hlc_vacuum_draft.proofs.PartLemmas.{same_rows, answer-rows_to, alike_from}
@@ -31,9 +25,8 @@ use Rattle.hlc_witness.proofs.CertificateLemmas.{ascending_rows_are_a_row_set}
 use Rattle.hlc_checkpoint.specs.Sorted.{rows_above}
 use Rattle.hlc_checkpoint.proofs.CheckpointLemmas.{row_set-moved, sound-has_no_reason}
 use Rattle.hlc_core.specs.Past.{Step, Started, Began, Took, Opened, Closed, Vacuumed, PartVacuumed, Joined, floor}
-use Rattle.hlc_core.specs.Past.{horizon, vacuumed}
-use Rattle.hlc_core.specs.Past.{initial_nodes, part_dropped, last_id, open_snapshots, writes, item_rows}
-use Rattle.hlc_core.specs.Past.{body_rows, IsLegal}
+use Rattle.hlc_core.specs.Past.{horizon, vacuumed, initial_nodes, part_dropped, last_id, open_snapshots, writes}
+use Rattle.hlc_core.specs.Past.{item_rows, body_rows, IsLegal}
 use Rattle.hlc_core.specs.StoreView.{StoreView, with_rows, Represents}
 use Rattle.hlc_core.specs.Checkpoint.{IsCheckpoint, floor_in}
 use Rattle.hlc_core.proofs.BeganLemmas.{began-positive}
@@ -41,11 +34,11 @@ use Rattle.hlc_core.proofs.PastLemmas.{above_floor, body_rows-are, open-above, p
 use Rattle.hlc_core.proofs.StayLemmas.{answers-stay, floor-never_falls, nothing-before}
 use Rattle.hlc_core.proofs.CheckpointLemmas.{copy-represents, floor-in}
 use Rattle.hlc_increment.specs.declared.advancing.AdvanceFault.{AdvanceFault}
-use Rattle.hlc_increment.specs.declared.advancing.AdvanceFault.TheVariants as faults
 use Rattle.hlc_increment.specs.Increment.{IncrementView, IsIncrementOf, IsAdvanced, IsReason, MayBeLater, without_drops}
 use Rattle.hlc_increment.proofs.LaterLemmas.{horizon-grows, later-goes_on}
 use Rattle.hlc_increment.proofs.AgreeLemmas.{Agree, drops-agree, drops-legal, drops-part_nothing, drops-vacuumed}
 use Rattle.hlc_increment.proofs.AgreeLemmas.{drops-last_changes, drops-append}
+use Rattle.hlc_increment.specs.declared.advancing.AdvanceFault.TheVariants as faults
 
 -- accepted writes are kept
 writes-kept : (past more : List Step) (row : Row) → Contains (writes past) row → Contains (writes (more ++ past)) row

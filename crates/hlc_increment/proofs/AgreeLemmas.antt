@@ -1,11 +1,10 @@
 -- A past in which vacuums dropped nothing agrees with the past of the vacuums in all but the number of stored rows, and
 -- is legal where that is.
-use Rattle.std.proofs.Common.{◌≡◌, ℕ, ◌≤◌, List, [], ◌∷◌, ◌++◌, refl, ap, sym, ◌∙◌}
-use Rattle.std.proofs.Common.{subst, arith}
+use Rattle.std.proofs.Common.{◌≡◌, ℕ, ◌≤◌, List, [], ◌∷◌, ◌++◌, refl, ap, sym, ◌∙◌, subst, arith}
 use Rattle.hlc_node.specs.declared.item.Item.{Item}
-use Rattle.hlc_core.specs.Past.{Step, Started, Began, Took, Opened, Closed, Vacuumed, PartVacuumed, Joined}
-use Rattle.hlc_core.specs.Past.{horizon, writes, item_rows, IsLegal, item_refusal}
-use Rattle.hlc_core.specs.Past.{open_refusal, vacuum_refusal, part_dropped, vacuumed}
+use Rattle.hlc_core.specs.Past.{Step, Started, Began, Took, Opened, Closed, Vacuumed, PartVacuumed, Joined, horizon}
+use Rattle.hlc_core.specs.Past.{writes, item_rows, IsLegal, item_refusal, open_refusal, vacuum_refusal, part_dropped}
+use Rattle.hlc_core.specs.Past.{vacuumed}
 use Rattle.hlc_core.specs.Stored.{AreLastChanges}
 use Rattle.hlc_witness.specs.declared.witness.Witness.{Witness}
 use Rattle.hlc_replicas.proofs.AlikeLemmas.{AreAlike, alike-itself, alike-started, alike-took, alike-joined}

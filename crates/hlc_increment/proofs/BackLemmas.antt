@@ -1,25 +1,21 @@
 -- An increment of an earlier state that is taken is of the same state: nothing took place between them but vacuums to
 -- the horizon. So what the older checkpoint becomes represents the same past.
 use Rattle.std.proofs.Common.{◌≡◌, ℕ, ◌+◌, ◌<◌, ◌≤◌, List, [], ◌∷◌, ◌++◌, length, Contains, true, false, None, refl, ap}
-use Rattle.std.proofs.Common.{sym, ◌∙◌, subst, inl, inr, arith, not, ltb}
-use Rattle.std.specs.Prelude.{◌==◌, ◌≢◌}
-use Rattle.std.proofs.lemmas.Bool.{cond-true, cases_eq, eq-eqb, lt-ltb}
+use Rattle.std.proofs.Common.{sym, ◌∙◌, subst, inl, inr, arith, not, ltb, ◌==◌, ◌≢◌, eq-eqb, lt-ltb}
+use Rattle.std.proofs.lemmas.{Bool.cond-true, Bool.cases_eq, Option.get_or_from_slice_get, List.Elements.All-contains}
 use Rattle.std.proofs.lemmas.List.Sorted.{Contains-permutation, IsPermutation-sym, length_permutation}
-use Rattle.std.proofs.lemmas.Option.{get_or_from_slice_get}
-use Rattle.std.proofs.lemmas.List.Elements.{All-contains}
 use Rattle.hlc_values.proofs.MemberLemmas.{Contains-first, Contains-rest, Contains-filter, Contains-from_filter}
 use Rattle.hlc_rows.specs.declared.row.Row.{Row}
 use Rattle.hlc_heads.specs.Heads.{link_at, no_link}
-use Rattle.hlc_snapshot.specs.declared.snapshot.Snapshot.{Snapshot}
-use Rattle.hlc_snapshot.specs.RegistryView.{stamp_in}
+use Rattle.hlc_snapshot.specs.{declared.snapshot.Snapshot.Snapshot, RegistryView.stamp_in}
 use Rattle.hlc_snapshot.proofs.RegisterLemmas.{stamp_in-miss}
 use Rattle.hlc_table_column.proofs.FlagLemmas.{filter-IsRowSet}
 use Rattle.hlc_vacuum.proofs.CountLemmas.{same_above}
 use Rattle.hlc_checkpoint.specs.Sorted.{rows_above}
 use Rattle.hlc_checkpoint.proofs.CheckpointLemmas.{row_set-moved}
 use Rattle.hlc_core.specs.Past.{Step, Started, Began, Took, Opened, Closed, Vacuumed, PartVacuumed, Joined}
-use Rattle.hlc_core.specs.Past.{initial_nodes, numbered, count, head, retired, last_id, horizon, open_snapshots}
-use Rattle.hlc_core.specs.Past.{floor, writes, IsLegal}
+use Rattle.hlc_core.specs.Past.{initial_nodes, numbered, count, head, retired, last_id, horizon, open_snapshots, floor}
+use Rattle.hlc_core.specs.Past.{writes, IsLegal}
 use Rattle.hlc_core.specs.StoreView.{StoreView, with_rows, Represents}
 use Rattle.hlc_core.proofs.PastLemmas.{inside}
 use Rattle.hlc_core.proofs.StayLemmas.{nothing-before}

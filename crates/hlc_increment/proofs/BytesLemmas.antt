@@ -1,20 +1,14 @@
 -- An increment is read back from its bytes, and from no others.
-use Rattle.std.proofs.Common.{◌≡◌, ℕ, zero, suc, List, [], ◌∷◌, Result, Ok, Err, ap}
-use Rattle.std.proofs.Common.{subst, ◌∙◌}
-use Rattle.std.specs.Prelude.{IfOk}
-use Rattle.hlc_wire.specs.declared.fault.WireFault.{WireFault}
-use Rattle.hlc_wire.specs.declared.fault.DecodeError.{DecodeError}
+use Rattle.std.proofs.Common.{◌≡◌, ℕ, zero, suc, List, [], ◌∷◌, Result, Ok, Err, ap, subst, ◌∙◌, IfOk}
+use Rattle.hlc_wire.specs.declared.fault.{WireFault.WireFault, DecodeError.DecodeError}
 use Rattle.hlc_wire.specs.Reading.{◌>>=◌, Gives}
 use Rattle.hlc_wire.proofs.FieldLemmas.{IsBytes, bind_ok, ok_is}
 use Rattle.hlc_frame.proofs.FrameLemmas.{opened_is_frame, frame_is_opened}
 use Rattle.hlc_saved.proofs.SaveLemmas.{body_bytes, saved_again, saved_takes}
-use Rattle.hlc_frame.specs.Frame.{frame_bytes, FrameFits}
-use Rattle.hlc_frame.specs.Opening.{opened}
-use Rattle.hlc_body.specs.Spelling.{saved_bytes, SavedFits}
-use Rattle.hlc_body.specs.Reading.{saved}
+use Rattle.hlc_frame.specs.{Frame.frame_bytes, Frame.FrameFits, Opening.opened}
+use Rattle.hlc_body.specs.{Spelling.saved_bytes, Spelling.SavedFits, Reading.saved}
 use Rattle.hlc_core.specs.StoreView.{StoreView}
-use Rattle.hlc_increment.specs.declared.bytes.DecodedIncrement.{DecodedIncrement}
-use Rattle.hlc_increment.specs.Increment.{IncrementView}
+use Rattle.hlc_increment.specs.{declared.bytes.DecodedIncrement.DecodedIncrement, Increment.IncrementView}
 use Rattle.hlc_increment.specs.Bytes.{content_bytes, increment_bytes, IncrementFits, state_at, content_at, increment_at}
 
 -- the increment of a stamp and a state

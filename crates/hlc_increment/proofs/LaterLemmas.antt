@@ -1,11 +1,9 @@
 -- The state of a store later on: no number, head, horizon or id fell, no node that retired came back, and no snapshot
 -- that was closed is open again.
 use Rattle.std.proofs.Common.{◌≡◌, ℕ, ◌+◌, ◌<◌, ◌≤◌, List, [], ◌∷◌, ◌++◌, length, Contains, true, false, refl, ap, sym}
-use Rattle.std.proofs.Common.{◌∙◌, subst, inl, inr, arith, None, not, get_or}
-use Rattle.std.specs.Prelude.{◌==◌}
-use Rattle.std.proofs.lemmas.Bool.{cond-true, cases_eq, eq-eqb}
+use Rattle.std.proofs.Common.{◌∙◌, subst, inl, inr, arith, None, not, get_or, ◌==◌, eq-eqb}
+use Rattle.std.proofs.lemmas.{Bool.cond-true, Bool.cases_eq, Option.get_or_from_slice_get}
 use Rattle.std.proofs.lemmas.List.Elements.{All-contains, Contains-get_or, Contains-push_cases}
-use Rattle.std.proofs.lemmas.Option.{get_or_from_slice_get}
 use Rattle.hlc_values.proofs.MemberLemmas.{Contains-from_filter}
 use Rattle.hlc_node.specs.declared.item.Item.{Item}
 use Rattle.hlc_rows.specs.declared.row.Row.{Row}

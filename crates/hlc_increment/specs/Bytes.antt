@@ -1,12 +1,9 @@
 -- The one encoding of each increment, and reading it.
 use Rattle.std.specs.Prelude.{◌≡◌, ℕ, zero, suc, List, [], ◌∷◌, Result, Ok, Err}
-use Rattle.hlc_wire.specs.declared.fault.WireFault.{WireFault}
-use Rattle.hlc_wire.specs.declared.fault.WireFault.TheVariants.{Short, Kind}
+use Rattle.hlc_wire.specs.declared.fault.WireFault.{WireFault, TheVariants.Short, TheVariants.Kind}
 use Rattle.hlc_wire.specs.Reading.{◌>>=◌}
-use Rattle.hlc_frame.specs.Frame.{frame_bytes, FrameFits}
-use Rattle.hlc_frame.specs.Opening.{opened}
-use Rattle.hlc_body.specs.Spelling.{saved_bytes, SavedFits}
-use Rattle.hlc_body.specs.Reading.{saved}
+use Rattle.hlc_frame.specs.{Frame.frame_bytes, Frame.FrameFits, Opening.opened}
+use Rattle.hlc_body.specs.{Spelling.saved_bytes, Spelling.SavedFits, Reading.saved}
 use Rattle.hlc_saved.specs.Saved.{AreFrame}
 use Rattle.hlc_increment.specs.Increment.{IncrementView}
 

@@ -2,11 +2,10 @@
 use Rattle.std.specs.Prelude.{ℕ, List, ◌++◌, codes}
 use Rattle.hlc_checkpoint.specs.RestoreFaults.{fault_code, fault_text}
 use Rattle.hlc_clock.specs.Stamp.{stamp_text}
-use Rattle.hlc_increment.specs.declared.increment.IncrementFault.{IncrementFault}
-use Rattle.hlc_increment.specs.declared.increment.IncrementFault.TheVariants as increments
-use Rattle.hlc_increment.specs.declared.advancing.AdvanceFault.{AdvanceFault}
+use Rattle.hlc_increment.specs.declared.{increment.IncrementFault.IncrementFault, advancing.AdvanceFault.AdvanceFault}
 use Rattle.hlc_increment.specs.declared.advancing.AdvanceFault.TheVariants.{Parts, NotLater, AboveFloor, BelowHorizon}
 use Rattle.hlc_increment.specs.declared.advancing.AdvanceFault.TheVariants.{RowUpToStamp}
+use Rattle.hlc_increment.specs.declared.increment.IncrementFault.TheVariants as increments
 
 -- the number of a refusal
 abbrev pub increment_code : IncrementFault → ℕ

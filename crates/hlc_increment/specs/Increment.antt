@@ -1,6 +1,5 @@
 -- An increment of a store: its state without the rows at or below a stamp; and what an older checkpoint becomes by it.
-use Rattle.std.specs.Prelude.{◌≡◌, ℕ, ◌<◌, ◌≤◌, ◌⊎◌, List, [], ◌∷◌, ◌++◌, All, Contains, IsTrue, length}
-use Rattle.std.specs.List.Sorted.{IsPermutation}
+use Rattle.std.specs.Prelude.{◌≡◌, ℕ, ◌<◌, ◌≤◌, ◌⊎◌, List, [], ◌∷◌, ◌++◌, All, Contains, IsTrue, length, IsPermutation}
 use Rattle.hlc_intake.specs.IntakeView.{IntakeView}
 use Rattle.hlc_heads.specs.Heads.{link_at}
 use Rattle.hlc_snapshot.specs.declared.snapshot.Snapshot.{Snapshot}
@@ -9,11 +8,10 @@ use Rattle.hlc_witness.specs.Certificate.{RowsAscend}
 use Rattle.hlc_core.specs.Past.{Step, Started, Began, Took, Opened, Closed, Vacuumed, Joined, PartVacuumed}
 use Rattle.hlc_core.specs.StoreView.{StoreView, with_rows}
 use Rattle.hlc_core.specs.Checkpoint.{IsCheckpoint, IsCopyAbove, IsFirstReason, floor_in}
-use Rattle.hlc_increment.specs.declared.increment.IncrementFault.{IncrementFault}
-use Rattle.hlc_increment.specs.declared.increment.IncrementFault.TheVariants as increments
-use Rattle.hlc_increment.specs.declared.advancing.AdvanceFault.{AdvanceFault}
+use Rattle.hlc_increment.specs.declared.{increment.IncrementFault.IncrementFault, advancing.AdvanceFault.AdvanceFault}
 use Rattle.hlc_increment.specs.declared.advancing.AdvanceFault.TheVariants.{Parts, NotLater, AboveFloor, BelowHorizon}
 use Rattle.hlc_increment.specs.declared.advancing.AdvanceFault.TheVariants.{RowUpToStamp}
+use Rattle.hlc_increment.specs.declared.increment.IncrementFault.TheVariants as increments
 
 -- the stamp, and the state of a store with its rows above that alone
 pub record IncrementView : Type 0 where

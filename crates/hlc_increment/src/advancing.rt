@@ -1,14 +1,11 @@
 //! An older checkpoint that becomes a newer one by an increment.
-ghost use Rattle.std.specs.Prelude.{◌≡◌, ◌<◌, ◌++◌, ◌↔◌, All, IfOk, IfErr, OnOk, OnErr, IfSome, IsTrue, List};
-ghost use Rattle.std.specs.Prelude.{None};
+ghost use Rattle.std.specs.Prelude.{◌≡◌, ◌<◌, ◌++◌, ◌↔◌, All, IfOk, IfErr, OnOk, OnErr, IfSome, IsTrue, List, None};
 ghost use Rattle.std.specs.List.Sorted.{IsPermutation};
 ghost use Rattle.hlc_table_column.specs.Rows.{rows_to};
 ghost use Rattle.hlc_witness.specs.Certificate.{RowsAscend};
-ghost use Rattle.hlc_core.specs.Past.{Step, floor};
-ghost use Rattle.hlc_core.specs.Checkpoint.{IsCheckpoint};
+ghost use Rattle.hlc_core.specs.{Past.Step, Past.floor, Checkpoint.IsCheckpoint};
 ghost use Rattle.hlc_core.specs.StoreView.{StoreView, Represents};
-ghost use Rattle.hlc_increment.specs.Increment.{AreFitting, IsAdvanced, IsIncrementOf, IsReason};
-ghost use Rattle.hlc_increment.specs.Increment.{without_drops};
+ghost use Rattle.hlc_increment.specs.Increment.{AreFitting, IsAdvanced, IsIncrementOf, IsReason, without_drops};
 ghost use Rattle.hlc_increment.specs.Faults.{advance_code, advance_word};
 
 use crate::increment::Increment;

@@ -3,10 +3,9 @@ ghost use Rattle.std.specs.Prelude.{◌≡◌, ◌∷◌, ℕ, List, IfOk, IfErr
 ghost use Rattle.hlc_frame.specs.Frame.{frame_bytes, FrameFits};
 ghost use Rattle.hlc_wire.specs.Reading.{Gives};
 ghost use Rattle.hlc_core.specs.Checkpoint.{IsCheckpoint, IsFirstReason};
-ghost use Rattle.hlc_increment.specs.Increment.{IncrementView};
+ghost use Rattle.hlc_increment.specs.{Increment.IncrementView, Bytes.IncrementFits, Bytes.AreFrames, Bytes.content_at};
+ghost use Rattle.hlc_increment.specs.{Bytes.increment_at, Bytes.increment_bytes, Bytes.state_at};
 ghost use Rattle.hlc_saved.specs.Saved.{AreFrame};
-ghost use Rattle.hlc_increment.specs.Bytes.{IncrementFits, AreFrames, content_at, increment_at, increment_bytes};
-ghost use Rattle.hlc_increment.specs.Bytes.{state_at};
 
 use crate::increment::Increment;
 use hlc_core::{RestoreFault, Stamp};

@@ -5,9 +5,8 @@ use Rattle.hlc_core.specs.Past.{floor}
 use Rattle.hlc_replicas.proofs.AlikeLemmas.{floors-alike}
 use Rattle.hlc_core.proofs.CheckpointLemmas.{floor-in}
 use Rattle.hlc_increment.specs.Increment.{AreFitting, IsAdvanced, without_drops}
-use Rattle.hlc_increment.proofs.AgreeLemmas.{drops-agree}
+use Rattle.hlc_increment.proofs.{AgreeLemmas.drops-agree, BackLemmas.same-represents}
 use Rattle.hlc_increment.proofs.AdvanceLemmas.{advanced-represents, chained-represents, fits-unless_above}
-use Rattle.hlc_increment.proofs.BackLemmas.{same-represents}
 use Rattle.hlc_increment.proofs.advancing.advance.Goals as goal
 
 pub returns-clause-represents : goal.returns-clause-represents

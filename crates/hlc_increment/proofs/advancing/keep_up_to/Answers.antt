@@ -1,6 +1,5 @@
 -- The closure compares a row's stamp.
-use Rattle.std.proofs.Common.{leb, rules}
-use Rattle.std.proofs.lemmas.Fn.{filter_same}
+use Rattle.std.proofs.{Common.leb, Common.rules, lemmas.Fn.filter_same}
 use Rattle.hlc_rows.specs.declared.row.Row.{Row}
 use Rattle.hlc_increment.proofs.advancing.keep_up_to.Goals as goal
 

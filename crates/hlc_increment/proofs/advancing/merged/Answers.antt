@@ -1,7 +1,6 @@
 -- The rows up to the stamp, with those above it, are a row set.
 use Rattle.std.proofs.Common.{◌++◌, ◌∙◌, ap, sym, subst, List, IsPermutation}
-use Rattle.hlc_rows.specs.declared.row.Row.{Row}
-use Rattle.hlc_rows.specs.Rows.{IsRowSet}
+use Rattle.hlc_rows.specs.{declared.row.Row.Row, Rows.IsRowSet}
 use Rattle.hlc_increment.proofs.AdvanceLemmas.{merged-row_set}
 use Rattle.hlc_increment.proofs.advancing.merged.Goals as goal
 

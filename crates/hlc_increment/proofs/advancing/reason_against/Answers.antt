@@ -1,6 +1,5 @@
 -- The state of the increment is no checkpoint, but the older one is one.
-use Rattle.std.proofs.Common.{inr, subst, rules}
-use Rattle.std.proofs.lemmas.Grind.{common_steps}
+use Rattle.std.proofs.{Common.inr, Common.subst, Common.rules, lemmas.Grind.common_steps}
 use Rattle.hlc_core.specs.Checkpoint.{IsCheckpoint, IsFirstReason}
 use Rattle.hlc_increment.proofs.advancing.reason_against.Goals as goal
 

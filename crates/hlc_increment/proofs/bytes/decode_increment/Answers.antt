@@ -1,8 +1,7 @@
 -- All of the bytes are read back.
 use Rattle.std.proofs.Common.{ap, subst, ◌∙◌, arith}
 use Rattle.hlc_wire.specs.Reading.{Gives}
-use Rattle.hlc_increment.specs.declared.bytes.DecodedIncrement.{DecodedIncrement}
-use Rattle.hlc_increment.specs.Bytes.{increment_at}
+use Rattle.hlc_increment.specs.{declared.bytes.DecodedIncrement.DecodedIncrement, Bytes.increment_at}
 use Rattle.hlc_increment.proofs.BytesLemmas.{found, increment_again}
 use Rattle.hlc_increment.proofs.bytes.decode_increment.Goals as goal
 

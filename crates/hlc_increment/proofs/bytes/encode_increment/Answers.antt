@@ -1,6 +1,5 @@
 -- The state that was refused is the increment's.
-use Rattle.std.proofs.Common.{subst}
-use Rattle.std.specs.Prelude.{IfErr}
+use Rattle.std.{proofs.Common.subst, specs.Prelude.IfErr}
 use Rattle.hlc_core.specs.Checkpoint.{IsFirstReason}
 use Rattle.hlc_increment.proofs.bytes.encode_increment.Goals as goal
 

@@ -1,7 +1,6 @@
 -- One more was not closed; and at the end none was.
 use Rattle.std.proofs.Common.{All, arith, refl, subst}
-use Rattle.std.proofs.lemmas.List.{take_all}
-use Rattle.std.proofs.lemmas.List.Elements.{All-more}
+use Rattle.std.proofs.lemmas.List.{take_all, Elements.All-more}
 use Rattle.hlc_increment.specs.Increment.{IsOpenOrNew}
 use Rattle.hlc_increment.proofs.later.are_open_or_new.Goals as goal
 

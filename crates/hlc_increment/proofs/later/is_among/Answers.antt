@@ -1,9 +1,7 @@
 -- `==` decides whether two snapshots are the same.
 use Rattle.std.proofs.Common.{◌≡◌, ℕ, ap, ◌∙◌, arith}
-use Rattle.std.proofs.lemmas.Bool.Decides.{nat_tests}
-use Rattle.std.proofs.lemmas.List.Elements.{contains_decides, Decides-contains}
-use Rattle.hlc_snapshot.specs.declared.snapshot.Snapshot.{Snapshot}
-use Rattle.hlc_snapshot.specs.contracts.snapshot.SnapshotPartialEq.TheImpl.{ghosts}
+use Rattle.std.proofs.lemmas.{Bool.Decides.nat_tests, List.Elements.contains_decides, List.Elements.Decides-contains}
+use Rattle.hlc_snapshot.specs.{declared.snapshot.Snapshot.Snapshot, contracts.snapshot.SnapshotPartialEq.TheImpl.ghosts}
 use Rattle.hlc_increment.proofs.later.is_among.Goals as goal
 
 abbrev snapshot : ℕ → ℕ → Snapshot
