@@ -24,7 +24,7 @@ use Rattle.hlc_witness.specs.Certificate.{RowsAscend}
 use Rattle.hlc_witness.proofs.CertificateLemmas.{ascending_rows_are_a_row_set}
 use Rattle.hlc_checkpoint.specs.Sorted.{rows_above}
 use Rattle.hlc_checkpoint.proofs.CheckpointLemmas.{row_set-moved, sound-has_no_reason}
-use Rattle.hlc_core.specs.Past.{Step, Started, Began, Took, Opened, Closed, Vacuumed, PartVacuumed, Joined, floor}
+use Rattle.hlc_core.specs.Past.{Step, Began, Took, Opened, Closed, Joined, floor}
 use Rattle.hlc_core.specs.Past.{horizon, vacuumed, initial_nodes, part_dropped, last_id, open_snapshots, writes}
 use Rattle.hlc_core.specs.Past.{item_rows, body_rows, IsLegal}
 use Rattle.hlc_core.specs.StoreView.{StoreView, with_rows, Represents}
@@ -45,14 +45,9 @@ writes-kept : (past more : List Step) (row : Row) → Contains (writes past) row
 writes-kept past [] row m = m
 writes-kept past (Took item ∷ more) row m =
     Contains-append_left (writes (more ++ past)) (item_rows item) row (writes-kept past more row m)
-writes-kept past (Opened stamp ∷ more) row m = writes-kept past more row m
-writes-kept past (Started nodes ∷ more) row m = writes-kept past more row m
 writes-kept past (Began kept ∷ more) row m =
     Contains-append_left (writes (more ++ past)) kept.rows row (writes-kept past more row m)
-writes-kept past (Closed id ∷ more) row m = writes-kept past more row m
-writes-kept past (Vacuumed at ∷ more) row m = writes-kept past more row m
-writes-kept past (PartVacuumed at dropped ∷ more) row m = writes-kept past more row m
-writes-kept past (Joined node start ∷ more) row m = writes-kept past more row m
+writes-kept past (step ∷ more) row m = writes-kept past more row m
 
 -- an item that is accepted later is above the floor
 later-above : (past more : List Step) (item : Item) → IsLegal (Took item ∷ (more ++ past))
@@ -72,17 +67,12 @@ writes-before past (Took item ∷ more) row legal m low =
           (body_rows-are item.node item.stamp item.body row new).1 in
           let up = later-above past more item legal in omega (arith, at, up))
     ]
-writes-before past (Opened stamp ∷ more) row legal m low = writes-before past more row legal.1 m low
-writes-before past (Started nodes ∷ more) row legal m low = writes-before past more row legal.1 m low
 writes-before past (Began kept ∷ more) row legal m low =
     absurd (let none : floor past ≡ 0 = ap floor (nothing-before more past legal.0) in
     let up : 0 < row.stamp = positive (Began kept ∷ (more ++ past)) legal row m in omega (arith, none, up, low))
-writes-before past (Closed id ∷ more) row legal m low = writes-before past more row legal.1 m low
-writes-before past (Vacuumed at ∷ more) row legal m low = writes-before past more row legal.1 m low
-writes-before past (PartVacuumed at dropped ∷ more) row legal m low =
-    writes-before past more row legal.1 m low
 writes-before past (Joined node start ∷ more) row legal m low =
     writes-before past more row legal.3 m low
+writes-before past (step ∷ more) row legal m low = writes-before past more row legal.1 m low
 
 -- the rows of a batch have its stamp
 batch-above : (low high node at : ℕ) (writes : List AWrite) → high < at
@@ -117,10 +107,6 @@ between-stays past (Took item ∷ more) low high legal under =
     let both = ap length (filter-append is_in (writes (more ++ past)) (item_rows item))
     ∙ length-append (filter is_in (writes (more ++ past))) (filter is_in (item_rows item)) in
     omega (arith, old, none, both)
-between-stays past (Opened stamp ∷ more) low high legal under =
-    between-stays past more low high legal.1 under
-between-stays past (Started nodes ∷ more) low high legal under =
-    between-stays past more low high legal.1 under
 between-stays past (Began kept ∷ more) low high legal under =
     let none : floor past ≡ 0 = ap floor (nothing-before more past legal.0) in
     let old = between-stays past more low high legal.1 under in
@@ -130,14 +116,9 @@ between-stays past (Began kept ∷ more) low high legal under =
     let both = ap length (filter-append is_in (writes (more ++ past)) kept.rows)
     ∙ length-append (filter is_in (writes (more ++ past))) (filter is_in kept.rows) in
     omega (arith, old, new, both)
-between-stays past (Closed id ∷ more) low high legal under =
-    between-stays past more low high legal.1 under
-between-stays past (Vacuumed at ∷ more) low high legal under =
-    between-stays past more low high legal.1 under
-between-stays past (PartVacuumed at dropped ∷ more) low high legal under =
-    between-stays past more low high legal.1 under
 between-stays past (Joined node start ∷ more) low high legal under =
     between-stays past more low high legal.3 under
+between-stays past (step ∷ more) low high legal under = between-stays past more low high legal.1 under
 
 -- a snapshot below the horizon was open before
 stamps-push : (snapshots : List Snapshot) (new : Snapshot) (stamp : ℕ) → Contains (stamps (snapshots ++ new ∷ [])) stamp
@@ -181,17 +162,13 @@ open-before past (Opened at ∷ more) stamp legal m low =
           let grown = horizon-grows past more legal.1 in
           let e : at ≡ stamp = new in omega (arith, grown))
     ]
-open-before past (Started nodes ∷ more) stamp legal m low = open-before past more stamp legal.1 m low
 open-before past (Began kept ∷ more) stamp legal m low =
     absurd (let none : horizon past ≡ 0 = ap horizon (nothing-before more past legal.0) in omega (arith, none, low))
 open-before past (Closed id ∷ more) stamp legal m low =
     open-before past more stamp legal.1 (stamps-without id (open_snapshots (more ++ past)) stamp m) low
-open-before past (Took item ∷ more) stamp legal m low = open-before past more stamp legal.1 m low
-open-before past (Vacuumed at ∷ more) stamp legal m low = open-before past more stamp legal.1 m low
-open-before past (PartVacuumed at dropped ∷ more) stamp legal m low =
-    open-before past more stamp legal.1 m low
 open-before past (Joined node start ∷ more) stamp legal m low =
     open-before past more stamp legal.3 m low
+open-before past (step ∷ more) stamp legal m low = open-before past more stamp legal.1 m low
 
 -- two row sets that have no version in common are one
 both-row_set : (rows more : List Row) → IsRowSet rows → IsRowSet more

@@ -124,46 +124,24 @@ drops-legal (Joined node start ∷ more) past legal = (
 -- the number of rows that should be stored counts on from the last whole vacuum before
 pub drops-part_nothing : (more past : List Step) → part_dropped (without_drops more ++ past) ≡ part_dropped past
 drops-part_nothing [] past = refl
-drops-part_nothing (Took item ∷ more) past = drops-part_nothing more past
-drops-part_nothing (Opened stamp ∷ more) past = drops-part_nothing more past
-drops-part_nothing (Started nodes ∷ more) past = drops-part_nothing more past
-drops-part_nothing (Began kept ∷ more) past = drops-part_nothing more past
-drops-part_nothing (Closed id ∷ more) past = drops-part_nothing more past
 drops-part_nothing (Vacuumed at ∷ more) past = (let h = drops-part_nothing more past in omega (arith, h))
 drops-part_nothing (PartVacuumed at dropped ∷ more) past = (let h = drops-part_nothing more past in omega (arith, h))
-drops-part_nothing (Joined node start ∷ more) past = drops-part_nothing more past
+drops-part_nothing (step ∷ more) past = drops-part_nothing more past
 
 pub drops-vacuumed : (more past : List Step) → vacuumed (without_drops more ++ past) ≡ vacuumed past
 drops-vacuumed [] past = refl
-drops-vacuumed (Took item ∷ more) past = drops-vacuumed more past
-drops-vacuumed (Opened stamp ∷ more) past = drops-vacuumed more past
-drops-vacuumed (Started nodes ∷ more) past = drops-vacuumed more past
-drops-vacuumed (Began kept ∷ more) past = drops-vacuumed more past
-drops-vacuumed (Closed id ∷ more) past = drops-vacuumed more past
 drops-vacuumed (Vacuumed at ∷ more) past = drops-vacuumed more past
-drops-vacuumed (PartVacuumed at dropped ∷ more) past = drops-vacuumed more past
-drops-vacuumed (Joined node start ∷ more) past = drops-vacuumed more past
+drops-vacuumed (step ∷ more) past = drops-vacuumed more past
 
 pub drops-last_changes : (more past : List Step) (changes : List Witness) → AreLastChanges past changes
     → AreLastChanges (without_drops more ++ past) changes
 drops-last_changes [] past changes are = are
-drops-last_changes (Took item ∷ more) past changes are = drops-last_changes more past changes are
-drops-last_changes (Opened stamp ∷ more) past changes are = drops-last_changes more past changes are
-drops-last_changes (Started nodes ∷ more) past changes are = drops-last_changes more past changes are
-drops-last_changes (Began kept ∷ more) past changes are = drops-last_changes more past changes are
-drops-last_changes (Closed id ∷ more) past changes are = drops-last_changes more past changes are
 drops-last_changes (Vacuumed at ∷ more) past changes are = drops-last_changes more past changes are
-drops-last_changes (PartVacuumed at dropped ∷ more) past changes are = drops-last_changes more past changes are
-drops-last_changes (Joined node start ∷ more) past changes are = drops-last_changes more past changes are
+drops-last_changes (step ∷ more) past changes are = drops-last_changes more past changes are
 
 pub drops-append : (more past : List Step) → without_drops (more ++ past) ≡ without_drops more ++ without_drops past
 drops-append [] past = refl
-drops-append (Took item ∷ more) past = ap (λ (p : List Step). Took item ∷ p) (drops-append more past)
-drops-append (Opened stamp ∷ more) past = ap (λ (p : List Step). Opened stamp ∷ p) (drops-append more past)
-drops-append (Started nodes ∷ more) past = ap (λ (p : List Step). Started nodes ∷ p) (drops-append more past)
-drops-append (Began kept ∷ more) past = ap (λ (p : List Step). Began kept ∷ p) (drops-append more past)
-drops-append (Closed id ∷ more) past = ap (λ (p : List Step). Closed id ∷ p) (drops-append more past)
 drops-append (Vacuumed at ∷ more) past = ap (λ (p : List Step). PartVacuumed at 0 ∷ p) (drops-append more past)
 drops-append (PartVacuumed at dropped ∷ more) past =
     ap (λ (p : List Step). PartVacuumed at 0 ∷ p) (drops-append more past)
-drops-append (Joined node start ∷ more) past = ap (λ (p : List Step). Joined node start ∷ p) (drops-append more past)
+drops-append (step ∷ more) past = ap (λ (p : List Step). step ∷ p) (drops-append more past)

@@ -23,13 +23,9 @@ use Rattle.hlc_increment.specs.Increment.{IsLaterLink, AreLaterLinks, MayBeLater
 pub horizon-grows : (past more : List Step) → IsLegal (more ++ past)
     → horizon past ≤ horizon (more ++ past)
 horizon-grows past [] legal = omega arith
-horizon-grows past (Took item ∷ more) legal = horizon-grows past more legal.1
-horizon-grows past (Opened stamp ∷ more) legal = horizon-grows past more legal.1
-horizon-grows past (Started nodes ∷ more) legal = horizon-grows past more legal.1
 horizon-grows past (Began kept ∷ more) legal =
     let none : horizon past ≡ 0 = ap horizon (nothing-before more past legal.0) in
     let goal : horizon past ≤ kept.horizon = omega (arith, none) in goal
-horizon-grows past (Closed id ∷ more) legal = horizon-grows past more legal.1
 horizon-grows past (Vacuumed at ∷ more) legal =
     let before = horizon-grows past more legal.1 in
     let up : horizon (more ++ past) ≤ at = vacuum-above (more ++ past) at legal.0 in omega (arith, before)
@@ -37,52 +33,41 @@ horizon-grows past (PartVacuumed at dropped ∷ more) legal =
     let before = horizon-grows past more legal.1 in
     let up : horizon (more ++ past) ≤ at = vacuum-above (more ++ past) at legal.0 in omega (arith, before)
 horizon-grows past (Joined node start ∷ more) legal = horizon-grows past more legal.3
+horizon-grows past (step ∷ more) legal = horizon-grows past more legal.1
 
 -- the numbers of nodes are not assigned again
 pub numbered-grows : (past more : List Step) → IsLegal (more ++ past) → numbered past ≤ numbered (more ++ past)
 numbered-grows past [] legal = omega arith
-numbered-grows past (Took item ∷ more) legal = numbered-grows past more legal.1
-numbered-grows past (Opened stamp ∷ more) legal = numbered-grows past more legal.1
 numbered-grows past (Started nodes ∷ more) legal = (let h = numbered-grows past more legal.1 in omega (arith, h))
 numbered-grows past (Began kept ∷ more) legal =
     let none : numbered past ≡ 0 = ap numbered (nothing-before more past legal.0) in
     let goal : numbered past ≤ length kept.links = omega (arith, none) in goal
-numbered-grows past (Closed id ∷ more) legal = numbered-grows past more legal.1
-numbered-grows past (Vacuumed at ∷ more) legal = numbered-grows past more legal.1
-numbered-grows past (PartVacuumed at dropped ∷ more) legal = numbered-grows past more legal.1
 numbered-grows past (Joined node start ∷ more) legal =
     (let h = numbered-grows past more legal.3 in omega (arith, h))
+numbered-grows past (step ∷ more) legal = numbered-grows past more legal.1
 
 -- and so is the number of those at the start
 pub initial_nodes-stay : (past more : List Step) → 0 < initial_nodes past → IsLegal (more ++ past)
     → initial_nodes (more ++ past) ≡ initial_nodes past
 initial_nodes-stay past [] some legal = refl
-initial_nodes-stay past (Took item ∷ more) some legal = initial_nodes-stay past more some legal.1
-initial_nodes-stay past (Opened stamp ∷ more) some legal = initial_nodes-stay past more some legal.1
 initial_nodes-stay past (Started nodes ∷ more) some legal =
     absurd (let none : initial_nodes (more ++ past) ≡ 0 = ap initial_nodes legal.0 in
     let same = initial_nodes-stay past more some legal.1 in omega (arith, some, none, same))
 initial_nodes-stay past (Began kept ∷ more) some legal =
     absurd (let none : initial_nodes past ≡ 0 = ap initial_nodes (nothing-before more past legal.0) in
     omega (arith, some, none))
-initial_nodes-stay past (Closed id ∷ more) some legal = initial_nodes-stay past more some legal.1
-initial_nodes-stay past (Vacuumed at ∷ more) some legal = initial_nodes-stay past more some legal.1
-initial_nodes-stay past (PartVacuumed at dropped ∷ more) some legal = initial_nodes-stay past more some legal.1
 initial_nodes-stay past (Joined node start ∷ more) some legal = initial_nodes-stay past more some legal.3
+initial_nodes-stay past (step ∷ more) some legal = initial_nodes-stay past more some legal.1
 
 -- nor do the ids of snapshots fall
 pub last_id-grows : (past more : List Step) → IsLegal (more ++ past) → last_id past ≤ last_id (more ++ past)
 last_id-grows past [] legal = omega arith
-last_id-grows past (Took item ∷ more) legal = last_id-grows past more legal.1
 last_id-grows past (Opened stamp ∷ more) legal = (let h = last_id-grows past more legal.1 in omega (arith, h))
-last_id-grows past (Started nodes ∷ more) legal = last_id-grows past more legal.1
 last_id-grows past (Began kept ∷ more) legal =
     let none : last_id past ≡ 0 = ap last_id (nothing-before more past legal.0) in
     let goal : last_id past ≤ kept.last_id = omega (arith, none) in goal
-last_id-grows past (Closed id ∷ more) legal = last_id-grows past more legal.1
-last_id-grows past (Vacuumed at ∷ more) legal = last_id-grows past more legal.1
-last_id-grows past (PartVacuumed at dropped ∷ more) legal = last_id-grows past more legal.1
 last_id-grows past (Joined node start ∷ more) legal = last_id-grows past more legal.3
+last_id-grows past (step ∷ more) legal = last_id-grows past more legal.1
 
 -- what a past says of the link of a node
 abbrev pub link_of : ℕ → List Step → IntakeView
@@ -130,14 +115,9 @@ link-goes_on past [] n legal within = link-stays n past
 link-goes_on past (Took item ∷ more) n legal within =
     link-goes_further (link_of n past) (link_of n (more ++ past)) (link_of n (Took item ∷ (more ++ past)))
     (link-goes_on past more n legal.1 within) (took-goes_on (more ++ past) item n legal.0)
-link-goes_on past (Opened stamp ∷ more) n legal within = link-goes_on past more n legal.1 within
-link-goes_on past (Started nodes ∷ more) n legal within = link-goes_on past more n legal.1 within
 link-goes_on past (Began kept ∷ more) n legal within =
     absurd (let none : numbered past ≡ 0 = ap numbered (nothing-before more past legal.0) in
     omega (arith, within, none))
-link-goes_on past (Closed id ∷ more) n legal within = link-goes_on past more n legal.1 within
-link-goes_on past (Vacuumed at ∷ more) n legal within = link-goes_on past more n legal.1 within
-link-goes_on past (PartVacuumed at dropped ∷ more) n legal within = link-goes_on past more n legal.1 within
 link-goes_on past (Joined node start ∷ more) n legal within =
     let was = link-goes_on past more n legal.3 within in
     let grown = numbered-grows past more legal.3 in
@@ -148,6 +128,7 @@ link-goes_on past (Joined node start ∷ more) n legal within =
       head = (let up = was.head in omega (arith, up, last));
       retired = was.retired;
     }
+link-goes_on past (step ∷ more) n legal within = link-goes_on past more n legal.1 within
 
 links-go_on : (older newer : List IntakeView) (past more : List Step) → IsLegal (more ++ past)
     → AreLinks past older → AreLinks (more ++ past) newer → AreLaterLinks older newer
@@ -181,7 +162,6 @@ opened-before past (Opened at ∷ more) snapshot legal m low =
           let e : last_id (more ++ past) + 1 ≡ snapshot.id = ap (λ (s : Snapshot). s.id) same in
           omega (arith, grown, e, low))
     ]
-opened-before past (Started nodes ∷ more) snapshot legal m low = opened-before past more snapshot legal.1 m low
 opened-before past (Began kept ∷ more) snapshot legal m low =
     absurd (let none : last_id past ≡ 0 = ap last_id (nothing-before more past legal.0) in
     let first = (All-contains (λ (s : Snapshot). (0 < s.id) × (s.id ≤ kept.last_id)) kept.snapshots snapshot
@@ -189,11 +169,8 @@ opened-before past (Began kept ∷ more) snapshot legal m low =
 opened-before past (Closed id ∷ more) snapshot legal m low =
     opened-before past more snapshot legal.1
     (Contains-from_filter (λ (s : Snapshot). not (s.id == id)) (open_snapshots (more ++ past)) snapshot m).0 low
-opened-before past (Took item ∷ more) snapshot legal m low = opened-before past more snapshot legal.1 m low
-opened-before past (Vacuumed at ∷ more) snapshot legal m low = opened-before past more snapshot legal.1 m low
-opened-before past (PartVacuumed at dropped ∷ more) snapshot legal m low =
-    opened-before past more snapshot legal.1 m low
 opened-before past (Joined node start ∷ more) snapshot legal m low = opened-before past more snapshot legal.3 m low
+opened-before past (step ∷ more) snapshot legal m low = opened-before past more snapshot legal.1 m low
 
 -- so what a store becomes may be later than what it was, whatever rows are listed with it
 pub later-goes_on : (older newer : StoreView) (rows : List Row) (past more : List Step) → Represents older past
