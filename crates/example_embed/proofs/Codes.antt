@@ -1,6 +1,5 @@
 -- The number of a refusal is that of the first reason, or 15.
-use Rattle.std.proofs.Common.{ap, inl, inr, refl, subst, sym}
-use Rattle.std.specs.Prelude.{Option}
+use Rattle.std.proofs.Common.{ap, inl, inr, refl, subst, sym, Option}
 use Rattle.hlc.specs.Store.{IsRefusal, core_code, CoreFault}
 use Rattle.example_embed.specs.Fed.{IsCodeOf}
 

@@ -1,9 +1,8 @@
 -- What the program prints about a store that represents what took place.
 use Rattle.std.specs.Prelude.{◌≡◌, ℕ, List, ◌∷◌, ◌++◌, codes, Option, Some, None}
 use Rattle.hlc.specs.Certificate.{Witness, AreChanges, ShownView, certificate_text, IsAnsweredFewest}
-use Rattle.hlc.specs.Node.{Row, answer}
+use Rattle.hlc.specs.{Node.Row, Node.answer, Text.stamp_text, Text.Watched, Text.bytes_token, Text.printed, Text.Writes}
 use Rattle.hlc.specs.Store.{Step, Vacuumed, floor, writes, StoreView, Represents, AreVacuumPoints, AreRowsTo}
-use Rattle.hlc.specs.Text.{stamp_text, Watched, bytes_token, printed, Writes}
 
 -- a value, or that there is none, after a space
 abbrev pub value_text : Option (List ℕ) → List ℕ

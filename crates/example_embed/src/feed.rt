@@ -1,8 +1,7 @@
 //! How the items of a node reach the store: the node stamps an item, and the store accepts it over the node's link. In
 //! a database a replicated log between the two stores the items.
 ghost use Rattle.std.specs.Prelude.{List, IfOk, Some};
-ghost use Rattle.hlc.specs.Node.{Write as a_write, Report as a_report};
-ghost use Rattle.hlc.specs.Store.{Step, Represents};
+ghost use Rattle.hlc.specs.{Node.Write as a_write, Node.Report as a_report, Store.Step, Store.Represents};
 ghost use Rattle.example_embed.specs.Fed.{Feeds, RepresentsSome};
 
 use crate::stopped::Stopped;

@@ -1,7 +1,6 @@
 //! What a reader sees in its snapshot, as a line.
 ghost use Rattle.std.specs.Prelude.{◌≡◌, List, IfOk, OnErr, Some, None, option_copied};
-ghost use Rattle.hlc.specs.Store.{Step, stamp_of, Represents};
-ghost use Rattle.hlc.specs.Text.{Prints, printed};
+ghost use Rattle.hlc.specs.{Store.Step, Store.stamp_of, Store.Represents, Text.Prints, Text.printed};
 ghost use Rattle.example_embed.specs.Printed.{read_line, read_text, value_text};
 
 use hlc::certificate::Printer;

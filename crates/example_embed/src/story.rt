@@ -1,7 +1,6 @@
 //! The whole story: two nodes write, the store is read in two snapshots, and a vacuum is certified.
 ghost use Rattle.std.specs.Prelude.{◌≡◌, IfOk};
-ghost use Rattle.example_embed.specs.Fed.{RepresentsSome};
-ghost use Rattle.example_embed.specs.Printed.{PrintsStory};
+ghost use Rattle.example_embed.specs.{Fed.RepresentsSome, Printed.PrintsStory};
 
 use crate::feed::{report, write};
 use crate::reads::put_read;

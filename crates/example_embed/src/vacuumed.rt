@@ -1,8 +1,7 @@
 //! A vacuum whose certificate is printed, so that anybody can check that it left the fewest rows.
 ghost use Rattle.std.specs.Prelude.{◌≡◌, ◌∷◌, ℕ, List, IfOk, IfErr, IsOk};
 ghost use Rattle.hlc.specs.Certificate.{IsCertificate, certificate_text, IsAnsweredFewest};
-ghost use Rattle.hlc.specs.Store.{Step, Vacuumed, floor, Represents};
-ghost use Rattle.hlc.specs.Text.{Prints};
+ghost use Rattle.hlc.specs.{Store.Step, Store.Vacuumed, Store.floor, Store.Represents, Text.Prints};
 ghost use Rattle.example_embed.specs.Printed.{Certifies};
 
 use crate::stopped::Stopped;

@@ -1,7 +1,6 @@
 -- Where the bytes of a key or a value are stored.
 use Rattle.std.specs.Prelude.{ℕ, List, Option, Some, None}
-use Rattle.hlc_bytes.specs.declared.bytes.Storage.{Storage}
-use Rattle.hlc_bytes.specs.declared.bytes.Storage.TheVariants.{Here, There}
+use Rattle.hlc_bytes.specs.declared.bytes.Storage.{Storage, TheVariants.Here, TheVariants.There}
 use Rattle.hlc_bytes.specs.declared.mark.StorageOrMark.{StorageOrMark}
 use Rattle.hlc_bytes.specs.declared.mark.StorageOrMark.TheVariants as marked
 

@@ -1,11 +1,8 @@
 //! A key or a value.
 ghost use Rattle.std.specs.Prelude.{◌≡◌, ◌==◌, ◌<◌, ◌≤◌, ◌^◌, ℕ, length, option_copied, IsOk, IfOk, MatchResult};
-ghost use Rattle.std.proofs.Common.{rules};
-ghost use Rattle.std.specs.Cmp.Rules.{comparing};
-ghost use Rattle.std.specs.Cmp.Lexicographic.{lists_per, lists_equiv};
-ghost use Rattle.std.specs.Iterator.Runs.{EveryRun, ItemsMapTo};
-ghost use Rattle.std.specs.Slice.Iter.{iter_rest, iter_steps};
-ghost use Rattle.std.specs.Str.{bytes_eq};
+ghost use Rattle.std.{proofs.Common.rules, specs.Iterator.Runs.EveryRun, specs.Iterator.Runs.ItemsMapTo};
+ghost use Rattle.std.specs.Cmp.{Rules.comparing, Lexicographic.lists_per, Lexicographic.lists_equiv};
+ghost use Rattle.std.specs.{Slice.Iter.iter_rest, Slice.Iter.iter_steps, Str.bytes_eq};
 ghost use Rattle.hlc_bytes.specs.Storage.{bytes_of};
 
 use crate::short::{MAX_SHORT_BYTES, Short};

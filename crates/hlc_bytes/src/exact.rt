@@ -1,7 +1,5 @@
 //! `==` of bytes is true exactly on equal values, and each copy is equal.
-ghost use Rattle.std.proofs.Common.{rules};
-ghost use Rattle.std.specs.Cmp.Lexicographic.{pointwise_decides};
-ghost use Rattle.std.specs.Cmp.Rules.{comparing};
+ghost use Rattle.std.{proofs.Common.rules, specs.Cmp.Lexicographic.pointwise_decides, specs.Cmp.Rules.comparing};
 
 use crate::bytes::Bytes;
 use hlc_values::Exact;

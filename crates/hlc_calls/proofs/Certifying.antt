@@ -1,25 +1,16 @@
 -- The certificate of stored rows is one: a check of its text shows that they are the fewest, and what they cost.
-use Rattle.std.proofs.Common.{◌≡◌, ℕ, List, length, ap, sym, ◌∙◌, subst, ◌⊎◌, inl, inr}
-use Rattle.std.specs.List.Sorted.{IsPermutation}
+use Rattle.std.proofs.Common.{◌≡◌, ℕ, List, length, ap, sym, ◌∙◌, subst, ◌⊎◌, inl, inr, IsPermutation}
 use Rattle.std.proofs.lemmas.List.Sorted.{length_permutation, sum_by-IsPermutation}
 use Rattle.hlc_rows.specs.declared.row.Row.{Row}
-use Rattle.hlc_witness.specs.Certificate.{IsCertificate}
-use Rattle.hlc_witness.specs.Cost.{rows_cost, row_cost}
-use Rattle.hlc_vacuum_draft.specs.Vacuumed.{rows_to}
-use Rattle.hlc_vacuum_draft.specs.declared.report.Report.{Report}
+use Rattle.hlc_witness.specs.{Certificate.IsCertificate, Cost.rows_cost, Cost.row_cost}
+use Rattle.hlc_vacuum_draft.specs.{Vacuumed.rows_to, declared.report.Report.Report}
 use Rattle.hlc_text.specs.Lines.{lines_of}
-use Rattle.hlc_certificate.specs.CertificateText.{certificate_text}
-use Rattle.hlc_certificate.specs.CheckLine.{AreLinesOf}
-use Rattle.hlc_certificate.specs.declared.check.CheckEnd.{CheckEnd}
+use Rattle.hlc_certificate.specs.{CertificateText.certificate_text, declared.check.CheckEnd.CheckEnd}
+use Rattle.hlc_certificate.specs.{CheckLine.AreLinesOf, Check.MayEnd}
 use Rattle.hlc_certificate.specs.declared.check.CheckEnd.TheVariants.{Fewest, NotShown, BadLine, NoMemory}
-use Rattle.hlc_certificate.specs.Check.{MayEnd}
 use Rattle.hlc_certificate.proofs.ReadBackLemmas.{printed_ends_fewest}
-use Rattle.hlc_core.specs.Past.{Step}
-use Rattle.hlc_core.specs.StoreView.{StoreView}
-use Rattle.hlc_core.specs.Calls.{AreRowsTo}
-use Rattle.hlc_core.specs.Certified.{IsCertified}
-use Rattle.hlc_calls.specs.Answers.{narrowed}
-use Rattle.hlc_calls.specs.Certified.{IsShown}
+use Rattle.hlc_core.specs.{Past.Step, Calls.AreRowsTo, StoreView.StoreView, Certified.IsCertified}
+use Rattle.hlc_calls.specs.{Answers.narrowed, Certified.IsShown}
 
 same-count : (count bytes n k : ℕ) → (Fewest n k ≡ Fewest count bytes) ⊎ (Fewest n k ≡ NoMemory)
     → (n ≡ count) × (k ≡ bytes)

@@ -1,14 +1,11 @@
 -- The digest of a range.
 use Rattle.std.proofs.Common.{◌≡◌, ℕ, sym, subst, refl, List, Option, Some}
 use Rattle.sha2.specs.Sha256.{sha256}
-use Rattle.hlc_rows.specs.declared.row.Row.{Row}
-use Rattle.hlc_rows.specs.Rows.{answer}
+use Rattle.hlc_rows.specs.{declared.row.Row.Row, Rows.answer}
 use Rattle.hlc_columns.specs.Answers.{AreAnswers, IsBetween}
-use Rattle.hlc_range_calls.specs.Listing.{listing_bytes}
-use Rattle.hlc_range_calls.specs.Scan.{end_of}
+use Rattle.hlc_range_calls.specs.{Listing.listing_bytes, Scan.end_of}
 use Rattle.hlc_range_calls.proofs.PairLemmas.{same_answers}
-use Rattle.hlc_calls.specs.Answers.{IsCopied}
-use Rattle.hlc_calls.specs.Digest.{ReturnsDigest}
+use Rattle.hlc_calls.specs.{Answers.IsCopied, Digest.ReturnsDigest}
 
 -- what is said of the pairs of a range is said of the digest of a snapshot
 pub digested_at : (rows others : List Row) (at : Option ℕ) (stamp : ℕ) (from to : List ℕ) (end : Option (List ℕ))

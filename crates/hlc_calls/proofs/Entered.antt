@@ -1,30 +1,22 @@
 -- Where an entry gets 0, its item was accepted, so the store represents one more item of the list.
 use Rattle.std.proofs.Common.{◌≡◌, ◌<◌, ◌+◌, ◌∙◌, ℕ, lit<, refl, sym, ap, subst, arith, inl, inr, Bool, true, false}
-use Rattle.std.proofs.Common.{List, [], ◌∷◌, ◌++◌, map, take, length, get_or}
-use Rattle.std.specs.Prelude.{Option, Some, None}
-use Rattle.std.proofs.lemmas.List.{take_more, map-append}
-use Rattle.std.proofs.lemmas.List.Elements.{All-more}
-use Rattle.hlc_rows.specs.declared.limits.BodyFault.TheVariants.{BadKey, ValueTooLong, NoWrites, TooManyWrites}
-use Rattle.hlc_rows.specs.declared.limits.BodyFault.TheVariants.{KeyTwice}
+use Rattle.std.proofs.Common.{List, [], ◌∷◌, ◌++◌, map, take, length, get_or, Option, Some, None}
+use Rattle.std.proofs.lemmas.List.{take_more, map-append, Elements.All-more}
+use Rattle.hlc_rows.specs.declared.limits.BodyFault.{TheVariants.BadKey, TheVariants.ValueTooLong, TheVariants.NoWrites}
+use Rattle.hlc_rows.specs.declared.limits.BodyFault.{TheVariants.TooManyWrites, TheVariants.KeyTwice, BodyFault}
 use Rattle.hlc_node.specs.declared.item.Item.{Item}
 use Rattle.hlc_events.specs.declared.fault.CoreFault.{CoreFault}
 use Rattle.hlc_events.specs.declared.fault.CoreFault.TheVariants.{NoNode, Link, Body, Join, AboveFloor, BelowHorizon}
 use Rattle.hlc_events.specs.declared.fault.CoreFault.TheVariants.{Snapshot, NoSnapshot, NoMemory}
-use Rattle.hlc_intake.specs.Faults.{link_code}
-use Rattle.hlc_intake.specs.declared.intake.LinkFault.{LinkFault}
+use Rattle.hlc_intake.specs.{Faults.link_code, declared.intake.LinkFault.LinkFault}
 use Rattle.hlc_intake.specs.declared.intake.LinkFault.TheVariants.{Retired, NotNext, NumbersSpent, StampNotRising}
-use Rattle.hlc_heads.specs.declared.heads.JoinFault.{JoinFault}
-use Rattle.hlc_heads.specs.declared.heads.JoinFault.TheVariants.{TooManyNodes, BelowFloor}
-use Rattle.hlc_snapshot.specs.Faults.{snapshot_code}
-use Rattle.hlc_snapshot.specs.declared.fault.SnapshotFault.{SnapshotFault}
-use Rattle.hlc_snapshot.specs.declared.fault.SnapshotFault.TheVariants as snapshot_fault
+use Rattle.hlc_heads.specs.declared.heads.JoinFault.{JoinFault, TheVariants.TooManyNodes, TheVariants.BelowFloor}
+use Rattle.hlc_snapshot.specs.{Faults.snapshot_code, declared.fault.SnapshotFault.SnapshotFault}
 use Rattle.hlc_rows.specs.Faults.{body_code}
-use Rattle.hlc_rows.specs.declared.limits.BodyFault.{BodyFault}
-use Rattle.hlc_core.specs.Past.{Step, Took}
-use Rattle.hlc_core.specs.StoreView.{StoreView, Represents}
-use Rattle.hlc_calls.specs.declared.entries.Entry.{Entry}
-use Rattle.hlc_calls.specs.Outcome.{IsAnswered, answer_code}
+use Rattle.hlc_core.specs.{Past.Step, Past.Took, StoreView.StoreView, StoreView.Represents}
+use Rattle.hlc_calls.specs.{declared.entries.Entry.Entry, Outcome.IsAnswered, Outcome.answer_code}
 use Rattle.hlc_calls.specs.Entries.{item_of, is_within, AreWithin, took, entered, IsEntered}
+use Rattle.hlc_snapshot.specs.declared.fault.SnapshotFault.TheVariants as snapshot_fault
 
 link_above : (fault : LinkFault) → 0 < link_code fault
 link_above Retired = lit< tt

@@ -1,13 +1,9 @@
 -- Which links hold the floor back, and which nodes.
-use Rattle.std.proofs.Common.{◌≡◌, ℕ, ◌+◌, ◌<◌, ◌∙◌, sym, ap, subst, List, length, Some, slice_get, get_or}
-use Rattle.std.proofs.Common.{arith, inl, inr, refl}
-use Rattle.std.proofs.Common.{true, false, true≢false, eq-eqb}
-use Rattle.std.specs.Prelude.{◌==◌, ◌&&◌, not, None}
-use Rattle.std.proofs.lemmas.Bool.{cases_lt}
-use Rattle.std.proofs.lemmas.Option.{slice_get_within, slice_get_read, same_Some}
+use Rattle.std.proofs.Common.{◌≡◌, ℕ, ◌+◌, ◌<◌, ◌∙◌, sym, ap, subst, List, length, Some, slice_get, get_or, arith, inl}
+use Rattle.std.proofs.Common.{inr, refl, true, false, true≢false, eq-eqb, ◌==◌, ◌&&◌, not, None}
+use Rattle.std.proofs.lemmas.{Bool.cases_lt, Option.slice_get_within, Option.slice_get_read, Option.same_Some}
 use Rattle.hlc_intake.specs.IntakeView.{IntakeView}
-use Rattle.hlc_core.specs.Past.{Step, count, head, retired, floor}
-use Rattle.hlc_core.specs.StoreView.{AreLinks}
+use Rattle.hlc_core.specs.{Past.Step, Past.count, Past.head, Past.retired, Past.floor, StoreView.AreLinks}
 use Rattle.hlc_calls.specs.Status.{IsHolder, IsFirstHolder, HoldsFloor, ReturnsHolder}
 
 holds : (past : List Step) (links : List IntakeView) (at n : ℕ) → AreLinks past links

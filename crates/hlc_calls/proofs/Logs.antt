@@ -1,24 +1,16 @@
 -- The items of a log, read one after another.
-use Rattle.std.proofs.Common.{◌≡◌, ℕ, ◌+◌, ◌-◌, ◌<◌, ◌∙◌, sym, ap, subst, List, [], ◌∷◌, ◌++◌}
-use Rattle.std.proofs.Common.{length, true, false, cond}
-use Rattle.std.proofs.Common.{refl, arith, length-append, Ok, inr}
-use Rattle.std.proofs.lemmas.List.{append-nil, append_assoc}
-use Rattle.std.proofs.lemmas.List.Elements.{All-push}
-use Rattle.std.proofs.lemmas.Grind.{flat_map-append}
-use Rattle.std.specs.List.{All}
+use Rattle.std.proofs.Common.{◌≡◌, ℕ, ◌+◌, ◌-◌, ◌<◌, ◌∙◌, sym, ap, subst, List, [], ◌∷◌, ◌++◌, length, true, false}
+use Rattle.std.proofs.Common.{cond, refl, arith, length-append, Ok, inr, append-nil, append_assoc, All}
+use Rattle.std.proofs.lemmas.{List.Elements.All-push, Grind.flat_map-append}
 use Rattle.hlc_node.specs.declared.item.Item.{Item}
-use Rattle.hlc_wire.specs.Spelling.{item_bytes, ItemFits}
-use Rattle.hlc_wire.specs.Reading.{item_at}
+use Rattle.hlc_wire.specs.{Spelling.item_bytes, Spelling.ItemFits, Reading.item_at}
 use Rattle.hlc_wire.proofs.FieldLemmas.{IsBytes}
 use Rattle.hlc_wire.proofs.ItemLemmas.{item_reader}
-use Rattle.hlc_events.specs.declared.fault.CoreFault.{CoreFault}
-use Rattle.hlc_events.specs.Faults.{core_word}
-use Rattle.hlc_core.specs.Calls.{IsRefusal, IsWrite}
-use Rattle.hlc_core.specs.Past.{Step, Took, item_refusal}
+use Rattle.hlc_events.specs.{declared.fault.CoreFault.CoreFault, Faults.core_word}
+use Rattle.hlc_core.specs.{Calls.IsRefusal, Calls.IsWrite, Past.Step, Past.Took, Past.item_refusal}
 use Rattle.hlc_core.specs.StoreView.{StoreView, Represents}
 use Rattle.hlc_calls.specs.Log.{came_before, log_bytes, with_item, with_items, IsStopped, IsLogEnd, AreTaken}
-use Rattle.hlc_calls.specs.Outcome.{answer_code}
-use Rattle.hlc_calls.proofs.Refusals.{refused_returns}
+use Rattle.hlc_calls.{specs.Outcome.answer_code, proofs.Refusals.refused_returns}
 
 pub front_is : (bytes : List ℕ) (item : Item) (rest : List ℕ) → IsBytes bytes → item_at bytes ≡ Ok (item, rest)
     → bytes ≡ item_bytes item ++ rest

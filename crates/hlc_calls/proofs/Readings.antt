@@ -1,14 +1,9 @@
 -- The answers that were put into a buffer so far.
-use Rattle.std.proofs.Common.{◌≡◌, ℕ, ◌+◌, ◌<◌, ◌≤◌, ◌∙◌, sym, ap, ap₂, subst, List, [], ◌∷◌}
-use Rattle.std.proofs.Common.{◌++◌, take, get_or, length}
-use Rattle.std.proofs.Common.{refl, arith, length-append, inl, inr, Option, Some, true}
-use Rattle.std.proofs.lemmas.List.{append-nil, take_more}
-use Rattle.std.proofs.lemmas.List.Elements.{All-more}
-use Rattle.std.proofs.lemmas.Grind.{flat_map-append}
-use Rattle.hlc_rows.specs.declared.row.Row.{Row}
-use Rattle.hlc_rows.specs.Rows.{answer}
-use Rattle.hlc_calls.specs.declared.reads.Place.{Place}
-use Rattle.hlc_calls.specs.Entries.{piece, lies}
+use Rattle.std.proofs.Common.{◌≡◌, ℕ, ◌+◌, ◌<◌, ◌≤◌, ◌∙◌, sym, ap, ap₂, subst, List, [], ◌∷◌, ◌++◌, take, get_or}
+use Rattle.std.proofs.Common.{length, refl, arith, length-append, inl, inr, Option, Some, true}
+use Rattle.std.proofs.lemmas.{List.append-nil, List.take_more, List.Elements.All-more, Grind.flat_map-append}
+use Rattle.hlc_rows.specs.{declared.row.Row.Row, Rows.answer}
+use Rattle.hlc_calls.specs.{declared.reads.Place.Place, Entries.piece, Entries.lies}
 use Rattle.hlc_wire.specs.Placing.{with_bytes}
 use Rattle.hlc_calls.specs.ReadAll.{answer_bytes, answer_at, answers_at, AreThere, IsLeftOut, ReturnsAnswers}
 use Rattle.hlc_calls.specs.ReadAll.{ReturnsAll}

@@ -4,11 +4,8 @@ use Rattle.std.specs.Prelude.{Option, Some, None, ◌==◌, not, nat_le, if◌th
 use Rattle.hlc_values.specs.declared.bounds.TheConstants.{NUMBER_BOUND}
 use Rattle.hlc_intake.specs.declared.intake.LinkFault.TheVariants.{Retired, NotNext, NumbersSpent, StampNotRising}
 use Rattle.hlc_rows.specs.declared.limits.BodyFault.{BodyFault}
-use Rattle.hlc_events.specs.declared.fault.CoreFault.TheVariants.{NoNode, Link}
-use Rattle.hlc_events.specs.declared.fault.CoreFault.{CoreFault}
-use Rattle.hlc_node.specs.declared.item.Item.{Item}
-use Rattle.hlc_node.specs.declared.item.Body.{Body}
-use Rattle.hlc_node.specs.Items.{an_item, body_refusal}
+use Rattle.hlc_events.specs.declared.fault.CoreFault.{TheVariants.NoNode, TheVariants.Link, CoreFault}
+use Rattle.hlc_node.specs.{declared.item.Item.Item, declared.item.Body.Body, Items.an_item, Items.body_refusal}
 use Rattle.hlc_core.specs.Past.{Step, numbered, retired, count, head, item_refusal, of_body}
 use Rattle.hlc_core.specs.Calls.{IsRefusal}
 use Rattle.hlc_events.specs.Faults.{core_word}

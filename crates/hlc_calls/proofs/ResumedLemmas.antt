@@ -1,12 +1,10 @@
 -- What the answer to a restore says of the bytes.
 use Rattle.std.proofs.Common.{◌≡◌, ℕ, List, refl, sym, subst, ◌∙◌, ap, inl, inr}
 use Rattle.std.specs.Prelude.{Result, Ok, Err, MatchResult, IfOk, IfErr}
-use Rattle.hlc_core.specs.Past.{Step}
-use Rattle.hlc_core.specs.StoreView.{StoreView, Represents}
+use Rattle.hlc_core.specs.{Past.Step, StoreView.StoreView, StoreView.Represents}
 use Rattle.hlc_saved.specs.Saved.{AreOf, Resumes}
-use Rattle.hlc_saved.specs.declared.fault.ResumeError.{ResumeError}
+use Rattle.hlc_saved.specs.declared.{fault.ResumeError.ResumeError, saving.Resumed.Resumed}
 use Rattle.hlc_saved.specs.declared.fault.ResumeError.TheVariants.{NoMemory, Bytes, Parts}
-use Rattle.hlc_saved.specs.declared.saving.Resumed.{Resumed}
 use Rattle.hlc_calls.specs.Saved.{IsRestored, IsNotRestored, resume_code, resume_word}
 
 abbrev pub Answers : Result Resumed ResumeError → Result StoreView ℕ → ℕ → Type 0

@@ -1,20 +1,13 @@
 -- What each call returns to C, for one past that the store represented.
-use Rattle.std.specs.Prelude.{◌≡◌, ℕ, ◌+◌, List, ◌∷◌, length, Option}
-use Rattle.std.specs.Prelude.{Some, None, ⊤, Bool, true}
-use Rattle.std.specs.Prelude.{false}
+use Rattle.std.specs.Prelude.{◌≡◌, ℕ, ◌+◌, List, ◌∷◌, length, Option, Some, None, ⊤, Bool, true, false}
 use Rattle.hlc_node.specs.declared.item.Item.{Item}
-use Rattle.hlc_rows.specs.declared.row.Row.{Row}
-use Rattle.hlc_rows.specs.Rows.{answer}
-use Rattle.hlc_columns.specs.Answers.{in_part}
-use Rattle.hlc_columns.specs.Sizes.{Sizes}
-use Rattle.hlc_vacuum_draft.specs.declared.report.Numbers.{Numbers}
-use Rattle.hlc_vacuum_draft.specs.declared.report.Report.{Report}
-use Rattle.hlc_vacuum_draft.specs.Report.{numbers_of}
-use Rattle.hlc_core.specs.Past.{Step, Took, Opened, Closed, Joined, numbered, floor, last_id, stamp_of}
-use Rattle.hlc_core.specs.Past.{item_refusal, join_refusal, join_at_refusal, open_refusal, room_refusal, vacuum_refusal}
-use Rattle.hlc_core.specs.StoreView.{StoreView, Represents}
+use Rattle.hlc_rows.specs.{declared.row.Row.Row, Rows.answer}
+use Rattle.hlc_columns.specs.{Answers.in_part, Sizes.Sizes}
+use Rattle.hlc_vacuum_draft.specs.{declared.report.Numbers.Numbers, declared.report.Report.Report, Report.numbers_of}
+use Rattle.hlc_core.specs.Past.{Step, Took, Opened, Closed, Joined, numbered, floor, last_id, stamp_of, item_refusal}
+use Rattle.hlc_core.specs.Past.{join_refusal, join_at_refusal, open_refusal, room_refusal, vacuum_refusal}
+use Rattle.hlc_core.specs.{StoreView.StoreView, StoreView.Represents, Parts.EndsAt, Parts.VacuumsKeys}
 use Rattle.hlc_core.specs.Calls.{IsWrite, AreSizes, Vacuums}
-use Rattle.hlc_core.specs.Parts.{EndsAt, VacuumsKeys}
 use Rattle.hlc_calls.specs.Outcome.{IsAnswered}
 pub use Rattle.hlc_range_calls.specs.Listing.{IsCopied, narrowed}
 

@@ -4,13 +4,9 @@ use Rattle.hlc_rows.specs.declared.row.Row.{Row}
 use Rattle.hlc_vacuum_draft.specs.declared.report.Report.{Report}
 use Rattle.hlc_events.specs.declared.certificate_fault.CertificateFault.{CertificateFault}
 use Rattle.hlc_events.specs.Faults.{certificate_fault_code, certificate_fault_word}
-use Rattle.hlc_core.specs.Past.{Step}
-use Rattle.hlc_core.specs.StoreView.{StoreView}
-use Rattle.hlc_core.specs.Calls.{AreRowsTo}
-use Rattle.hlc_core.specs.Certified.{Certifies}
+use Rattle.hlc_core.specs.{Past.Step, Calls.AreRowsTo, StoreView.StoreView, Certified.Certifies}
 use Rattle.hlc_certificate.specs.CertificateText.{certificate_text}
-use Rattle.hlc_calls.specs.Answers.{narrowed}
-use Rattle.hlc_calls.specs.Check.{ReturnsCheck}
+use Rattle.hlc_calls.specs.{Answers.narrowed, Check.ReturnsCheck}
 
 -- a check of the text shows that this many rows are the fewest, and their cost; or memory runs out for it
 abbrev pub IsShown : List ℕ → ℕ → ℕ → Type 0

@@ -1,8 +1,7 @@
 -- How the check of a certificate's text is returned.
 use Rattle.std.specs.Prelude.{◌≡◌, ◌⊎◌, ℕ, List}
 use Rattle.hlc_text.specs.Lines.{lines_of}
-use Rattle.hlc_witness.specs.declared.reason.NotShown.{NotShown}
-use Rattle.hlc_witness.specs.Reasons.{reason_number}
+use Rattle.hlc_witness.specs.{declared.reason.NotShown.NotShown, Reasons.reason_number}
 use Rattle.hlc_certificate.specs.Check.{ShowsFewest, ShowsReason}
 use Rattle.hlc_certificate.specs.CheckLine.{AreGoodLines, IsFirstBadLine}
 use Rattle.hlc_calls.specs.Answers.{narrowed}

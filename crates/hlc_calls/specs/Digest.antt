@@ -4,8 +4,7 @@ use Rattle.sha2.specs.Sha256.{sha256}
 use Rattle.hlc_rows.specs.declared.row.Row.{Row}
 use Rattle.hlc_columns.specs.Answers.{AreAnswers, IsBetween}
 use Rattle.hlc_calls.specs.Answers.{IsCopied}
-use Rattle.hlc_range_calls.specs.Listing.{listing_bytes}
-use Rattle.hlc_range_calls.specs.Scan.{end_of}
+use Rattle.hlc_range_calls.specs.{Listing.listing_bytes, Scan.end_of}
 
 -- the digest of the listing of the keys of a range that have a value at the stamp of the snapshot is returned; or 10,
 -- where there is no such snapshot

@@ -1,14 +1,9 @@
 -- Several items that C passes in one call, and what that returns.
 use Rattle.std.specs.Prelude.{◌≡◌, ◌≢◌, ℕ, ◌+◌, ◌<◌, ◌≤◌, Bool, ◌||◌, ◌&&◌, true, false, nat_le, List, [], ◌∷◌, length}
-use Rattle.std.specs.Prelude.{map, take, drop, get_or, Option, Some, None, if◌then◌else◌}
-use Rattle.std.specs.List.{All}
-use Rattle.hlc_node.specs.declared.item.Item.{Item}
-use Rattle.hlc_node.specs.declared.item.Body.TheVariants.{Write}
-use Rattle.hlc_core.specs.Past.{Step, Took}
-use Rattle.hlc_core.specs.StoreView.{StoreView, Represents}
-use Rattle.hlc_calls.specs.declared.entries.Entry.{Entry}
-use Rattle.hlc_calls.specs.Answers.{ReturnsAccepted}
-use Rattle.hlc_node.specs.Items.{an_item}
+use Rattle.std.specs.Prelude.{map, take, drop, get_or, Option, Some, None, if◌then◌else◌, All}
+use Rattle.hlc_node.specs.{declared.item.Item.Item, declared.item.Body.TheVariants.Write, Items.an_item}
+use Rattle.hlc_core.specs.{Past.Step, Past.Took, StoreView.StoreView, StoreView.Represents}
+use Rattle.hlc_calls.specs.{declared.entries.Entry.Entry, Answers.ReturnsAccepted}
 
 -- this many bytes from this place on
 abbrev pub piece : ℕ → ℕ → List ℕ → List ℕ

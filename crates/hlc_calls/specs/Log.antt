@@ -1,21 +1,13 @@
 -- The items of a log as bytes, one after another, and what a store takes of them.
-use Rattle.std.specs.Prelude.{◌≡◌, ◌⊎◌, ◌&&◌, ℕ, List, [], ◌∷◌, ◌++◌, Bool, false, nat_lt, length}
-use Rattle.std.specs.Prelude.{Some, None, Ok, Err}
-use Rattle.std.specs.Prelude.{if◌then◌else◌}
-use Rattle.std.specs.List.{All, flat_map}
-use Rattle.hlc_node.specs.declared.item.Item.{Item}
-use Rattle.hlc_rows.specs.declared.limits.BodyFault.{BodyFault}
-use Rattle.hlc_rows.specs.Faults.{body_code}
-use Rattle.hlc_node.specs.Items.{body_refusal}
-use Rattle.hlc_wire.specs.declared.fault.WireFault.{WireFault}
-use Rattle.hlc_wire.specs.Faults.{fault_code}
+use Rattle.std.specs.Prelude.{◌≡◌, ◌⊎◌, ◌&&◌, ℕ, List, [], ◌∷◌, ◌++◌, Bool, false, nat_lt, length, Some, None, Ok, Err}
+use Rattle.std.specs.Prelude.{if◌then◌else◌, All, flat_map}
+use Rattle.hlc_node.specs.{declared.item.Item.Item, Items.body_refusal}
+use Rattle.hlc_rows.specs.{declared.limits.BodyFault.BodyFault, Faults.body_code}
+use Rattle.hlc_wire.specs.{declared.fault.WireFault.WireFault, Faults.fault_code, Reading.item_at}
 use Rattle.hlc_wire.specs.Spelling.{item_bytes, ItemFits}
-use Rattle.hlc_wire.specs.Reading.{item_at}
-use Rattle.hlc_core.specs.Calls.{IsWrite}
+use Rattle.hlc_core.specs.{Calls.IsWrite, StoreView.StoreView, StoreView.Represents}
 use Rattle.hlc_core.specs.Past.{Step, Took, numbered, count, item_refusal}
-use Rattle.hlc_core.specs.StoreView.{StoreView, Represents}
-use Rattle.hlc_calls.specs.Outcome.{IsAnswered}
-use Rattle.hlc_calls.specs.Answers.{IsCopied}
+use Rattle.hlc_calls.specs.{Outcome.IsAnswered, Answers.IsCopied}
 
 -- the bytes of some items, one after another
 abbrev pub log_bytes : List Item → List ℕ

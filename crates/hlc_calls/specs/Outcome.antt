@@ -1,7 +1,6 @@
 -- What C gets from a call.
 use Rattle.std.specs.Prelude.{◌≡◌, ◌⊎◌, ℕ, Option, Some, None}
-use Rattle.hlc_events.specs.declared.fault.CoreFault.{CoreFault}
-use Rattle.hlc_events.specs.declared.fault.CoreFault.TheVariants.{Join}
+use Rattle.hlc_events.specs.declared.fault.CoreFault.{CoreFault, TheVariants.Join}
 use Rattle.hlc_events.specs.Faults.{core_code, core_word}
 use Rattle.hlc_heads.specs.declared.heads.JoinFault.TheVariants.{BelowFloor}
 

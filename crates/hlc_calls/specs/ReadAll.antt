@@ -1,12 +1,8 @@
 -- How the answers of many keys are returned: each as a byte 0 for none, or 1 and the value after its length.
-use Rattle.std.specs.Prelude.{◌≡◌, ◌≢◌, ◌⊎◌, ℕ, ◌+◌, ◌<◌, ◌≤◌, List}
-use Rattle.std.specs.Prelude.{true, false, length, take, get_or}
-use Rattle.std.specs.Prelude.{Option, Some, None}
-use Rattle.std.specs.List.{All, flat_map}
-use Rattle.hlc_rows.specs.declared.row.Row.{Row}
-use Rattle.hlc_rows.specs.Rows.{answer}
-use Rattle.hlc_calls.specs.declared.reads.Place.{Place}
-use Rattle.hlc_calls.specs.Entries.{piece, lies}
+use Rattle.std.specs.Prelude.{◌≡◌, ◌≢◌, ◌⊎◌, ℕ, ◌+◌, ◌<◌, ◌≤◌, List, true, false, length, take, get_or, Option, Some}
+use Rattle.std.specs.Prelude.{None, All, flat_map}
+use Rattle.hlc_rows.specs.{declared.row.Row.Row, Rows.answer}
+use Rattle.hlc_calls.specs.{declared.reads.Place.Place, Entries.piece, Entries.lies}
 use Rattle.hlc_wire.specs.Placing.{with_bytes}
 pub use Rattle.hlc_range_calls.specs.Listing.{answer_bytes}
 

@@ -2,16 +2,11 @@
 use Rattle.std.specs.Prelude.{◌≡◌, ℕ, List, length, Option, Some, None}
 use Rattle.hlc_wire.specs.Faults.{fault_code}
 use Rattle.hlc_events.specs.Faults.{core_word}
-use Rattle.hlc_core.specs.Past.{Step}
-use Rattle.hlc_core.specs.StoreView.{StoreView}
-use Rattle.hlc_log.specs.declared.record.Record.{Record}
-use Rattle.hlc_log.specs.declared.apply.RecordFault.{RecordFault}
-use Rattle.hlc_log.specs.declared.apply.RecordFault.TheVariants.{Bytes, Refused}
-use Rattle.hlc_log.specs.declared.apply.Applied.{Applied}
-use Rattle.hlc_log.specs.Record.{record_bytes}
-use Rattle.hlc_log.specs.Log.{AreApplied}
-use Rattle.hlc_calls.specs.Answers.{IsCopied}
-use Rattle.hlc_calls.specs.Outcome.{answer_code}
+use Rattle.hlc_core.specs.{Past.Step, StoreView.StoreView}
+use Rattle.hlc_log.specs.declared.{record.Record.Record, apply.Applied.Applied}
+use Rattle.hlc_log.specs.declared.apply.RecordFault.{RecordFault, TheVariants.Bytes, TheVariants.Refused}
+use Rattle.hlc_log.specs.{Record.record_bytes, Log.AreApplied}
+use Rattle.hlc_calls.specs.{Answers.IsCopied, Outcome.answer_code}
 
 -- the answer at the end of a log, and its word
 abbrev pub end_code : Option RecordFault → ℕ

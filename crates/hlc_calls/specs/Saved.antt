@@ -1,14 +1,11 @@
 -- How a store's bytes are returned, and how one is made of bytes.
 use Rattle.std.specs.Prelude.{◌≡◌, ◌⊎◌, ℕ, List, Err}
-use Rattle.hlc_wire.specs.declared.fault.WireFault.{WireFault}
-use Rattle.hlc_wire.specs.Faults.{fault_code}
-use Rattle.hlc_checkpoint.specs.Checkpoint.{IsCopyOf}
-use Rattle.hlc_checkpoint.specs.RestoreFaults.{fault_code as reason_code}
+use Rattle.hlc_wire.specs.{declared.fault.WireFault.WireFault, Faults.fault_code}
+use Rattle.hlc_checkpoint.specs.{Checkpoint.IsCopyOf, RestoreFaults.fault_code as reason_code}
 use Rattle.hlc_checkpoint.specs.declared.checkpoint.RestoreFault.{RestoreFault}
 use Rattle.hlc_core.specs.StoreView.{StoreView}
-use Rattle.hlc_saved.specs.Saved.{AreFrame, AreOf, SpellNone}
+use Rattle.hlc_saved.specs.{Saved.AreFrame, Saved.AreOf, Saved.SpellNone, declared.fault.ResumeError.ResumeError}
 use Rattle.hlc_body.specs.Reading.{saved}
-use Rattle.hlc_saved.specs.declared.fault.ResumeError.{ResumeError}
 use Rattle.hlc_saved.specs.declared.fault.ResumeError.TheVariants.{NoMemory, Bytes, Parts}
 
 -- the bytes are those of a checkpoint with this tag, and the store has exactly its state

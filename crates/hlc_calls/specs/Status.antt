@@ -1,6 +1,5 @@
 -- What a store has, as it is returned.
-use Rattle.std.specs.Prelude.{◌≡◌, ℕ, ◌<◌, ◌≤◌, List, Bool, false, Option, Some, None}
-use Rattle.std.specs.Prelude.{slice_get, ◌⊎◌}
+use Rattle.std.specs.Prelude.{◌≡◌, ℕ, ◌<◌, ◌≤◌, List, Bool, false, Option, Some, None, slice_get, ◌⊎◌}
 use Rattle.hlc_intake.specs.IntakeView.{IntakeView}
 use Rattle.hlc_snapshot.specs.declared.snapshot.Snapshot.{Snapshot}
 use Rattle.hlc_core.specs.Past.{Step, numbered, count, head, retired, floor}

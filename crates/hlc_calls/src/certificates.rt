@@ -1,14 +1,10 @@
 //! The certificate of the rows up to a stamp, as text that is made and checked.
 ghost use Rattle.std.specs.Prelude.{◌≡◌, List, IfSome, OnErr, MatchResult};
 ghost use Rattle.hlc_rows.specs.declared.row.Row.{Row as ARow};
-ghost use Rattle.hlc_core.specs.Past.{Step};
-ghost use Rattle.hlc_core.specs.StoreView.{Represents};
-ghost use Rattle.hlc_core.specs.Calls.{AreRowsTo};
+ghost use Rattle.hlc_core.specs.{Past.Step, Calls.AreRowsTo, StoreView.Represents};
 ghost use Rattle.hlc_text.specs.Lines.{lines_of};
-ghost use Rattle.hlc_certificate.specs.CertificateText.{certificate_text};
-ghost use Rattle.hlc_certificate.specs.CheckLine.{AreLinesOf};
-ghost use Rattle.hlc_calls.specs.Certified.{ReturnsCertificate, ReturnsNoCertificate};
-ghost use Rattle.hlc_calls.specs.Check.{ReturnsCheck};
+ghost use Rattle.hlc_certificate.specs.{CertificateText.certificate_text, CheckLine.AreLinesOf};
+ghost use Rattle.hlc_calls.specs.{Certified.ReturnsCertificate, Certified.ReturnsNoCertificate, Check.ReturnsCheck};
 
 use crate::codes;
 use crate::outputs::narrow;

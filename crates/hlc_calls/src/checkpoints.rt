@@ -1,7 +1,6 @@
 //! A store to the bytes of a checkpoint and back.
 ghost use Rattle.std.specs.Prelude.{◌≡◌, List, ℕ, MatchResult, Ok, Err, IfOk, IfErr};
-ghost use Rattle.hlc_core.specs.Past.{Step};
-ghost use Rattle.hlc_core.specs.StoreView.{Represents};
+ghost use Rattle.hlc_core.specs.{Past.Step, StoreView.Represents};
 ghost use Rattle.hlc_saved.specs.Saved.{AreOfStore, BytesRepresent};
 ghost use Rattle.hlc_calls.specs.Saved.{IsRestored, IsNotRestored, resume_code, resume_word};
 

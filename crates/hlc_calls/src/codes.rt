@@ -1,7 +1,6 @@
 //! Answers as the numbers that C gets: 0 or the number of a refusal, and a word with it.
 ghost use Rattle.std.specs.Prelude.{◌≡◌, MatchResult};
-ghost use Rattle.hlc_events.specs.Faults.{core_word};
-ghost use Rattle.hlc_events.specs.Faults.{certificate_fault_code, certificate_fault_word};
+ghost use Rattle.hlc_events.specs.Faults.{core_word, certificate_fault_code, certificate_fault_word};
 ghost use Rattle.hlc_calls.specs.Outcome.{answer_code};
 
 use hlc_core::{CertificateFault, CoreFault, JoinFault};

@@ -1,9 +1,7 @@
 //! A digest of a range of a snapshot, by which replicas compare without listing.
 ghost use Rattle.std.specs.Prelude.{◌≡◌, ◌++◌, List, ℕ};
-ghost use Rattle.sha2.specs.Sha256.{sha256};
-ghost use Rattle.sha2.specs.Hashers.{Holds256};
-ghost use Rattle.hlc_core.specs.Past.{Step, stamp_of, writes};
-ghost use Rattle.hlc_core.specs.StoreView.{Represents};
+ghost use Rattle.sha2.specs.{Sha256.sha256, Hashers.Holds256};
+ghost use Rattle.hlc_core.specs.{Past.Step, Past.stamp_of, Past.writes, StoreView.Represents};
 ghost use Rattle.hlc_range_calls.specs.Listing.{sized, pair_bytes, listing_bytes};
 ghost use Rattle.hlc_calls.specs.Digest.{ReturnsDigest};
 

@@ -1,7 +1,6 @@
 //! Several items in one call, for callers for which a call is expensive.
 ghost use Rattle.std.specs.Prelude.{◌≡◌, ◌≢◌, List, true, false, MatchOption, option_copied};
-ghost use Rattle.hlc_core.specs.Past.{Step};
-ghost use Rattle.hlc_core.specs.StoreView.{Represents};
+ghost use Rattle.hlc_core.specs.{Past.Step, StoreView.Represents};
 ghost use Rattle.hlc_calls.specs.Entries.{piece, lies, value_of, is_within, IsEntered, AreEntered};
 
 use crate::items;

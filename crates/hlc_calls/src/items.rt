@@ -1,12 +1,9 @@
 //! Items that C passes as numbers and bytes.
-ghost use Rattle.std.specs.Prelude.{◌≡◌, ◌≢◌, ◌∷◌, ◌++◌, List, None, OnOk, OnErr, IfOk, MatchResult};
-ghost use Rattle.std.specs.List.Sorted.{IsPermutation};
-ghost use Rattle.hlc_node.specs.declared.item.Body.{Body as ABody};
-ghost use Rattle.hlc_node.specs.Items.{an_item, body_refusal};
+ghost use Rattle.std.specs.Prelude.{◌≡◌, ◌≢◌, ◌∷◌, ◌++◌, List, None, OnOk, OnErr, IfOk, MatchResult, IsPermutation};
+ghost use Rattle.hlc_node.specs.{declared.item.Body.Body as ABody, Items.an_item, Items.body_refusal};
 ghost use Rattle.hlc_node.specs.declared.item.Body.TheVariants.{Report as a_report, Retire as a_retire};
 ghost use Rattle.hlc_core.specs.Past.{Step, Took, item_refusal, item_rows};
-ghost use Rattle.hlc_core.specs.StoreView.{Represents};
-ghost use Rattle.hlc_core.specs.Calls.{IsWrite, IsRefusal};
+ghost use Rattle.hlc_core.specs.{StoreView.Represents, Calls.IsWrite, Calls.IsRefusal};
 ghost use Rattle.hlc_calls.specs.Answers.{ReturnsAccepted, ReturnsChecked};
 
 use crate::codes::{answer, refuse};

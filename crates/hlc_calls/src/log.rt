@@ -2,8 +2,7 @@
 ghost use Rattle.std.specs.Prelude.{◌≡◌, ◌<◌, ◌++◌, List, length, IfOk, OnErr, MatchResult};
 ghost use Rattle.hlc_node.specs.declared.item.Item.{Item as AnItem};
 ghost use Rattle.hlc_wire.specs.Spelling.{item_bytes, ItemFits};
-ghost use Rattle.hlc_core.specs.Past.{Step};
-ghost use Rattle.hlc_core.specs.StoreView.{Represents};
+ghost use Rattle.hlc_core.specs.{Past.Step, StoreView.Represents};
 ghost use Rattle.hlc_calls.specs.Log.{came_before, with_item, IsStopped, AreTaken, ReturnsItem};
 
 use crate::codes::refuse;

@@ -1,7 +1,6 @@
 //! What a call writes for its caller: bytes to a buffer, at once or in pieces, and numbers of 64 bits.
 ghost use Rattle.std.specs.Prelude.{◌≡◌, length};
-ghost use Rattle.hlc_calls.specs.Answers.{IsCopied, narrowed};
-ghost use Rattle.hlc_calls.specs.Output.{ReturnsPiece};
+ghost use Rattle.hlc_calls.specs.{Answers.IsCopied, Answers.narrowed, Output.ReturnsPiece};
 
 /// Writes bytes to the start of the buffer where they fit, and returns their length.
 pub fn fill(value: &[u8], out: &mut [u8], len: &mut usize)

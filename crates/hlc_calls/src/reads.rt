@@ -1,10 +1,8 @@
 //! Reads of a key, and of many keys in one call, for callers for which a call is expensive.
 ghost use Rattle.std.specs.Prelude.{◌≡◌, ◌≤◌, ◌<◌, ◌+◌, List, true, length, option_copied, MatchOption, MatchResult};
-ghost use Rattle.hlc_core.specs.Past.{Step, stamp_of, writes};
-ghost use Rattle.hlc_core.specs.StoreView.{Represents};
+ghost use Rattle.hlc_core.specs.{Past.Step, Past.stamp_of, Past.writes, StoreView.Represents};
 ghost use Rattle.hlc_wire.specs.Placing.{with_bytes};
-ghost use Rattle.hlc_calls.specs.Answers.{ReturnsRead};
-ghost use Rattle.hlc_calls.specs.Entries.{lies};
+ghost use Rattle.hlc_calls.specs.{Answers.ReturnsRead, Entries.lies};
 ghost use Rattle.hlc_calls.specs.ReadAll.{answer_at, answer_bytes, IsLeftOut, ReturnsAll, ReturnsAnswers};
 
 use crate::entries::piece_of;

@@ -1,9 +1,7 @@
 //! The records of a log, as bytes.
 ghost use Rattle.std.specs.Prelude.{◌≡◌, List, None};
-ghost use Rattle.hlc_core.specs.Past.{Step};
-ghost use Rattle.hlc_core.specs.StoreView.{Represents};
-ghost use Rattle.hlc_log.specs.declared.record.Record.{Record as ARecord};
-ghost use Rattle.hlc_log.specs.Record.{record_refusal, record_seen};
+ghost use Rattle.hlc_core.specs.{Past.Step, StoreView.Represents};
+ghost use Rattle.hlc_log.specs.{declared.record.Record.Record as ARecord, Record.record_refusal, Record.record_seen};
 ghost use Rattle.hlc_calls.specs.Records.{end_code, end_word, ReturnsApplied, ReturnsRecord};
 
 use crate::codes::refuse;

@@ -1,7 +1,6 @@
 //! Snapshots: they are opened, closed and listed.
 ghost use Rattle.std.specs.Prelude.{◌≡◌, ◌≢◌, List, slice_get};
-ghost use Rattle.hlc_core.specs.Past.{Step, open_snapshots};
-ghost use Rattle.hlc_core.specs.StoreView.{Represents};
+ghost use Rattle.hlc_core.specs.{Past.Step, Past.open_snapshots, StoreView.Represents};
 ghost use Rattle.hlc_calls.specs.Answers.{ReturnsOpened, ReturnsOpenedAtFloor, ReturnsClosed};
 ghost use Rattle.hlc_calls.specs.Status.{ReturnsSnapshot};
 

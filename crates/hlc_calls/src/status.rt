@@ -1,7 +1,6 @@
 //! What a store has: its rows, its nodes, and their links.
 ghost use Rattle.std.specs.Prelude.{◌≡◌, ◌==◌, ◌&&◌, List, length, not};
-ghost use Rattle.hlc_core.specs.Past.{Step, numbered};
-ghost use Rattle.hlc_core.specs.StoreView.{Represents};
+ghost use Rattle.hlc_core.specs.{Past.Step, Past.numbered, StoreView.Represents};
 ghost use Rattle.hlc_calls.specs.Answers.{ReturnsSizes, narrowed};
 ghost use Rattle.hlc_calls.specs.Status.{ReturnsLink, IsFirstHolder, ReturnsHolder};
 

@@ -1,8 +1,7 @@
 //! Vacuums to the floor (closed timestamp) and to a stamp, whole and in parts.
 ghost use Rattle.std.specs.Prelude.{◌≡◌, ◌≢◌, List, false};
 ghost use Rattle.hlc_vacuum.specs.Representing.{IsWithin};
-ghost use Rattle.hlc_core.specs.Past.{Step};
-ghost use Rattle.hlc_core.specs.StoreView.{Represents};
+ghost use Rattle.hlc_core.specs.{Past.Step, StoreView.Represents};
 ghost use Rattle.hlc_calls.specs.Answers.{ReturnsVacuumedAtFloor, ReturnsVacuumedTo, ReturnsVacuumChecked, AreNumbers};
 ghost use Rattle.hlc_calls.specs.Answers.{ReturnsVacuumedPart, ReturnsEnd};
 

@@ -1,10 +1,8 @@
 -- Lemmas on the lines before a place, for the search for the first line that is not that of an event.
-use Rattle.std.proofs.Common.{◌≡◌, ℕ, suc, zero, ◌+◌, ◌∙◌, sym, ap, refl, List, [], ◌∷◌, ◌++◌, length}
-use Rattle.std.proofs.Common.{take, drop, arith, subst, Option, Some, None, true, false}
-use Rattle.std.specs.Prelude.{slice_get, is_some}
-use Rattle.std.proofs.lemmas.List.{take-append-drop, append-nil}
-use Rattle.hlc_text.specs.Text.{Reads}
-use Rattle.hlc_text.specs.Lines.{lines_of}
+use Rattle.std.proofs.Common.{◌≡◌, ℕ, suc, zero, ◌+◌, ◌∙◌, sym, ap, refl, List, [], ◌∷◌, ◌++◌, length, take, drop}
+use Rattle.std.proofs.Common.{arith, subst, Option, Some, None, true, false, slice_get, is_some, take-append-drop}
+use Rattle.std.proofs.Common.{append-nil}
+use Rattle.hlc_text.specs.{Text.Reads, Lines.lines_of}
 use Rattle.hlc_world_event.specs.Events.{Event}
 use Rattle.hlc_line.specs.Line.{event_line, HasLine}
 use Rattle.hlc_explain.specs.Lines.{IsEventLine, AreEventLines, IsFirstBadLine}

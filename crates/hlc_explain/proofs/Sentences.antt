@@ -1,12 +1,9 @@
 -- Lemmas on a text with more bytes, for proofs about sentences: bytes after bytes are the bytes of both.
 use Rattle.std.proofs.Common.{◌≡◌, ℕ, suc, zero, ◌≤◌, ◌<◌, ◌-◌, ◌+◌, ◌∙◌, sym, ap, refl, List, [], ◌∷◌, ◌++◌, length}
-use Rattle.std.proofs.Common.{take, min, arith, length-append, append_assoc, inl, inr}
-use Rattle.std.specs.Prelude.{nat_lt, get_or}
-use Rattle.std.specs.List.{filter, flat_map}
-use Rattle.std.proofs.lemmas.Bool.{cases_Bool, ltb-true, ltb-false, lt-ltb, le-ltb}
-use Rattle.std.proofs.lemmas.List.{append-nil, take_more, take_min}
-use Rattle.std.proofs.lemmas.List.Elements.{filter-append}
-use Rattle.std.proofs.lemmas.Grind.{flat_map-append}
+use Rattle.std.proofs.Common.{take, min, arith, length-append, append_assoc, inl, inr, nat_lt, get_or, filter, flat_map}
+use Rattle.std.proofs.Common.{ltb-true, ltb-false, lt-ltb, le-ltb, append-nil}
+use Rattle.std.proofs.lemmas.{Bool.cases_Bool, Grind.flat_map-append}
+use Rattle.std.proofs.lemmas.List.{take_more, take_min, Elements.filter-append}
 use Rattle.hlc_explain.specs.Sentence.{is_shown, with_byte, with_bytes, quoted_byte, quoted}
 
 -- what of two lists has room: of the second, as much as the first leaves

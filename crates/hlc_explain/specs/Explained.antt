@@ -1,10 +1,7 @@
 -- What follows a run on standard error.
 use Rattle.std.specs.Prelude.{ℕ, ◌==◌, ◌++◌, List, [], Option, if◌then◌else◌}
-use Rattle.hlc_text.specs.declared.watched.Watched.{Watched}
-use Rattle.hlc_text.specs.Text.{printed}
-use Rattle.hlc_text.specs.Printing.{Writes}
-use Rattle.hlc_explain.specs.declared.usage.TheConstants.{USAGE}
-use Rattle.hlc_explain.specs.Sentence.{IsSentence}
+use Rattle.hlc_text.specs.{declared.watched.Watched.Watched, Text.printed, Printing.Writes}
+use Rattle.hlc_explain.specs.{declared.usage.TheConstants.USAGE, Sentence.IsSentence}
 
 -- Nothing for the status 0; else a sentence, and after words that were refused also how the program is used.
 abbrev pub explained : ℕ → List ℕ → List ℕ

@@ -1,7 +1,6 @@
 -- What a reader keeps of the bytes that it gave.
 use Rattle.std.specs.Prelude.{◌≡◌, ◌++◌, ◌==◌, ℕ, List, Bool, take, MatchResult, Result, if◌then◌else◌}
-use Rattle.hlc_explain.specs.declared.kept.Kept.{Kept}
-use Rattle.hlc_explain.specs.declared.kept.Last.{Last}
+use Rattle.hlc_explain.specs.declared.kept.{Kept.Kept, Last.Last}
 
 -- the reader whose bytes are kept
 abbrev pub source_of : {R : Type 0} → Kept R → R

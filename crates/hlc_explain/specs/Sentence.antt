@@ -1,8 +1,7 @@
 -- What a sentence may be, what becomes of it with more bytes, and how bytes are written and quoted in it.
-use Rattle.std.specs.Prelude.{◌≡◌, ◌≤◌, ◌&&◌, ◌++◌, ◌∷◌, ◌/◌, ◌%◌, [], ℕ, List, Bool, true, nat_le, nat_lt, length}
-use Rattle.std.specs.Prelude.{◌-◌, if◌then◌else◌, take, codes}
-use Rattle.std.specs.Fmt.{digit_glyph}
-use Rattle.std.specs.List.{list_all, filter, flat_map}
+use Rattle.std.specs.Prelude.{◌≡◌, ◌≤◌, ◌&&◌, ◌++◌, ◌∷◌, ◌/◌, ◌%◌, [], ℕ, List, Bool, true, nat_le, nat_lt, length, ◌-◌}
+use Rattle.std.specs.Prelude.{if◌then◌else◌, take, codes}
+use Rattle.std.specs.{Fmt.digit_glyph, List.list_all, List.filter, List.flat_map}
 
 -- a byte that a terminal shows as it is: from a space to a tilde
 abbrev pub is_shown : ℕ → Bool

@@ -1,6 +1,5 @@
 //! What follows a run on standard error.
-ghost use Rattle.hlc_text.specs.Printing.{Prints, Writes};
-ghost use Rattle.hlc_text.specs.Text.{printed};
+ghost use Rattle.hlc_text.specs.{Printing.Prints, Printing.Writes, Text.printed};
 ghost use Rattle.hlc_explain.specs.Explained.{Explains, explained};
 
 use crate::ending::sentence_for;

@@ -1,7 +1,6 @@
 //! A reader that keeps what it gave, so that a line of it can be shown after it was refused.
 ghost use Rattle.std.specs.Prelude.{◌≡◌, ◌++◌, [], length, IsTrue, MatchOption, IfOk, OnErr};
-ghost use Rattle.std.specs.Io.{ReadsAtMost};
-ghost use Rattle.std.specs.Io.KnownBytes.{ReadConsumes};
+ghost use Rattle.std.specs.Io.{ReadsAtMost, KnownBytes.ReadConsumes};
 ghost use Rattle.hlc_explain.specs.Kept.{source_of, is_whole, kept_bytes, last_read, last_of, Adds};
 
 use std::alloc::Global;

@@ -1,7 +1,6 @@
 //! A sentence: one line of text that a terminal shows as it is, of a limited length. It takes no memory.
 ghost use Rattle.std.specs.Prelude.{◌≡◌, ◌≤◌, ◌<◌, [], true, length, decimal};
-ghost use Rattle.std.specs.Fmt.{digit_glyph};
-ghost use Rattle.std.specs.List.{list_all, flat_map};
+ghost use Rattle.std.specs.{Fmt.digit_glyph, List.list_all, List.flat_map};
 ghost use Rattle.hlc_explain.specs.Sentence.{is_shown, with_byte, with_bytes, hex, escape, quoted_byte, quoted};
 
 use arrayvec::ArrayVec;

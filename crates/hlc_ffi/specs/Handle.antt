@@ -1,8 +1,6 @@
 -- What a handle contains before and after a call.
-use Rattle.std.specs.Prelude.{◌≡◌, ℕ, List, ◌++◌, Option, None, IsSome, MatchOption}
-use Rattle.std.specs.List.Sorted.{IsPermutation}
-use Rattle.hlc_core.specs.StoreView.{StoreView, Represents}
-use Rattle.hlc_core.specs.Past.{Step, item_rows}
+use Rattle.std.specs.Prelude.{◌≡◌, ℕ, List, ◌++◌, Option, None, IsSome, MatchOption, IsPermutation}
+use Rattle.hlc_core.specs.{StoreView.StoreView, StoreView.Represents, Past.Step, Past.item_rows}
 use Rattle.hlc_node.specs.declared.item.Item.{Item}
 use Rattle.hlc_handle.specs.contracts.reader.LentRoom.{the_row}
 use Rattle.hlc_calls.specs.Answers.{ReturnsAccepted, ReturnsChecked}

@@ -1,7 +1,6 @@
 //! The names and the texts of answers.
 ghost use Rattle.std.specs.Prelude.{◌≡◌, length};
-ghost use Rattle.hlc_calls.specs.Answers.{IsCopied};
-ghost use Rattle.hlc_calls.specs.Texts.{answer_name, answer_text};
+ghost use Rattle.hlc_calls.specs.{Answers.IsCopied, Texts.answer_name, Texts.answer_text};
 
 use hlc_calls::answers::{name, text};
 use hlc_calls::outputs::fill;

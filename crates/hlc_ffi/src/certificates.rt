@@ -1,11 +1,8 @@
 //! The calls that make and check certificates.
 ghost use Rattle.std.specs.Prelude.{◌≡◌, ◌≢◌, List};
-ghost use Rattle.hlc_core.specs.Past.{Step};
-ghost use Rattle.hlc_core.specs.StoreView.{Represents};
-ghost use Rattle.hlc_calls.specs.Check.{ReturnsCheck};
-ghost use Rattle.hlc_calls.specs.Certified.{ReturnsCertificate, ReturnsNoCertificate};
-ghost use Rattle.hlc_ffi.specs.Handle.{OnReader, IsGivenBack};
-ghost use Rattle.hlc_ffi.specs.Outputs.{OnOutput};
+ghost use Rattle.hlc_core.specs.{Past.Step, StoreView.Represents};
+ghost use Rattle.hlc_calls.specs.{Check.ReturnsCheck, Certified.ReturnsCertificate, Certified.ReturnsNoCertificate};
+ghost use Rattle.hlc_ffi.specs.{Handle.OnReader, Handle.IsGivenBack, Outputs.OnOutput};
 
 use crate::handle::{into_output, of_core};
 use hlc_calls::certificates::{certify, check};

@@ -1,10 +1,8 @@
 //! The calls that save a store as the bytes of a checkpoint, and divide and join such bytes.
 ghost use Rattle.std.specs.Prelude.{◌≡◌, ◌≢◌, ⊤, List};
-ghost use Rattle.hlc_core.specs.Past.{Step};
-ghost use Rattle.hlc_core.specs.StoreView.{Represents};
+ghost use Rattle.hlc_core.specs.{Past.Step, StoreView.Represents};
 ghost use Rattle.hlc_saved.specs.Saved.{AreOfStore, BytesRepresent};
-ghost use Rattle.hlc_ffi.specs.Handle.{OnReader, IsGivenBack};
-ghost use Rattle.hlc_ffi.specs.Outputs.{OnOutput};
+ghost use Rattle.hlc_ffi.specs.{Handle.OnReader, Handle.IsGivenBack, Outputs.OnOutput};
 ghost use Rattle.hlc_split_calls.specs.Halves.{AreHalves, AreJoined, IsNotDivided, IsNotJoined};
 ghost use Rattle.hlc_split_calls.specs.Outputs.{OnOutputs};
 

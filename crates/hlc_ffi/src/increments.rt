@@ -1,12 +1,10 @@
 //! The calls that make increments of checkpoints, and apply them.
 ghost use Rattle.std.specs.Prelude.{◌≡◌, ◌≢◌, ℕ, ◌++◌, List, IfSome};
-ghost use Rattle.hlc_core.specs.Past.{Step};
-ghost use Rattle.hlc_core.specs.StoreView.{StoreView, Represents};
+ghost use Rattle.hlc_core.specs.{Past.Step, StoreView.StoreView, StoreView.Represents};
 ghost use Rattle.hlc_saved.specs.Saved.{AreOf, BytesRepresent};
 ghost use Rattle.hlc_increment.specs.Increment.{IncrementView, IsIncrementOf, without_drops};
 ghost use Rattle.hlc_increment.specs.Bytes.{IncrementFits, increment_bytes};
-ghost use Rattle.hlc_ffi.specs.Handle.{OnReader, IsGivenBack};
-ghost use Rattle.hlc_ffi.specs.Outputs.{OnOutput};
+ghost use Rattle.hlc_ffi.specs.{Handle.OnReader, Handle.IsGivenBack, Outputs.OnOutput};
 ghost use Rattle.hlc_increment_calls.specs.Increments.{AreAdvanced, AreIncrementOf, IsNotAdvanced, IsRefusedIncrement};
 
 use crate::handle::{into_output, of_core};

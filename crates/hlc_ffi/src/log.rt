@@ -4,8 +4,7 @@ ghost use Rattle.hlc_node.specs.declared.item.Body.TheVariants.{Write as a_write
 ghost use Rattle.hlc_node.specs.declared.item.Body.TheVariants.{Retire as a_retire, Batch as a_batch};
 ghost use Rattle.hlc_node.specs.Items.{an_item};
 ghost use Rattle.hlc_log.specs.declared.record.Record.TheVariants.{Join, Threshold};
-ghost use Rattle.hlc_calls.specs.Log.{AreTaken, ReturnsItem};
-ghost use Rattle.hlc_calls.specs.Records.{ReturnsApplied, ReturnsRecord};
+ghost use Rattle.hlc_calls.specs.{Log.AreTaken, Log.ReturnsItem, Records.ReturnsApplied, Records.ReturnsRecord};
 ghost use Rattle.hlc_node_calls.specs.Batches.{batch_in};
 ghost use Rattle.hlc_ffi.specs.Handle.{OnStorePast};
 

@@ -3,8 +3,7 @@ ghost use Rattle.std.specs.Prelude.{◌≡◌, ◌<◌, ◌≤◌, [], ◌∷◌
 ghost use Rattle.hlc_node.specs.Node.{expected_event, stamped};
 ghost use Rattle.hlc_node.specs.declared.item.Body.TheVariants.{Write as a_write, Report as a_report};
 ghost use Rattle.hlc_node.specs.declared.item.Body.TheVariants.{Retire as a_retire, Batch as a_batch};
-ghost use Rattle.hlc_node_calls.specs.Batches.{batch_in};
-ghost use Rattle.hlc_node_calls.specs.Nodes.{ReturnsStamped, ReturnsIssued};
+ghost use Rattle.hlc_node_calls.specs.{Batches.batch_in, Nodes.ReturnsStamped, Nodes.ReturnsIssued};
 
 use hlc_clock::Stamp;
 use hlc_node::NodeCore;

@@ -1,14 +1,10 @@
 //! The calls that read and list the rows of a store. No call takes memory.
 ghost use Rattle.std.specs.Prelude.{◌≡◌, ◌≢◌, true, false};
 ghost use Rattle.hlc_core.specs.Past.{stamp_of, writes};
-ghost use Rattle.hlc_calls.specs.Answers.{ReturnsRead};
-ghost use Rattle.hlc_calls.specs.ReadAll.{ReturnsAll};
-ghost use Rattle.hlc_range_calls.specs.Listing.{ReturnsListing};
-ghost use Rattle.hlc_calls.specs.Digest.{ReturnsDigest};
+ghost use Rattle.hlc_calls.specs.{Answers.ReturnsRead, ReadAll.ReturnsAll, Digest.ReturnsDigest};
+ghost use Rattle.hlc_range_calls.specs.{Listing.ReturnsListing, Changes.ReturnsChanges, Versions.ReturnsVersions};
 ghost use Rattle.hlc_handle_calls.specs.Views.{IsNowhere, ReturnsView};
 ghost use Rattle.hlc_range_calls.specs.Scan.{ReturnsScan, ReturnsScanBack, ReturnsCount};
-ghost use Rattle.hlc_range_calls.specs.Changes.{ReturnsChanges};
-ghost use Rattle.hlc_range_calls.specs.Versions.{ReturnsVersions};
 ghost use Rattle.hlc_ffi.specs.Handle.{OnReader, OnReaderPast, OnLoanPast, ListsNothing, IsGivenBack};
 
 use crate::handle::of_core;

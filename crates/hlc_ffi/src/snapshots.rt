@@ -1,7 +1,6 @@
 //! The calls that open, close and list snapshots.
 ghost use Rattle.std.specs.Prelude.{◌≡◌, ◌≢◌, slice_get};
-ghost use Rattle.hlc_core.specs.Past.{closed_all, open_snapshots};
-ghost use Rattle.hlc_core.specs.StoreView.{Represents};
+ghost use Rattle.hlc_core.specs.{Past.closed_all, Past.open_snapshots, StoreView.Represents};
 ghost use Rattle.hlc_calls.specs.Answers.{ReturnsOpened, ReturnsOpenedAtFloor, ReturnsClosed};
 ghost use Rattle.hlc_calls.specs.Status.{ReturnsSnapshot};
 ghost use Rattle.hlc_ffi.specs.Handle.{OnStorePast, OnReaderPast, IsGivenBack};

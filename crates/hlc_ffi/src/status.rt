@@ -1,8 +1,7 @@
 //! What a store has: its floor and horizon, its rows, its nodes and their links. No call takes memory.
 ghost use Rattle.std.specs.Prelude.{◌≡◌, length, false};
 ghost use Rattle.hlc_core.specs.Past.{floor, horizon, numbered};
-ghost use Rattle.hlc_calls.specs.Answers.{ReturnsSizes, narrowed};
-ghost use Rattle.hlc_calls.specs.Status.{ReturnsLink, ReturnsHolder};
+ghost use Rattle.hlc_calls.specs.{Answers.ReturnsSizes, Answers.narrowed, Status.ReturnsLink, Status.ReturnsHolder};
 ghost use Rattle.hlc_ffi.specs.Handle.{OnReader, OnReaderPast, IsGivenBack};
 
 use crate::handle::of_core;

@@ -1,8 +1,7 @@
 //! The calls that drop what no reader needs.
 ghost use Rattle.std.specs.Prelude.{◌≡◌, ◌≢◌, List, false};
 ghost use Rattle.hlc_vacuum.specs.Representing.{IsWithin};
-ghost use Rattle.hlc_core.specs.Past.{Step};
-ghost use Rattle.hlc_core.specs.StoreView.{Represents};
+ghost use Rattle.hlc_core.specs.{Past.Step, StoreView.Represents};
 ghost use Rattle.hlc_calls.specs.Answers.{ReturnsVacuumedAtFloor, ReturnsVacuumedTo, ReturnsVacuumChecked};
 ghost use Rattle.hlc_calls.specs.Answers.{ReturnsVacuumedPart};
 ghost use Rattle.hlc_ffi.specs.Handle.{OnStore, OnReader, IsGivenBack};

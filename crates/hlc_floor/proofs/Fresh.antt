@@ -2,21 +2,17 @@
 -- seats saw stays at or below its word; the seat that raised owns the one word that changed; and what a load saw is the
 -- word itself. A split makes two seats of one, which own no number together.
 use Rattle.std.proofs.Common.{◌≡◌, ◌≢◌, ◌⊎◌, ℕ, zero, suc, ◌<◌, ◌≤◌, List, [], ◌∷◌, ◌++◌, length, set, get_or, take}
-use Rattle.std.proofs.Common.{replicate}
-use Rattle.std.proofs.Common.{inl, inr, sym, refl, ap, ◌∙◌, subst, ⊎_elim, arith}
-use Rattle.std.specs.Prelude.{slice_index}
+use Rattle.std.proofs.Common.{replicate, inl, inr, sym, refl, ap, ◌∙◌, subst, ⊎_elim, arith}
+use Rattle.std.{specs.Prelude.slice_index, proofs.Math.ListN.length-set}
 use Rattle.std.proofs.lemmas.List.{set-get_or, get_or-set_same, get_or-set_other, length-take-le, length-replicate}
-use Rattle.std.proofs.Math.ListN.{length-set}
-use mathlib.Core.Option.{some, some-ne-none, some-injective}
-use mathlib.Core.Logic.{dite}
+use mathlib.Core.{Option.some, Option.some-ne-none, Option.some-injective, Option.none, Logic.dite}
 use native.Mathlib.Decide.{ℕ_discrete}
 use lib.ListN.{get_elem?}
 use Rattle.atomic_table.specs.Table.{State, Step, step, keeps, Me, Allows, Splits, opening}
 use Rattle.atomic_table.proofs.Lists.{at_set}
 use Rattle.hlc_floor.specs.declared.rule.Place.{Place}
-use Rattle.hlc_floor.specs.Board.{Owns, IsSeat, IsFresh, uncut, feeder_place, pass_place, without_first, looked}
-use Rattle.hlc_floor.specs.Board.{Raises, Looks}
-use mathlib.Core.Option.{none}
+use Rattle.hlc_floor.specs.Board.{Owns, IsSeat, IsFresh, uncut, feeder_place, pass_place, without_first, looked, Raises}
+use Rattle.hlc_floor.specs.Board.{Looks}
 
 -- the position of a view in a list to which one was added
 at_snoc_where : (l : List Place) (a b : Place) (j : ℕ) → get_elem? (l ++ a ∷ []) j ≡ some b

@@ -1,11 +1,9 @@
 -- One node after another is loaded: the least so far is that of the nodes loaded, since each load finds one more value,
 -- and the values seen before do not change.
-use Rattle.std.proofs.Common.{◌≡◌, ◌≢◌, ℕ, ◌+◌, ◌<◌, ◌≤◌, [], ◌∷◌, ◌++◌, min, sym, ap, ◌∙◌, subst, arith}
-use Rattle.std.specs.Prelude.{slice_index}
+use Rattle.std.proofs.Common.{◌≡◌, ◌≢◌, ℕ, ◌+◌, ◌<◌, ◌≤◌, [], ◌∷◌, ◌++◌, min, sym, ap, ◌∙◌, subst, arith, slice_index}
 use mathlib.Core.Logic.{dite}
 use native.Mathlib.Decide.{ℕ_discrete, dec_le}
-use Rattle.hlc_floor.specs.Board.{found_at}
-use Rattle.hlc_floor.specs.Views.{FloorPassView, LooksAt}
+use Rattle.hlc_floor.specs.{Board.found_at, Views.FloorPassView, Views.LooksAt}
 
 -- the first `node` nodes were loaded once, and least is the least of what was seen
 pub record HasLooked (first now : FloorPassView) (node least : ℕ) : Type 0 where

@@ -1,18 +1,12 @@
 -- What a handle owns is the same in every thread.
-use Rattle.std.specs.Prelude.{[], ◌∷◌, Option, Some, None}
+use Rattle.std.specs.{Prelude.[], Prelude.◌∷◌, Prelude.Option, Prelude.Some, Prelude.None, Borrow.u8}
 use mir.Raw.{raw}
 use base.Shift.{Keyless}
-use denote.RattleType.{RattleType}
-use denote.Memory.{lone}
-use denote.RawPtr.{Ptr}
-use denote.Builtin.{RawPtr, bool}
+use denote.{RattleType.RattleType, Memory.lone, RawPtr.Ptr, Builtin.RawPtr, Builtin.bool}
 use denote.Param.Send.{IsSend, IsSync, sendable}
-use Rattle.std.specs.Borrow.{u8}
 use Rattle.std.proofs.Crossing.{frees, Vec-send}
 use Rattle.std_alloc.proofs.SendSync.{lies, seen}
-use Rattle.hlc_handle.specs.Slot.{slot_owns}
-use Rattle.hlc_handle.specs.Lent.{Loan, lent_room_owns}
-use Rattle.hlc_handle.specs.Rows.{bytes_row}
+use Rattle.hlc_handle.specs.{Slot.slot_owns, Rows.bytes_row, Lent.Loan, Lent.lent_room_owns}
 
 pub pointer_send : IsSend RawPtr
 pointer_send = search sendable

@@ -1,15 +1,13 @@
 -- The handles of a box, one for each type that is in one.
-use Rattle.std.proofs.Common.{refl}
-use Rattle.std.specs.Prelude.{is_some}
+use Rattle.std.{proofs.Common.refl, specs.Prelude.is_some}
+use Rattle.hlc_handle.{specs.Rows.bytes_row, proofs.Slots.Slot}
 use Rattle.hlc_core.specs.contracts.store.Core as core
 use Rattle.hlc_saved.specs.contracts.reader.CheckpointReader as reader
 use Rattle.hlc_saved.specs.contracts.savings.Saver as saver
-use Rattle.hlc_handle.specs.Rows.{bytes_row}
 use Rattle.hlc_handle.specs.contracts.output.Output as the_output
 use Rattle.hlc_handle.specs.contracts.restoring.Restoring as the_restoring
 use Rattle.hlc_handle.specs.contracts.saving.Saving as the_saving
 use Rattle.hlc_handle.specs.contracts.store.Store as the_store
-use Rattle.hlc_handle.proofs.Slots.{Slot}
 
 abbrev pub store : Slot core.the_row
 store = record {

@@ -1,23 +1,17 @@
 -- What a reader beside others lends, as an owner of an `Arc` does, without a count. Assumes `Logic`.
-use Prim.Native.Nat.{ℕ}
-use mathlib.Core.List.{[], ◌∷◌}
+use Rattle.std.proofs.Common.{ℕ, [], ◌∷◌}
 use seplogic.Ra.Ura.{Ura}
-use base.FractionLaws.{Counts}
-use base.Logic.{ent, sep, wand, upd_i, id⊢, apply∗}
+use base.{FractionLaws.Counts, Logic.ent, Logic.sep, Logic.wand, Logic.upd_i, Logic.id⊢, Logic.apply∗}
 use base.Fml.{Lft, Share, Fml, ftrue, fsep, fseps, fwand, fupd, fdead, fbor, flft}
 use contract.BorrowLft.{meet_⊑_left}
 use ghost.Rules.{span, thinned}
-use types.Logic.{Logic, sem, lfts}
-use types.Kit.{‵, raw, ◌⊛◌, some as exists, later, ◌$◌, ◌∵◌, !, qed, by, move, keep, use1, use2, split}
-use types.Kit.{fsplit, fsplit3, fjoin, fpick, pick, assume, suffices, await, updating, now, done}
+use types.{Logic.Logic, Logic.sem, Logic.lfts, RcWeak.part, RcWeak.part_in}
+use types.Kit.{‵, raw, ◌⊛◌, some as exists, later, ◌$◌, ◌∵◌, !, qed, by, move, keep, use1, use2, split, fsplit, fsplit3}
+use types.Kit.{fjoin, fpick, pick, assume, suffices, await, updating, now, done}
 use types.Tokens.{bor_open, obor_alter, bor_fracture, one_token}
-use types.RcWeak.{part, part_in}
-use denote.Moves.{moves_from}
-use denote.RattleType.{RattleType, RowLaws}
-use denote.RawPtr.{Ptr}
+use denote.{Moves.moves_from, RawPtr.Ptr, Steps.nothing, RattleType.RattleType, RattleType.RowLaws}
 use denote.Sharing.{ShrLaws, beside, one, held}
 use denote.SharingLaws.{contraction, beside_shr_laws, one_shr_laws, held_shr_laws}
-use denote.Steps.{nothing}
 use denote.Struct.Lending.{Lends, lent_at, lent_at_shr_laws}
 use Rattle.hlc_handle.specs.Lent.{Loan, lent_shares}
 

@@ -2,10 +2,8 @@
 use Rattle.std.proofs.Common.{[], ◌∷◌}
 use seplogic.Ra.Ura.{Ura}
 use base.Logic.{ent, never, id⊢}
-use types.Logic.{Logic, sem}
-use types.Kit.{‵, ◌$◌, ◌∵◌, !, qed, by, keep, move, fsplit}
-use denote.RattleType.{RattleType}
-use denote.RawPtr.{null_ptr}
+use types.{Logic.Logic, Logic.sem, Kit.‵, Kit.◌$◌, Kit.◌∵◌, Kit.!, Kit.qed, Kit.by, Kit.keep, Kit.move, Kit.fsplit}
+use denote.{RattleType.RattleType, RawPtr.null_ptr}
 use Rattle.hlc_handle.specs.Lent.{Loan, lent_owns}
 
 -- nobody reads what lies at null

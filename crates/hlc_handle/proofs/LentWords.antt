@@ -1,16 +1,11 @@
 -- The pointer in what a `&` to a reader shows. Assumes `Logic`.
 use Rattle.std.proofs.Common.{ℕ, ◌+◌, [], ◌∷◌}
 use seplogic.Ra.Ura.{Ura}
-use base.Logic.{ent, sep}
-use base.Fml.{Fml, Lft}
-use types.Logic.{Logic, sem}
-use types.Kit.{‵, ◌$◌, ◌∵◌, !, qed, keep, fsplit, done}
-use denote.Memory.{hidden_shr}
-use denote.Opens.{shr_dup, unhide, hide}
-use denote.RattleType.{RattleType, RowLaws}
-use denote.RawPtr.{RawPtr, ptr_row_laws}
-use denote.Struct.Struct.{Struct, Struct-row_laws}
-use denote.Struct.Owning.{shape}
+use base.{Logic.ent, Logic.sep, Fml.Fml, Fml.Lft}
+use types.{Logic.Logic, Logic.sem, Kit.‵, Kit.◌$◌, Kit.◌∵◌, Kit.!, Kit.qed, Kit.keep, Kit.fsplit, Kit.done}
+use denote.{Memory.hidden_shr, RawPtr.RawPtr, RawPtr.ptr_row_laws}
+use denote.{Opens.shr_dup, Opens.unhide, Opens.hide, RattleType.RattleType, RattleType.RowLaws}
+use denote.Struct.{Struct.Struct, Struct.Struct-row_laws, Owning.shape}
 use Rattle.hlc_handle.specs.contracts.reader.LentCore as lent
 
 abbrev pub Words : RattleType

@@ -1,23 +1,15 @@
 -- That C can keep its promise about readers: what a store owns can be lent to one reader, a reader can be made beside
 -- another, and once all have returned, the store owns what it did. Assumes `Logic`.
-use Prim.Native.Nat.{ℕ, ◌+◌, ◌-◌, ◌^◌, ◌<◌}
-use mathlib.Core.List.{[], ◌∷◌}
+use Rattle.std.proofs.Common.{ℕ, ◌+◌, ◌-◌, ◌^◌, ◌<◌, [], ◌∷◌, lit<}
 use seplogic.Ra.Ura.{Ura}
-use lib.Dec.{lit<}
-use base.Fraction.{full_share}
-use base.FractionLaws.{Counts-all}
-use base.Logic.{ent, sep}
+use base.{Fraction.full_share, Logic.ent, Logic.sep, FractionLaws.Counts-all}
 use base.Fml.{Lft, Incl, Incl-trans, Share, Fml, fsep, fex, flft, flent}
 use contract.BorrowLft.{meet_⊑_left, meet_⊑_right}
-use types.Logic.{Logic, sem}
-use types.Kit.{‵, ◌⊛◌, later, await, ◌$◌, ◌∵◌, !, qed, use1, use2, move, keep, split, split3, join, fsplit}
-use types.Kit.{fjoin, fpack, fpick, updating, now, done}
-use types.Tokens.{lft_new, lft_end, bor_new, lent_back}
+use types.{Logic.Logic, Logic.sem, Tokens.lft_new, Tokens.lft_end, Tokens.bor_new, Tokens.lent_back}
+use types.Kit.{‵, ◌⊛◌, later, await, ◌$◌, ◌∵◌, !, qed, use1, use2, move, keep, split, split3, join, fsplit, fjoin}
+use types.Kit.{fpack, fpick, updating, now, done}
 use types.RcWeak.{part, rest, part_in, cut, takes, gives, whole}
-use denote.RattleType.{RattleType}
-use denote.RawPtr.{Ptr, lies_at}
-use denote.SharingLaws.{contraction}
-use denote.Param.Laws.{Laws}
+use denote.{RattleType.RattleType, Param.Laws.Laws, RawPtr.Ptr, RawPtr.lies_at, SharingLaws.contraction}
 use denote.Struct.Lending.{lent_at, lent_at_shr_laws, Lends-lies}
 
 module _ (R : RattleType) (L : Laws R) (at : Ptr) (value : R.Denot) where

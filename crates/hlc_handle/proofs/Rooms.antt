@@ -1,16 +1,12 @@
 -- The machine value of a room: of a struct that has one field, a raw pointer, and owns something. Assumes `Logic`.
-use Rattle.std.proofs.Common.{◌≡◌, List, [], ◌∷◌, ◌++◌, refl, subst}
+use Rattle.std.proofs.Common.{◌≡◌, List, [], ◌∷◌, ◌++◌, refl, subst, Option, Some, None, IsSome}
 use mathlib.Core.Bool.{false≢true}
-use Rattle.std.specs.Prelude.{Option, Some, None, IsSome}
 use seplogic.Ra.Ura.{Ura}
 use mir.Val.{Val, vstruct, vcons, vnil, of_list}
 use base.Fml.{Fml, feq, fex, fsep, ftrue}
 use types.Logic.{Logic}
 use types.Kit.{Item, Goal, Seq, Step, step, ‵, ◌$◌, drop, fsplit, fjoin, fpick, fpack, feq_i, feq_l}
-use denote.RattleType.{Valss}
-use denote.Builtin.{RawPtr}
-use denote.RawPtr.{Ptr, ptr_val}
-use denote.Steps.{nothing}
+use denote.{RattleType.Valss, RawPtr.Ptr, RawPtr.ptr_val, Builtin.RawPtr, Steps.nothing}
 
 abbrev pub one : Val → Val
 one v = vstruct (vcons v vnil)

@@ -1,55 +1,37 @@
 -- What every handle of a box does, whichever type is in the box: `none`, `of` and `loose`. Assumes `Logic`.
-use Rattle.std.proofs.Common.{◌≡◌, ℕ, List, [], ◌∷◌, ◌++◌, refl, sym, ap, ◌∙◌, subst, lit<, w64}
-use mathlib.Core.Bool.{Bool, true, false}
-use Rattle.std.specs.Prelude.{Option, Some, None, MatchOption, is_some}
+use Rattle.std.proofs.Common.{◌≡◌, ℕ, List, [], ◌∷◌, ◌++◌, refl, sym, ap, ◌∙◌, subst, lit<, w64, Bool, true, false}
+use Rattle.std.proofs.Common.{Option, Some, None, MatchOption, is_some, w8, T}
 use seplogic.Ra.Ura.{Ura}
-use mir.Syntax.{impl, tnil, dnil, Fn, Body, Callee, Local, local, value_local, ty_ptr, ty_bool, w8, assign, place}
-use mir.Syntax.{field, rv_opd, op1, bit_not, copy, int, opd_true, opd_false, aggregate, cond, skip, seq, return}
-use mir.Raw.{raw as bare}
-use mir.Val.{Val, vptr, vbool, vstruct, of_list, has_ty, WT}
-use base.Logic.{SProp, ent, emp, id⊢, never, fst∗}
-use base.Fml.{Fml, feq, fsep, ftrue}
-use lib.Dec.{T}
-use prog.Model.{Model}
-use prog.Wp.{WpFn, Closed}
-use types.Logic.{Logic, sem}
+use mir.Syntax.{impl, tnil, dnil, Fn, Body, Callee, Local, local, value_local, ty_ptr, ty_bool, assign, place, field}
+use mir.Syntax.{rv_opd, op1, bit_not, copy, int, opd_true, opd_false, aggregate, cond, skip, seq, return}
+use mir.{Raw.raw as bare, Val.Val, Val.vptr, Val.vbool, Val.vstruct, Val.of_list, Val.has_ty, Val.WT}
+use base.{Logic.SProp, Logic.ent, Logic.emp, Logic.id⊢, Logic.never, Logic.fst∗, Fml.Fml, Fml.feq, Fml.fsep, Fml.ftrue}
+use prog.{Model.Model, Wp.WpFn, Wp.Closed}
+use types.{Logic.Logic, Logic.sem, Match.live as alive_at, Part.agg, Part.sub, Part.whole}
 use types.Kit.{Item, Goal, Seq, Sq, prop, Step, step, ‵, raw, ◌⊛◌, at_ret, ◌$◌, ◌∵◌, !, qed, by, move, keep, drop}
 use types.Kit.{split, fsplit, fjoin, fpick, fpack, feq_i, feq_l, suffices, use0, use1, rewrite}
 use types.Run.{stop, fld, of_opd, lit, un, true_lit, false_lit, no_more, and_then, first, branches, skips, exec, enter}
 use types.Run.{returns, returns_within}
 use types.ByLocal.{alloc_all, pass_all, free_all, look_at, get, get_in, sets, env}
-use types.Match.{live as alive_at}
-use types.Part.{agg, sub, whole}
-use contract.Monad.{fact, fact_i}
-use contract.Running.{Running, tables}
-use denote.Builtin.{RawPtr, bool}
-use denote.Exit.{yes, hidden, under}
-use denote.Memory.{lone}
+use contract.{Monad.fact, Monad.fact_i, Running.Running, Running.tables}
+use denote.{Builtin.RawPtr, Builtin.bool, Exit.yes, Exit.hidden, Exit.under}
+use denote.{Memory.lone, Param.layout, Steps.nothing, Signature.types_at, Signature.plain}
 use denote.RattleType.{RattleType, Valss, owns}
 use denote.RawPtr.{Ptr, block_ptr, null_ptr, ptr_val, in_a_block}
-use denote.Param.{layout}
-use denote.Signature.{types_at, plain}
-use denote.Steps.{nothing}
 use denote.Struct.Field.{RawPtr-field, bool-field, rows}
-use denote.Struct.Owning.{Owning, row}
-use denote.Struct.Struct.{exits_of}
-use denote.Struct.Values.{intos}
-use denote.Triple.Clauses.{Ended, Clauses, closing}
-use denote.Triple.Entry.{alive}
-use denote.Triple.Spec.{Meets}
+use denote.Struct.{Owning.Owning, Owning.row, Struct.exits_of, Values.intos}
+use denote.Triple.{Clauses.Ended, Clauses.Clauses, Clauses.closing, Entry.alive, Spec.Meets}
 use denote.Triple.Walked.{Stays, stay_dropped, walk_of}
 use Rattle.core.proofs.alloc.Calls.{Al, Goes-blank, handle_tells}
-use Rattle.core.proofs.cell.Inside.{Good}
-use Rattle.core.proofs.option.Made.{Some-of, none_of}
-use Rattle.core.specs.contracts.option.Option as option
+use Rattle.core.proofs.{cell.Inside.Good, option.Made.Some-of, option.Made.none_of}
 use Rattle.std.proofs.raw_atomic.Walks.{proved_at, leaves}
-use Rattle.std.specs.contracts.alloc.Global as heap
-use Rattle.std.proofs.alloc.Global.TheLaws as heap_laws
 use Rattle.std_heap.specs.contracts.GlobalAllocator.TheImpl.{ghosts}
-use Rattle.std_alloc.specs.Box.Ownership.{box_owns}
-use Rattle.std_alloc.proofs.RcSteps.{some_Good}
+use Rattle.std_alloc.{specs.Box.Ownership.box_owns, proofs.RcSteps.some_Good}
 use Rattle.hlc_handle.specs.Slot.{slot_owns}
 use Rattle.hlc_handle.proofs.Values.{both, Loose, loose_good, loose_in, loose_out}
+use Rattle.core.specs.contracts.option.Option as option
+use Rattle.std.specs.contracts.alloc.Global as heap
+use Rattle.std.proofs.alloc.Global.TheLaws as heap_laws
 
 -- a struct of a pointer and a flag, whose ghost field is what is in the box at the pointer, and which owns that box
 pub record Slot (R : RattleType) : Type 2 where

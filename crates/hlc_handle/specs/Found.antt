@@ -1,7 +1,6 @@
 -- What a read finds, and where that lies.
 use Rattle.std.specs.Prelude.{◌≡◌, ℕ, List, [], length, Option, Some, None}
-use Rattle.hlc_rows.specs.declared.row.Row.{Row}
-use Rattle.hlc_rows.specs.Rows.{answer}
+use Rattle.hlc_rows.specs.{declared.row.Row.Row, Rows.answer}
 
 -- 0, and the value; or 102, and no bytes, where there is none
 abbrev pub FindsAnswer : Option (List ℕ) → ℕ → List ℕ → Type 0

@@ -4,12 +4,9 @@
 use Rattle.std.specs.Prelude.{ℕ, List, [], ◌∷◌, Option, Some, None}
 use base.Fml.{Lft, Fml, ftrue, fsep, flft, fhide}
 use types.RcWeak.{part}
-use denote.RattleType.{RattleType}
-use denote.Builtin.{u8}
+use denote.{RattleType.RattleType, Builtin.u8, Sharing.beside, Sharing.one, Sharing.held}
 use denote.RawPtr.{Ptr, in_block, block_of, count_of}
-use denote.Sharing.{beside, one, held}
-use denote.Slice.{elements_shared}
-use denote.Struct.Lending.{lent_at}
+use denote.{Slice.elements_shared, Struct.Lending.lent_at}
 
 -- a lifetime, and the value that is shared for it
 abbrev pub Loan : RattleType → Type 0

@@ -1,8 +1,6 @@
 //! What a read finds in a core that others may read too, without a copy.
-ghost use Rattle.std.specs.Prelude.{◌≡◌, ℕ, List, Option, None};
-ghost use Rattle.std.specs.Ptr.{null_ptr};
-ghost use Rattle.hlc_core.specs.Past.{Step, stamp_of, writes};
-ghost use Rattle.hlc_core.specs.StoreView.{Represents};
+ghost use Rattle.std.specs.{Prelude.◌≡◌, Prelude.ℕ, Prelude.List, Prelude.Option, Prelude.None, Ptr.null_ptr};
+ghost use Rattle.hlc_core.specs.{Past.Step, Past.stamp_of, Past.writes, StoreView.Represents};
 ghost use Rattle.hlc_handle.specs.Found.{Finds, FindsLent};
 
 use crate::reader::LentCore;

@@ -1,8 +1,7 @@
 -- What a handle has once a store was made of bytes, or none was.
 use Rattle.std.proofs.Common.{◌≡◌, ℕ, List, sym, subst, ◌∙◌, inl}
 use Rattle.std.specs.Prelude.{Option, Some, None, MatchOption, Result, Ok, Err, MatchResult}
-use Rattle.hlc_core.specs.Past.{Step}
-use Rattle.hlc_core.specs.StoreView.{StoreView, Represents}
+use Rattle.hlc_core.specs.{Past.Step, StoreView.StoreView, StoreView.Represents}
 use Rattle.hlc_saved.proofs.SaveLemmas.{of_frame}
 use Rattle.hlc_calls.specs.Saved.{IsRestored, IsNotRestored}
 use Rattle.hlc_calls.proofs.ResumedLemmas.{Restores, LeavesPast}

@@ -1,8 +1,6 @@
 -- A store before and after it is opened, with its nodes or from bytes.
 use Rattle.std.specs.Prelude.{◌≡◌, ℕ, List, [], ◌∷◌, Option, Some, None, MatchOption}
-use Rattle.hlc_core.specs.Past.{Step, Started}
-use Rattle.hlc_core.specs.StoreView.{StoreView, Represents}
-use Rattle.hlc_core.specs.Calls.{new_refusal}
+use Rattle.hlc_core.specs.{Past.Step, Past.Started, Calls.new_refusal, StoreView.StoreView, StoreView.Represents}
 use Rattle.hlc_calls.specs.Saved.{IsRestored, IsNotRestored}
 
 -- A closed store was opened with this many nodes, and nothing else took place in it; or it stays closed, because of

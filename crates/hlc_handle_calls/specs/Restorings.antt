@@ -1,8 +1,7 @@
 -- A restore in pieces, before and after a call.
 use Rattle.std.specs.Prelude.{◌≡◌, ◌⊎◌, ℕ, List, [], ◌++◌, Option, Some, None, MatchOption}
 use Rattle.hlc_core.specs.StoreView.{StoreView}
-use Rattle.hlc_saved.specs.declared.reader.CheckpointReader.{CheckpointReader}
-use Rattle.hlc_saved.specs.Blocks.{HasRead}
+use Rattle.hlc_saved.specs.{declared.reader.CheckpointReader.CheckpointReader, Blocks.HasRead}
 use Rattle.hlc_handle_calls.specs.Opening.{IsRestoring}
 
 -- it has read nothing; or did not start, out of memory; one that was under way goes on

@@ -3,11 +3,8 @@ use Rattle.std.specs.Prelude.{◌≡◌, ◌⊎◌, ◌<◌, ◌≤◌, ℕ, Lis
 use Rattle.std.specs.Prelude.{drop}
 use Rattle.hlc_core.specs.StoreView.{StoreView}
 use Rattle.hlc_body.specs.Spelling.{saved_bytes}
-use Rattle.hlc_saved.specs.declared.fault.SaverError.{SaverError}
-use Rattle.hlc_saved.specs.declared.savings.Saver.{Saver}
-use Rattle.hlc_saved.specs.Faults.{saver_code}
-use Rattle.hlc_saved.specs.Saved.{AreOfStore}
-use Rattle.hlc_saved.specs.Saver.{HasMade, IsRefused, mark_of}
+use Rattle.hlc_saved.specs.declared.{fault.SaverError.SaverError, savings.Saver.Saver}
+use Rattle.hlc_saved.specs.{Faults.saver_code, Saved.AreOfStore, Saver.HasMade, Saver.IsRefused, Saver.mark_of}
 
 -- it has begun, nothing was read, and it will be this many bytes; or it did not start, out of memory; one that was
 -- under way goes on

@@ -1,8 +1,7 @@
 -- What a read returns that does not copy.
 use Rattle.std.specs.Prelude.{◌≡◌, ℕ, List, length, Option, Some, None}
 use Rattle.std.specs.Ptr.{null_ptr}
-use Rattle.hlc_rows.specs.declared.row.Row.{Row}
-use Rattle.hlc_rows.specs.Rows.{answer}
+use Rattle.hlc_rows.specs.{declared.row.Row.Row, Rows.answer}
 use Rattle.hlc_handle.specs.contracts.found.LentBytes.{the_row}
 
 -- bytes that are lent, and where they lie

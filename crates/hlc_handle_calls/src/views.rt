@@ -1,7 +1,6 @@
 //! A read that does not copy.
 ghost use Rattle.std.specs.Prelude.{List};
-ghost use Rattle.hlc_core.specs.Past.{Step, stamp_of, writes};
-ghost use Rattle.hlc_core.specs.StoreView.{Represents};
+ghost use Rattle.hlc_core.specs.{Past.Step, Past.stamp_of, Past.writes, StoreView.Represents};
 ghost use Rattle.hlc_handle_calls.specs.Views.{ReturnsView};
 
 use hlc_handle::{LentBytes, LentCore, find_lent};

@@ -24,9 +24,8 @@ use Rattle.hlc_witness.specs.Certificate.{RowsAscend}
 use Rattle.hlc_witness.proofs.CertificateLemmas.{ascending_rows_are_a_row_set}
 use Rattle.hlc_checkpoint.specs.Sorted.{rows_above}
 use Rattle.hlc_checkpoint.proofs.CheckpointLemmas.{row_set-moved, sound-has_no_reason}
-use Rattle.hlc_core.specs.Past.{Step, Began, Took, Opened, Closed, Joined, floor}
-use Rattle.hlc_core.specs.Past.{horizon, vacuumed, initial_nodes, part_dropped, last_id, open_snapshots, writes}
-use Rattle.hlc_core.specs.Past.{item_rows, body_rows, IsLegal}
+use Rattle.hlc_core.specs.Past.{Step, Began, Took, Opened, Closed, Joined, floor, horizon, vacuumed, initial_nodes}
+use Rattle.hlc_core.specs.Past.{part_dropped, last_id, open_snapshots, writes, item_rows, body_rows, IsLegal}
 use Rattle.hlc_core.specs.StoreView.{StoreView, with_rows, Represents}
 use Rattle.hlc_core.specs.Checkpoint.{IsCheckpoint, floor_in}
 use Rattle.hlc_core.proofs.BeganLemmas.{began-positive}

@@ -1,15 +1,12 @@
 -- How the bytes of an increment are returned, and those of the checkpoint that an older one becomes by it.
 use Rattle.std.specs.Prelude.{◌≡◌, ℕ, ◌<◌, ◌≤◌, ◌⊎◌, List, Ok, Err}
-use Rattle.hlc_wire.specs.declared.fault.WireFault.{WireFault}
-use Rattle.hlc_wire.specs.Faults.{fault_code}
-use Rattle.hlc_core.specs.StoreView.{StoreView}
-use Rattle.hlc_core.specs.Checkpoint.{IsCheckpoint, IsFirstReason}
+use Rattle.hlc_wire.specs.{declared.fault.WireFault.WireFault, Faults.fault_code}
+use Rattle.hlc_core.specs.{StoreView.StoreView, Checkpoint.IsCheckpoint, Checkpoint.IsFirstReason}
 use Rattle.hlc_checkpoint.specs.declared.checkpoint.RestoreFault.{RestoreFault}
 use Rattle.hlc_body.specs.Reading.{saved}
 use Rattle.hlc_saved.specs.Saved.{AreOf}
-use Rattle.hlc_increment.specs.declared.advancing.AdvanceFault.{AdvanceFault}
+use Rattle.hlc_increment.specs.{declared.advancing.AdvanceFault.AdvanceFault, Faults.advance_code, Faults.advance_word}
 use Rattle.hlc_increment.specs.Increment.{IncrementView, IsIncrementOf, AreFitting, IsAdvanced, IsReason}
-use Rattle.hlc_increment.specs.Faults.{advance_code, advance_word}
 use Rattle.hlc_increment.specs.Bytes.{IncrementFits, increment_at, increment_bytes}
 
 -- the bytes are the encoding of this tag and of the increment of this state since the stamp

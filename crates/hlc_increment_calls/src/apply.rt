@@ -1,14 +1,12 @@
 //! The bytes of an older checkpoint, which become those of a newer one by an increment.
 ghost use Rattle.std.specs.Prelude.{◌≡◌, ◌++◌, ℕ, List, IfOk, IfErr, OnOk, MatchResult};
-ghost use Rattle.hlc_core.specs.Past.{Step};
-ghost use Rattle.hlc_core.specs.StoreView.{StoreView, Represents};
+ghost use Rattle.hlc_core.specs.{Past.Step, StoreView.StoreView, StoreView.Represents};
 ghost use Rattle.hlc_saved.specs.Saved.{AreOf, BytesRepresent};
-ghost use Rattle.hlc_increment.specs.Increment.{IncrementView, AreFitting, IsAdvanced, IsIncrementOf};
-ghost use Rattle.hlc_increment.specs.Increment.{without_drops};
+ghost use Rattle.hlc_increment.specs.Increment.{IncrementView, AreFitting, IsAdvanced, IsIncrementOf, without_drops};
 ghost use Rattle.hlc_increment.specs.Faults.{advance_code, advance_word};
 ghost use Rattle.hlc_increment.specs.Bytes.{IncrementFits, increment_bytes};
-ghost use Rattle.hlc_increment_calls.specs.Increments.{AreAdvanced, IsNotAdvanced, IsRead, IsReadIncrement};
-ghost use Rattle.hlc_increment_calls.specs.Increments.{IsNotRead, IsNotReadIncrement, IsNotJoined};
+ghost use Rattle.hlc_increment_calls.specs.Increments.{AreAdvanced, IsNotAdvanced, IsRead, IsReadIncrement, IsNotRead};
+ghost use Rattle.hlc_increment_calls.specs.Increments.{IsNotReadIncrement, IsNotJoined};
 
 use hlc_core::Checkpoint;
 use hlc_increment::{AdvanceFault, DecodedIncrement, Increment, advance, decode_increment};

@@ -1,20 +1,17 @@
 -- A line is the line of one event: it is split into the words from which it was built, the first word determines the
 -- kind of event, and each other word spells one value.
 use Rattle.std.proofs.Common.{◌≡◌, ℕ, ◌+◌, ◌*◌, ◌<◌, ◌^◌, ◌∙◌, sym, ap, refl, List, [], ◌∷◌, get_or, length, arith, eqb}
-use Rattle.std.specs.Prelude.{decimal, codes}
-use Rattle.std.specs.List.{slice_split, AllByRecursion}
+use Rattle.std.specs.{Prelude.decimal, Prelude.codes, List.slice_split, List.AllByRecursion}
 use Rattle.std.proofs.lemmas.Fmt.{decimal_injective}
 use Rattle.hlc_clock.specs.Stamp.{stamp_text}
-use Rattle.hlc_text.specs.Text.{bytes_token}
-use Rattle.hlc_text.specs.Lines.{spaced}
+use Rattle.hlc_text.specs.{Text.bytes_token, Lines.spaced}
 use Rattle.hlc_text.proofs.TokenLemmas.{IsWord, number_is_word, stamp_is_word, bytes_are_word, split_words, no_stamp}
 use Rattle.hlc_text.proofs.TokenLemmas.{one_stamp}
 use Rattle.hlc_text.proofs.SpellingLemmas.{one_token}
 use Rattle.hlc_world_event.specs.Events.{Event}
 use Rattle.hlc_world_event.specs.declared.event.Event.TheVariants.{Write, Delete, Report, Retire, Join, Send, Receive}
 use Rattle.hlc_world_event.specs.declared.event.Event.TheVariants.{Observe, Deliver, OpenAt, OpenFloor, Read}
-use Rattle.hlc_world_event.specs.declared.event.Event.TheVariants.{List as ListAll}
-use Rattle.hlc_world_event.specs.declared.event.Event.TheVariants.{Close, Floor, Vacuum, Rows}
+use Rattle.hlc_world_event.specs.declared.event.Event.TheVariants.{List as ListAll, Close, Floor, Vacuum, Rows}
 use Rattle.hlc_line.specs.Line.{event_words, event_line, HasLine, header_words, header_line, HasHeader, OneEvent}
 
 node_is_word : (node : ℕ) → node < 2 ^ 16 → IsWord (decimal node)

@@ -1,13 +1,11 @@
 -- The lines of a script, and the events that they spell.
 use Rattle.std.specs.Prelude.{◌≡◌, ℕ, ◌<◌, ◌≤◌, ◌^◌, List, [], ◌∷◌, codes, decimal, ⊤}
 use Rattle.hlc_clock.specs.Stamp.{stamp_text}
-use Rattle.hlc_text.specs.Text.{bytes_token, AreBytes}
-use Rattle.hlc_text.specs.Lines.{spaced}
+use Rattle.hlc_text.specs.{Text.bytes_token, Text.AreBytes, Lines.spaced}
 use Rattle.hlc_world_event.specs.Events.{Event}
 use Rattle.hlc_world_event.specs.declared.event.Event.TheVariants.{Write, Delete, Report, Retire, Join, Send, Receive}
 use Rattle.hlc_world_event.specs.declared.event.Event.TheVariants.{Observe, Deliver, OpenAt, OpenFloor, Read}
-use Rattle.hlc_world_event.specs.declared.event.Event.TheVariants.{List as ListAll}
-use Rattle.hlc_world_event.specs.declared.event.Event.TheVariants.{Close, Floor, Vacuum, Rows}
+use Rattle.hlc_world_event.specs.declared.event.Event.TheVariants.{List as ListAll, Close, Floor, Vacuum, Rows}
 
 -- the words of an event
 abbrev pub event_words : Event → List (List ℕ)

@@ -1,6 +1,5 @@
 //! The lines of events, read without memory.
-ghost use Rattle.std.specs.Prelude.{◌≡◌, ◌≢◌, ◌<◌, ◌^◌, ◌∷◌, [], codes, decimal, ℕ, List};
-ghost use Rattle.std.specs.Prelude.{IfOk, MatchOption, OnErr};
+ghost use Rattle.std.specs.Prelude.{◌≡◌, ◌≢◌, ◌<◌, ◌^◌, ◌∷◌, [], codes, decimal, ℕ, List, IfOk, MatchOption, OnErr};
 ghost use Rattle.hlc_text.specs.Text.{Reads};
 ghost use Rattle.hlc_line.specs.Line.{event_words, event_line, HasLine, BearsBytes};
 

@@ -2,21 +2,18 @@
 -- or removes it. So the one equation of the rule, that all parcels put are those taken and then those in the channel,
 -- stays true; and no step makes a second sender or receiver.
 use Rattle.std.proofs.Common.{◌≡◌, ◌≢◌, ℕ, zero, suc, Bool, true, false, true≢false, List, [], ◌∷◌, ◌++◌, map, length}
-use Rattle.std.proofs.Common.{set, sym}
-use Rattle.std.proofs.Common.{refl, ap, ◌∙◌, subst, ⊎_elim, append_assoc, append-nil}
+use Rattle.std.proofs.Common.{set, sym, refl, ap, ◌∙◌, subst, ⊎_elim, append_assoc, append-nil}
 use Rattle.std.proofs.lemmas.List.{map-append}
 use mathlib.Core.Option.{some, some-ne-none}
 use lib.ListN.{get_elem?}
 use Rattle.crossbeam_channel.specs.Fifo.{Pushes, Pops, Forks, Merges, Learns}
 use Rattle.atomic_table.proofs.Lists.{at_set, at_snoc, set_again}
 use Rattle.hlc_node.specs.declared.item.Item.{Item}
-use Rattle.hlc_link.specs.declared.rule.Parcel.{Parcel}
+use Rattle.hlc_link.specs.declared.rule.{Parcel.Parcel, Hand.Hand}
 use Rattle.hlc_link.proofs.Streams.{as_stream, by_stream}
+use Rattle.hlc_link.specs.Link.{stream, IsSender, IsReceiver, IsInOrder, both, sender, receiver, sender_of, receiver_of}
+use Rattle.hlc_link.specs.Link.{nobody, joined, Carries, after_put, after_take}
 use Rattle.hlc_link.specs.declared.rule.Parcel.TheVariants as parcel
-use Rattle.hlc_link.specs.declared.rule.Hand.{Hand}
-use Rattle.hlc_link.specs.Link.{stream, IsSender, IsReceiver, IsInOrder, both, sender, receiver, sender_of}
-use Rattle.hlc_link.specs.Link.{receiver_of, nobody, joined, Carries}
-use Rattle.hlc_link.specs.Link.{after_put, after_take}
 
 off : false ≡ true → ⊥
 off e = true≢false (sym e)

@@ -4,10 +4,9 @@
 use Rattle.std.proofs.Common.{◌≡◌, ℕ, Bool, true, false, true≢false, List, [], ◌∷◌, ◌++◌, sym, refl, ap, ◌∙◌}
 use Rattle.std.proofs.Common.{append-nil}
 use Rattle.hlc_node.specs.declared.item.Item.{Item}
-use Rattle.hlc_link.specs.declared.rule.Parcel.{Parcel}
-use Rattle.hlc_link.specs.declared.rule.Parcel.TheVariants as parcel
-use Rattle.hlc_link.specs.declared.rule.Hand.{Hand}
+use Rattle.hlc_link.specs.declared.rule.{Parcel.Parcel, Hand.Hand}
 use Rattle.hlc_link.specs.Link.{stream, items_in, end_between, IsSender, IsReceiver, IsInOrder, Carries}
+use Rattle.hlc_link.specs.declared.rule.Parcel.TheVariants as parcel
 
 -- the items of a stream are those that it was made of
 items_of_stream : (xs : List Item) (e : Bool) → items_in (stream xs e) ≡ xs

@@ -1,13 +1,10 @@
 -- What a caller sees of the two ends of a link.
 use Rattle.std.specs.Prelude.{◌≡◌, Bool, true, List, [], ◌∷◌, ◌++◌}
-use Rattle.atomic_table.specs.Seated.{TableId}
-use Rattle.atomic_table.specs.declared.badge.Badge.{Badge}
-use Rattle.crossbeam_channel.specs.declared.flavors.array.Key.{Key}
-use Rattle.crossbeam_channel.specs.Claims.{Pass}
+use Rattle.atomic_table.specs.{Seated.TableId, declared.badge.Badge.Badge}
+use Rattle.crossbeam_channel.specs.{declared.flavors.array.Key.Key, Claims.Pass}
 use Rattle.hlc_node.specs.declared.item.Item.{Item}
-use Rattle.hlc_link.specs.declared.rule.Parcel.{Parcel}
+use Rattle.hlc_link.specs.declared.rule.{Parcel.Parcel, Hand.Hand}
 use Rattle.hlc_link.specs.declared.rule.Parcel.TheVariants as parcel
-use Rattle.hlc_link.specs.declared.rule.Hand.{Hand}
 
 -- the link of an end: the two tables of its channel
 pub record LinkId : Type 0 where

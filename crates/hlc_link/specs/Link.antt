@@ -4,9 +4,8 @@ use Rattle.std.specs.Prelude.{◌≡◌, ℕ, Bool, true, false, List, [], ◌�
 use mathlib.Core.Option.{some}
 use lib.ListN.{get_elem?}
 use Rattle.hlc_node.specs.declared.item.Item.{Item}
-use Rattle.hlc_link.specs.declared.rule.Parcel.{Parcel}
+use Rattle.hlc_link.specs.declared.rule.{Parcel.Parcel, Hand.Hand}
 use Rattle.hlc_link.specs.declared.rule.Parcel.TheVariants as parcel
-use Rattle.hlc_link.specs.declared.rule.Hand.{Hand}
 
 -- the end, if it has come
 abbrev pub end_if : Bool → List Parcel

@@ -1,7 +1,6 @@
 //! `==` of these types is true exactly on equal values, and each copy is equal.
 ghost use Rattle.hlc_node.specs.contracts.exact.ItemExact.TheImpl.Laws.{equal-law as item_equal};
-ghost use Rattle.std.proofs.Common.{rules};
-ghost use Rattle.std.proofs.lemmas.Grind.{common_steps};
+ghost use Rattle.std.proofs.{Common.rules, lemmas.Grind.common_steps};
 
 use crate::ends::{LinkClosed, PutFault};
 use crate::rule::Parcel;

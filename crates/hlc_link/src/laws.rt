@@ -1,7 +1,6 @@
 //! What is true of a link between any two steps.
 ghost use Rattle.std.specs.Prelude.{ℕ, List};
-ghost use Rattle.hlc_link.specs.declared.rule.Hand.{Hand};
-ghost use Rattle.hlc_link.specs.declared.rule.Parcel.{Parcel as AParcel};
+ghost use Rattle.hlc_link.specs.declared.rule.{Hand.Hand, Parcel.Parcel as AParcel};
 ghost use Rattle.hlc_link.specs.Link.{IsSender, IsReceiver, IsInOrder, Carries};
 
 /// Between any two steps of any thread: the items put are the items taken followed by the items in

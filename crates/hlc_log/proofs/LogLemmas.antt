@@ -1,30 +1,22 @@
 -- The records of a log, read one after another; and what comes again is passed over.
-use Rattle.std.proofs.Common.{◌≡◌, ◌⊎◌, ℕ, ◌+◌, ◌-◌, ◌<◌, ◌≤◌, ◌∙◌, sym, ap, subst, List, [], ◌∷◌, ◌++◌}
-use Rattle.std.proofs.Common.{length, max, true, false, cond, refl, arith, length-append, Option, None, Ok}
-use Rattle.std.proofs.Common.{inl, inr}
-use Rattle.std.specs.Bool.{⊤}
-use Rattle.std.specs.List.{All}
+use Rattle.std.proofs.Common.{◌≡◌, ◌⊎◌, ℕ, ◌+◌, ◌-◌, ◌<◌, ◌≤◌, ◌∙◌, sym, ap, subst, List, [], ◌∷◌, ◌++◌, length, max}
+use Rattle.std.proofs.Common.{true, false, cond, refl, arith, length-append, Option, None, Ok, inl, inr}
+use Rattle.std.{specs.Bool.⊤, specs.List.All, proofs.lemmas.Grind.flat_map-append}
 use Rattle.std.proofs.lemmas.Bool.{cases_Bool, cond-true, cond-false, and_parts, and_from, cases_eq, eq-eqb, ne_eqb}
 use Rattle.std.proofs.lemmas.Bool.{ltb-true, lt-ltb}
-use Rattle.std.proofs.lemmas.List.{append-nil, append_assoc}
-use Rattle.std.proofs.lemmas.List.Elements.{All-push, All-head, All-tail}
-use Rattle.std.proofs.lemmas.Grind.{flat_map-append}
+use Rattle.std.proofs.lemmas.List.{append-nil, append_assoc, Elements.All-push, Elements.All-head, Elements.All-tail}
 use Rattle.hlc_node.specs.declared.item.Item.{Item as AnItem}
 use Rattle.hlc_wire.proofs.FieldLemmas.{IsBytes}
 use Rattle.hlc_core.specs.Past.{Step, Started, Began, Took, Opened, Closed, Vacuumed, PartVacuumed, Joined, numbered}
-use Rattle.hlc_core.specs.Past.{count, item_refusal}
-use Rattle.hlc_core.specs.Replicas.{begun}
-use Rattle.hlc_core.specs.Past.{IsLegal}
-use Rattle.hlc_core.specs.StoreView.{StoreView, Represents}
+use Rattle.hlc_core.specs.Past.{count, item_refusal, IsLegal}
+use Rattle.hlc_core.specs.{Replicas.begun, StoreView.StoreView, StoreView.Represents}
 use Rattle.hlc_core.proofs.PastLemmas.{IsAdmissible, admissible, inside, on_link}
 use Rattle.hlc_core.proofs.StayLemmas.{legal-before, nothing-before}
-use Rattle.hlc_log.specs.declared.record.Record.{Record}
-use Rattle.hlc_log.specs.declared.record.Record.TheVariants.{Item, Join, Threshold}
-use Rattle.hlc_log.specs.declared.apply.RecordFault.{RecordFault}
-use Rattle.hlc_log.specs.declared.apply.Applied.{Applied}
+use Rattle.hlc_log.specs.declared.record.Record.{Record, TheVariants.Item, TheVariants.Join, TheVariants.Threshold}
+use Rattle.hlc_log.specs.declared.apply.{RecordFault.RecordFault, Applied.Applied}
 use Rattle.hlc_log.specs.Record.{record_bytes, record_at, RecordFits}
-use Rattle.hlc_log.specs.Log.{came_before, step_of, with_record, with_records, log_bytes, greatest_threshold}
-use Rattle.hlc_log.specs.Log.{IsLogEnd, AreApplied}
+use Rattle.hlc_log.specs.Log.{came_before, step_of, with_record, with_records, log_bytes, greatest_threshold, IsLogEnd}
+use Rattle.hlc_log.specs.Log.{AreApplied}
 use Rattle.hlc_log.proofs.RecordLemmas.{record_reader}
 
 -- the record at the front has an encoding, and its bytes are the first

@@ -1,28 +1,23 @@
 -- A store that reads the log again from an earlier place is at a place of it, and stores at places of one log can meet.
-use Rattle.std.proofs.Common.{◌≡◌, ◌⊎◌, ℕ, ◌+◌, ◌<◌, ◌≤◌, ◌∙◌, sym, ap, ap₂, subst, List, [], ◌∷◌, ◌++◌, length}
-use Rattle.std.proofs.Common.{refl, arith, length-append, Ok, inl, inr, Contains}
-use Rattle.std.specs.List.{All}
+use Rattle.std.proofs.Common.{◌≡◌, ◌⊎◌, ℕ, ◌+◌, ◌<◌, ◌≤◌, ◌∙◌, sym, ap, ap₂, subst, List, [], ◌∷◌, ◌++◌, length, refl}
+use Rattle.std.proofs.Common.{arith, length-append, Ok, inl, inr, Contains, All, append-nil, append_assoc}
 use Rattle.std.proofs.lemmas.Bool.{cases_Bool, cond-true, cond-false}
-use Rattle.std.proofs.lemmas.List.{append-nil, append_assoc}
 use Rattle.std.proofs.lemmas.List.Elements.{All-head, All-tail}
 use Rattle.hlc_rows.specs.Rows.{answer}
 use Rattle.hlc_snapshot.specs.RegistryView.{stamps}
 use Rattle.hlc_wire.proofs.FieldLemmas.{ok_is}
 use Rattle.hlc_core.specs.Past.{Step, initial_nodes, floor, horizon, open_snapshots, IsLegal}
-use Rattle.hlc_core.specs.Replicas.{CanMeet}
-use Rattle.hlc_core.specs.StoreView.{StoreView, Represents}
+use Rattle.hlc_core.specs.{Replicas.CanMeet, StoreView.StoreView, StoreView.Represents}
 use Rattle.hlc_core.proofs.CheckpointLemmas.{floor-in}
 use Rattle.hlc_core.proofs.StayLemmas.{legal-before}
 use Rattle.hlc_replicas.specs.Places.{log_of}
 use Rattle.hlc_replicas.proofs.PlaceLemmas.{log-same, log-append, legal-log, can-meet}
 use Rattle.hlc_replicas.proofs.ReplicaLemmas.{lagging_stores-agree}
 use Rattle.hlc_saved.specs.Saved.{BytesRepresent}
-use Rattle.hlc_log.specs.declared.record.Record.{Record}
-use Rattle.hlc_log.specs.declared.record.Record.TheVariants.{Item, Join, Threshold}
-use Rattle.hlc_log.specs.declared.apply.Applied.{Applied}
+use Rattle.hlc_log.specs.declared.record.Record.{Record, TheVariants.Item, TheVariants.Join, TheVariants.Threshold}
+use Rattle.hlc_log.specs.{declared.apply.Applied.Applied, Places.HasTaken, Places.IsAt, Places.CanRead}
 use Rattle.hlc_log.specs.Record.{record_bytes, record_at, RecordFits}
 use Rattle.hlc_log.specs.Log.{came_before, step_of, with_record, with_records, log_bytes, AreApplied}
-use Rattle.hlc_log.specs.Places.{HasTaken, IsAt, CanRead}
 use Rattle.hlc_log.proofs.RecordLemmas.{record_reader}
 use Rattle.hlc_log.proofs.LogLemmas.{some_bytes, steps-of, records-append, read-again, read-part}
 

@@ -1,21 +1,16 @@
 -- The result of reading some bytes has that encoding, and an encoding is read back.
-use Rattle.std.proofs.Common.{◌≡◌, ℕ, ◌+◌, ◌<◌, ◌≤◌, zero, suc, List, [], ◌∷◌, ◌++◌, length, Some, Ok, refl, sym}
-use Rattle.std.proofs.Common.{ap, subst, ◌∙◌, arith, inl, inr}
-use Rattle.std.proofs.lemmas.List.{append_assoc}
-use Rattle.std.specs.Int.{w16, w64, to_be_bytes}
-use Rattle.hlc_node.specs.Items.{an_item, IsShort}
-use Rattle.hlc_node.specs.declared.item.Item.{Item as AnItem}
-use Rattle.hlc_node.specs.declared.item.Body.{Body}
+use Rattle.std.proofs.Common.{◌≡◌, ℕ, ◌+◌, ◌<◌, ◌≤◌, zero, suc, List, [], ◌∷◌, ◌++◌, length, Some, Ok, refl, sym, ap}
+use Rattle.std.proofs.Common.{subst, ◌∙◌, arith, inl, inr}
+use Rattle.std.{proofs.lemmas.List.append_assoc, specs.Int.w16, specs.Int.w64, specs.Int.to_be_bytes}
+use Rattle.hlc_node.specs.{Items.an_item, Items.IsShort, declared.item.Item.Item as AnItem, declared.item.Body.Body}
 use Rattle.hlc_node.specs.declared.item.Body.TheVariants.{Write, Batch, Report, Retire}
 use Rattle.hlc_wire.specs.Reading.{◌>>=◌, number_at, item_at}
-use Rattle.hlc_wire.specs.Spelling.{item_bytes, ItemFits}
+use Rattle.hlc_wire.specs.{Spelling.item_bytes, Spelling.ItemFits, Placing.with_bytes, Placing.PutsFront}
 use Rattle.hlc_wire.proofs.FieldLemmas.{IsBytes, IsBytes-rest, bind_ok, ok_is, Takes, Takes-then, Takes-cons, IsReader}
 use Rattle.hlc_wire.proofs.FieldLemmas.{number_reader, wide16, wide64}
-use Rattle.hlc_wire.specs.Placing.{with_bytes, PutsFront}
 use Rattle.hlc_wire.proofs.PlacingLemmas.{put_both, put_three, at_front}
 use Rattle.hlc_wire.proofs.ItemLemmas.{item_reader}
-use Rattle.hlc_log.specs.declared.record.Record.{Record}
-use Rattle.hlc_log.specs.declared.record.Record.TheVariants.{Item, Join, Threshold}
+use Rattle.hlc_log.specs.declared.record.Record.{Record, TheVariants.Item, TheVariants.Join, TheVariants.Threshold}
 use Rattle.hlc_log.specs.Record.{record_bytes, record_at, item_record_at, join_at, threshold_at, RecordFits}
 use Rattle.hlc_log.specs.Record.{IsShortRecord, StartsWithWrite}
 

@@ -1,19 +1,13 @@
 -- The records of a log as bytes, one after another, and what a store makes of them.
-use Rattle.std.specs.Prelude.{◌≡◌, ◌&&◌, ◌==◌, ℕ, List, [], ◌∷◌, ◌++◌, Bool, false, nat_lt, length, max}
-use Rattle.std.specs.Prelude.{Option, Some, None, Result, Ok, Err, if◌then◌else◌, All, ⊤}
-use Rattle.std.specs.List.{flat_map}
+use Rattle.std.specs.Prelude.{◌≡◌, ◌&&◌, ◌==◌, ℕ, List, [], ◌∷◌, ◌++◌, Bool, false, nat_lt, length, max, Option, Some}
+use Rattle.std.specs.Prelude.{None, Result, Ok, Err, if◌then◌else◌, All, ⊤, flat_map}
 use Rattle.hlc_intake.specs.declared.intake.LinkFault.TheVariants.{NotNext}
-use Rattle.hlc_events.specs.declared.fault.CoreFault.{CoreFault}
-use Rattle.hlc_events.specs.declared.fault.CoreFault.TheVariants.{Link}
+use Rattle.hlc_events.specs.declared.fault.CoreFault.{CoreFault, TheVariants.Link}
 use Rattle.hlc_core.specs.Past.{Step, Took, Joined, numbered, count, item_refusal, join_at_refusal}
-use Rattle.hlc_core.specs.Calls.{IsRefusal, IsWrite}
-use Rattle.hlc_core.specs.StoreView.{StoreView, Represents}
-use Rattle.hlc_log.specs.declared.record.Record.{Record}
-use Rattle.hlc_log.specs.declared.record.Record.TheVariants.{Item, Join, Threshold}
-use Rattle.hlc_log.specs.declared.apply.RecordFault.{RecordFault}
-use Rattle.hlc_log.specs.declared.apply.RecordFault.TheVariants.{Bytes, Refused}
-use Rattle.hlc_log.specs.declared.apply.Applied.{Applied}
-use Rattle.hlc_log.specs.Record.{record_bytes, record_at, RecordFits}
+use Rattle.hlc_core.specs.{Calls.IsRefusal, Calls.IsWrite, StoreView.StoreView, StoreView.Represents}
+use Rattle.hlc_log.specs.declared.record.Record.{Record, TheVariants.Item, TheVariants.Join, TheVariants.Threshold}
+use Rattle.hlc_log.specs.declared.apply.RecordFault.{RecordFault, TheVariants.Bytes, TheVariants.Refused}
+use Rattle.hlc_log.specs.{declared.apply.Applied.Applied, Record.record_bytes, Record.record_at, Record.RecordFits}
 
 -- the bytes of some records, one after another
 abbrev pub log_bytes : List Record → List ℕ

@@ -2,11 +2,9 @@
 use Rattle.std.specs.Prelude.{◌≡◌, ◌≤◌, ◌⊎◌, ◌++◌, ℕ, List, Contains}
 use Rattle.hlc_snapshot.specs.RegistryView.{stamps}
 use Rattle.hlc_checkpoint.specs.Checkpoint.{floor_in}
-use Rattle.hlc_core.specs.Past.{Step}
-use Rattle.hlc_core.specs.StoreView.{StoreView}
+use Rattle.hlc_core.specs.{Past.Step, StoreView.StoreView}
 use Rattle.hlc_replicas.specs.Places.{log_of}
-use Rattle.hlc_log.specs.declared.record.Record.{Record}
-use Rattle.hlc_log.specs.Log.{with_records}
+use Rattle.hlc_log.specs.{declared.record.Record.Record, Log.with_records}
 
 -- A store with this past has taken these records since a start: the items and the joins that it took are theirs, in
 -- their order. It may have opened and closed snapshots, and been vacuumed, anywhere between.

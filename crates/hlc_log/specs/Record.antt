@@ -5,12 +5,10 @@ use Rattle.std.specs.Prelude.{slice_get, ⊤}
 use Rattle.std.specs.Int.{w16, w64, to_be_bytes}
 use Rattle.hlc_rows.specs.declared.limits.BodyFault.{BodyFault}
 use Rattle.hlc_node.specs.Items.{body_refusal, IsShort}
-use Rattle.hlc_wire.specs.declared.fault.WireFault.{WireFault}
-use Rattle.hlc_wire.specs.declared.fault.WireFault.TheVariants.{Short, Version}
+use Rattle.hlc_wire.specs.declared.fault.WireFault.{WireFault, TheVariants.Short, TheVariants.Version}
 use Rattle.hlc_wire.specs.Spelling.{item_bytes, ItemFits}
 use Rattle.hlc_wire.specs.Reading.{◌>>=◌, number_at, item_at, NeedsMemory}
-use Rattle.hlc_log.specs.declared.record.Record.{Record}
-use Rattle.hlc_log.specs.declared.record.Record.TheVariants.{Item, Join, Threshold}
+use Rattle.hlc_log.specs.declared.record.Record.{Record, TheVariants.Item, TheVariants.Join, TheVariants.Threshold}
 use Rattle.hlc_log.specs.declared.record.RecordRef.{RecordRef}
 use Rattle.hlc_log.specs.declared.record.RecordRef.TheVariants as borrowed
 

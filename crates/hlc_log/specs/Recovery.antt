@@ -1,11 +1,9 @@
 -- A store from the bytes of a checkpoint and those of a log.
 use Rattle.std.specs.Prelude.{◌≡◌, ℕ, List}
-use Rattle.hlc_core.specs.Past.{Step}
-use Rattle.hlc_core.specs.StoreView.{StoreView, Represents}
+use Rattle.hlc_core.specs.{Past.Step, StoreView.StoreView, StoreView.Represents}
 use Rattle.hlc_checkpoint.specs.Checkpoint.{IsCopyOf}
 use Rattle.hlc_saved.specs.Saved.{AreOf}
-use Rattle.hlc_log.specs.declared.recovery.Recovered.{Recovered}
-use Rattle.hlc_log.specs.Log.{AreApplied}
+use Rattle.hlc_log.specs.{declared.recovery.Recovered.Recovered, Log.AreApplied}
 
 -- A store was recovered: the bytes are the encoding of the tag and of a checkpoint, a store was made with exactly its
 -- state, and the records of the log were applied to that store; where there were none, it is as it was made.

@@ -1,13 +1,10 @@
 //! What a store makes of the records of a log.
-ghost use Rattle.std.specs.Prelude.{◌≡◌, ◌<◌, ◌++◌, ◌∷◌, [], List, length, false, IfOk, OnOk, OnErr};
-ghost use Rattle.std.specs.Prelude.{MatchResult};
-ghost use Rattle.hlc_core.specs.Past.{Step};
-ghost use Rattle.hlc_core.specs.StoreView.{Represents};
-ghost use Rattle.hlc_core.specs.Calls.{IsRefusal};
+ghost use Rattle.std.specs.Prelude.{◌≡◌, ◌<◌, ◌++◌, ◌∷◌, [], List, length, false, IfOk, OnOk, OnErr, MatchResult};
+ghost use Rattle.hlc_core.specs.{Past.Step, Calls.IsRefusal, StoreView.Represents};
 ghost use Rattle.hlc_log.specs.declared.record.Record.{Record as ARecord};
 ghost use Rattle.hlc_log.specs.Record.{record_bytes, record_seen, RecordFits};
-ghost use Rattle.hlc_log.specs.Log.{came_before, with_record, greatest_threshold, record_refusal};
-ghost use Rattle.hlc_log.specs.Log.{MayGrow, Applies, IsStopped, AreApplied};
+ghost use Rattle.hlc_log.specs.Log.{came_before, with_record, greatest_threshold, record_refusal, MayGrow, Applies};
+ghost use Rattle.hlc_log.specs.Log.{IsStopped, AreApplied};
 
 use crate::record::{RecordRef, record_ref_at};
 use hlc_core::{Core, CoreFault, ItemRef, LinkFault, Stamp};

@@ -2,14 +2,11 @@
 ghost use Rattle.std.specs.Prelude.{◌≡◌, ◌<◌, ◌++◌, ℕ, List, [], All};
 ghost use Rattle.hlc_rows.specs.Rows.{answer};
 ghost use Rattle.hlc_core.specs.Past.{Step, IsLegal, initial_nodes};
-ghost use Rattle.hlc_core.specs.Replicas.{begun};
-ghost use Rattle.hlc_core.specs.StoreView.{StoreView, Represents};
+ghost use Rattle.hlc_core.specs.{Replicas.begun, StoreView.StoreView, StoreView.Represents};
 ghost use Rattle.hlc_saved.specs.Saved.{BytesRepresent};
-ghost use Rattle.hlc_log.specs.declared.record.Record.{Record as ARecord};
-ghost use Rattle.hlc_log.specs.declared.apply.Applied.{Applied as AnApplied};
-ghost use Rattle.hlc_log.specs.Record.{RecordFits};
+ghost use Rattle.hlc_log.specs.declared.{record.Record.Record as ARecord, apply.Applied.Applied as AnApplied};
+ghost use Rattle.hlc_log.specs.{Record.RecordFits, Places.HasTaken, Places.IsAt, Places.CanRead};
 ghost use Rattle.hlc_log.specs.Log.{with_record, with_records, log_bytes, AreApplied, IsPassedOver};
-ghost use Rattle.hlc_log.specs.Places.{HasTaken, IsAt, CanRead};
 
 /// A log may be read again from any place before that of the store: records that were applied before change nothing.
 ///

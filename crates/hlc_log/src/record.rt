@@ -1,9 +1,6 @@
 //! The records of a log, as bytes.
-ghost use Rattle.std.specs.Prelude.{◌≡◌, length, IfOk, IfErr, IsErrOf, IsOk, Ok, Some, None};
-ghost use Rattle.std.specs.Prelude.{IsSome, MatchResult};
-ghost use Rattle.hlc_wire.specs.Placing.{PutsFront};
-ghost use Rattle.hlc_wire.specs.Reading.{Gives, Reads, whole};
-ghost use Rattle.hlc_wire.specs.Refusal.{IsRefusal};
+ghost use Rattle.std.specs.Prelude.{◌≡◌, length, IfOk, IfErr, IsErrOf, IsOk, Ok, Some, None, IsSome, MatchResult};
+ghost use Rattle.hlc_wire.specs.{Placing.PutsFront, Refusal.IsRefusal, Reading.Gives, Reading.Reads, Reading.whole};
 ghost use Rattle.hlc_log.specs.declared.record.Record.{Record as ARecord};
 ghost use Rattle.hlc_log.specs.Record.{record_bytes, record_at, item_record_at, join_at, threshold_at, record_refusal};
 ghost use Rattle.hlc_log.specs.Record.{record_seen, RecordFits, IsShortRecord, StartsWithWrite};

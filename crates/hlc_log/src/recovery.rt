@@ -3,8 +3,7 @@ ghost use Rattle.std.specs.Prelude.{◌≡◌, ℕ, List, IfOk, IfErr, MatchResu
 ghost use Rattle.hlc_core.specs.Past.{Step};
 ghost use Rattle.hlc_saved.specs.Saved.{BytesRepresent, SpellNone};
 ghost use Rattle.hlc_saved.specs.declared.fault.ResumeError.TheVariants.{NoMemory as no_memory};
-ghost use Rattle.hlc_log.specs.Log.{AreApplied};
-ghost use Rattle.hlc_log.specs.Recovery.{IsRecovered};
+ghost use Rattle.hlc_log.specs.{Log.AreApplied, Recovery.IsRecovered};
 
 use crate::apply::{Applied, apply_records};
 use hlc_core::{Core, Stamp};

@@ -1,10 +1,7 @@
 -- The writes of a batch that C passes as their number and their bytes.
 use Rattle.std.specs.Prelude.{ℕ, List, nat_lt, Result, Ok, Err, if◌then◌else◌}
-use Rattle.hlc_rows.specs.declared.limits.TheConstants.{MAX_WRITES}
-use Rattle.hlc_rows.specs.declared.write.Write.{Write}
-use Rattle.hlc_wire.specs.declared.fault.WireFault.{WireFault}
-use Rattle.hlc_wire.specs.Faults.{fault_code}
-use Rattle.hlc_wire.specs.Reading.{writes_at, whole}
+use Rattle.hlc_rows.specs.declared.{limits.TheConstants.MAX_WRITES, write.Write.Write}
+use Rattle.hlc_wire.specs.{declared.fault.WireFault.WireFault, Faults.fault_code, Reading.writes_at, Reading.whole}
 
 -- the writes that were read; or 106 and the first fault of the bytes
 abbrev pub coded : Result (List Write) WireFault → Result (List Write) (ℕ × ℕ)

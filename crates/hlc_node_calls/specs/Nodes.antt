@@ -1,7 +1,6 @@
 -- What each call returns to C for a node.
 use Rattle.std.specs.Prelude.{◌≡◌, ℕ, Result, Ok, Err}
-use Rattle.hlc_node.specs.declared.item.Body.{Body}
-use Rattle.hlc_node.specs.declared.node.NodeFault.{NodeFault}
+use Rattle.hlc_node.specs.declared.{item.Body.Body, node.NodeFault.NodeFault}
 use Rattle.hlc_node.specs.Faults.{node_code, node_word}
 use Rattle.hlc_node.specs.Node.{NodeView, stamped, after_issue, expected_issue}
 

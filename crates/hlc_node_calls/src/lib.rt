@@ -3,12 +3,10 @@
 #![tactic(auto)]
 
 ghost use Rattle.std.specs.Prelude.{◌≡◌, [], ◌∷◌, MatchResult, option_copied, Ok, Err};
-ghost use Rattle.hlc_node.specs.Node.{expected_event};
-ghost use Rattle.hlc_node.specs.Faults.{node_code, node_word};
+ghost use Rattle.hlc_node.specs.{Node.expected_event, Faults.node_code, Faults.node_word};
 ghost use Rattle.hlc_node.specs.declared.item.Body.TheVariants.{Write as a_write, Report as a_report};
 ghost use Rattle.hlc_node.specs.declared.item.Body.TheVariants.{Retire as a_retire, Batch as a_batch};
-ghost use Rattle.hlc_node_calls.specs.Batches.{batch_in};
-ghost use Rattle.hlc_node_calls.specs.Nodes.{ReturnsStamped, ReturnsIssued};
+ghost use Rattle.hlc_node_calls.specs.{Batches.batch_in, Nodes.ReturnsStamped, Nodes.ReturnsIssued};
 
 use hlc_clock::Stamp;
 use hlc_node::{BodyFault, ItemRef, MAX_WRITES, NodeCore, NodeFault, Writes};

@@ -1,8 +1,7 @@
 -- The bytes of a listing, pair by pair, and where they lie in a buffer.
-use Rattle.std.proofs.Common.{◌≡◌, ℕ, ◌+◌, ◌<◌, ◌≤◌, ◌∙◌, sym, ap, List, ◌∷◌, ◌++◌, length, Some, None, flat_map}
-use Rattle.std.proofs.Common.{leb, false, true≢false, inl, inr, arith, length-append}
-use Rattle.std.proofs.lemmas.List.{append_assoc}
-use Rattle.std.proofs.lemmas.Bool.{cases_Bool, le-leb, leb-true}
+use Rattle.std.proofs.Common.{◌≡◌, ℕ, ◌+◌, ◌<◌, ◌≤◌, ◌∙◌, sym, ap, List, ◌∷◌, ◌++◌, length, Some, None, flat_map, leb}
+use Rattle.std.proofs.Common.{false, true≢false, inl, inr, arith, length-append}
+use Rattle.std.proofs.lemmas.{List.append_assoc, Bool.cases_Bool, Bool.le-leb, Bool.leb-true}
 use Rattle.hlc_wire.specs.Placing.{with_bytes}
 use Rattle.hlc_wire.proofs.PlacingLemmas.{put_both}
 use Rattle.hlc_range_calls.specs.Listing.{sized, answer_bytes, pair_bytes, listing_bytes}

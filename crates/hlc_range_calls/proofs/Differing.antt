@@ -3,8 +3,7 @@ use Rattle.std.proofs.Common.{◌≡◌, ◌≤◌, ◌⊎◌, ℕ, List, sym, s
 use Rattle.hlc_columns.specs.Answers.{IsBetween}
 use Rattle.hlc_core.specs.Differences.{Difference, AreDifferences, Compares}
 use Rattle.hlc_core.specs.Past.{Step, stamp_of, writes}
-use Rattle.hlc_range_calls.specs.Scan.{end_of, ListsWhatFits}
-use Rattle.hlc_range_calls.specs.Changes.{change_bytes, ReturnsChanges}
+use Rattle.hlc_range_calls.specs.{Scan.end_of, Scan.ListsWhatFits, Changes.change_bytes, Changes.ReturnsChanges}
 use Rattle.hlc_range_calls.proofs.ByteLemmas.{none_length, some_length}
 
 -- a key takes 8 bytes at least

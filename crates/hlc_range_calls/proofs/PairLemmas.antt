@@ -1,16 +1,11 @@
 -- There is one list of the answers at a stamp, and a snapshot's are those of all accepted writes.
-use Rattle.std.proofs.Common.{◌≡◌, ◌∙◌, ℕ, ◌<◌, ◌≤◌, List, [], ◌∷◌, ◌++◌, map}
-use Rattle.std.proofs.Common.{refl, sym, ap, subst}
-use Rattle.std.proofs.Common.{arith, length, drop, Contains, Option, Some}
-use Rattle.std.specs.Cmp.Lexicographic.{slice_cmp}
-use Rattle.std.specs.Ordering.{nat_cmp}
-use Rattle.std.specs.List.Sorted.{IsStrictlySortedBy}
+use Rattle.std.proofs.Common.{◌≡◌, ◌∙◌, ℕ, ◌<◌, ◌≤◌, List, [], ◌∷◌, ◌++◌, map, refl, sym, ap, subst, arith, length}
+use Rattle.std.proofs.Common.{drop, Contains, Option, Some}
+use Rattle.std.specs.{Cmp.Lexicographic.slice_cmp, Ordering.nat_cmp, List.Sorted.IsStrictlySortedBy}
 use Rattle.hlc_values.proofs.MemberLemmas.{Contains-map}
-use Rattle.hlc_rows.specs.declared.row.Row.{Row}
-use Rattle.hlc_rows.specs.Rows.{answer}
+use Rattle.hlc_rows.specs.{declared.row.Row.Row, Rows.answer}
 use Rattle.hlc_columns.specs.Answers.{AreAnswers}
-use Rattle.hlc_core.specs.declared.listing.Pair.{Pair}
-use Rattle.hlc_core.specs.Listing.{IsListing}
+use Rattle.hlc_core.specs.{declared.listing.Pair.Pair, Listing.IsListing}
 use Rattle.hlc_core.proofs.ListingLemmas.{one-listing}
 use Rattle.hlc_wire.specs.Placing.{with_bytes}
 use Rattle.hlc_range_calls.specs.Listing.{narrowed, listing_bytes, ReturnsPairs, ReturnsListing}

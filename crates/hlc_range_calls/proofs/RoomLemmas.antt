@@ -1,15 +1,13 @@
 -- A listing is not longer than the sizes of the table allow: each of its pairs has a key of its own, and the value of a
 -- row of its own.
-use Rattle.std.proofs.Common.{◌≡◌, ◌≤◌, ◌+◌, ◌*◌, ◌∙◌, ℕ, List, [], ◌∷◌, Some, None, refl, sym, ap}
-use Rattle.std.proofs.Common.{Contains, sum_by, length, arith}
+use Rattle.std.proofs.Common.{◌≡◌, ◌≤◌, ◌+◌, ◌*◌, ◌∙◌, ℕ, List, [], ◌∷◌, Some, None, refl, sym, ap, Contains, sum_by}
+use Rattle.std.proofs.Common.{length, arith}
 use Rattle.std.proofs.lemmas.List.Sums.{sum_by-cons}
 use Rattle.hlc_values.proofs.PigeonLemmas.{served}
-use Rattle.hlc_rows.specs.declared.row.Row.{Row}
-use Rattle.hlc_rows.specs.Rows.{newest, answer}
+use Rattle.hlc_rows.specs.{declared.row.Row.Row, Rows.newest, Rows.answer}
 use Rattle.hlc_rows.proofs.NewestLemmas.{newest_is_greatest, answer_none, answer_some}
 use Rattle.hlc_table_column.specs.Cells.{value_bytes}
-use Rattle.hlc_columns.specs.Answers.{AreAnswers}
-use Rattle.hlc_columns.specs.Sizes.{Sizes, AreSizes, row_bytes}
+use Rattle.hlc_columns.specs.{Answers.AreAnswers, Sizes.Sizes, Sizes.AreSizes, Sizes.row_bytes}
 use Rattle.hlc_core.proofs.DifferenceLemmas.{HaveOtherKeys, keys_apart}
 use Rattle.hlc_range_calls.specs.Listing.{listing_bytes}
 use Rattle.hlc_range_calls.proofs.ByteLemmas.{listing_length, pair_length}

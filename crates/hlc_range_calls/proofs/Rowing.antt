@@ -1,17 +1,14 @@
 -- The versions of a key that were measured and put so far.
 use Rattle.std.proofs.Common.{◌≡◌, ◌<◌, ◌≤◌, ◌+◌, ◌∙◌, ◌∷◌, ◌++◌, [], ℕ, List, sym, ap, subst, refl, length, arith}
 use Rattle.std.proofs.Common.{length-append, drop, inl, inr}
-use Rattle.std.proofs.lemmas.List.{append-nil, append_assoc}
-use Rattle.std.proofs.lemmas.Grind.{flat_map-append}
+use Rattle.std.proofs.lemmas.{List.append-nil, List.append_assoc, Grind.flat_map-append}
 use Rattle.hlc_values.proofs.SortedLemmas.{same_members}
 use Rattle.hlc_rows.specs.declared.row.Row.{Row}
-use Rattle.hlc_table_column.specs.Cells.{Cell}
-use Rattle.hlc_table_column.specs.Versions.{IsNewer, AreVersions}
+use Rattle.hlc_table_column.specs.{Cells.Cell, Versions.IsNewer, Versions.AreVersions}
 use Rattle.hlc_core.specs.StoreView.{StoreView}
 use Rattle.hlc_wire.specs.Placing.{with_bytes}
 use Rattle.hlc_range_calls.specs.Listing.{answer_bytes, narrowed, IsCopied}
-use Rattle.hlc_range_calls.specs.Scan.{parts_bytes}
-use Rattle.hlc_range_calls.specs.Versions.{version_bytes, AreRead}
+use Rattle.hlc_range_calls.specs.{Scan.parts_bytes, Versions.version_bytes, Versions.AreRead}
 
 -- a version takes 11 bytes, or 19 and its value
 pub version_length : (version : Cell)

@@ -1,19 +1,14 @@
 -- The items that were put into a buffer so far, in a list that may be cut.
-use Rattle.std.proofs.Common.{◌≡◌, ℕ, ◌+◌, ◌*◌, ◌-◌, ◌<◌, ◌≤◌, ◌∙◌, sym, ap, subst}
-use Rattle.std.proofs.Common.{List, [], ◌∷◌, ◌++◌, drop}
-use Rattle.std.proofs.Common.{refl, length, arith, length-append, Option, Some, Bool, true, false, reverse}
-use Rattle.std.proofs.lemmas.List.{append-nil, append_assoc, length-drop}
-use Rattle.std.proofs.lemmas.Grind.{flat_map-append}
-use Rattle.hlc_rows.specs.declared.row.Row.{Row}
-use Rattle.hlc_rows.specs.Rows.{answer}
+use Rattle.std.proofs.Common.{◌≡◌, ℕ, ◌+◌, ◌*◌, ◌-◌, ◌<◌, ◌≤◌, ◌∙◌, sym, ap, subst, List, [], ◌∷◌, ◌++◌, drop, refl}
+use Rattle.std.proofs.Common.{length, arith, length-append, Option, Some, Bool, true, false, reverse}
+use Rattle.std.proofs.lemmas.{List.append-nil, List.append_assoc, List.length-drop, Grind.flat_map-append}
+use Rattle.hlc_rows.specs.{declared.row.Row.Row, Rows.answer}
 use Rattle.hlc_columns.specs.Answers.{AreAnswers, AreAnswersBack, IsBetween}
 use Rattle.hlc_wire.specs.Placing.{with_bytes}
-use Rattle.hlc_range_calls.specs.Listing.{narrowed, pair_bytes}
-use Rattle.hlc_range_calls.specs.Scan.{end_of, part_bytes, parts_bytes, ListsWhatFits, ReturnsScan, ReturnsCount}
-use Rattle.hlc_range_calls.specs.Scan.{ReturnsScanBack}
+use Rattle.hlc_range_calls.specs.{Listing.narrowed, Listing.pair_bytes, Scan.end_of, Scan.part_bytes, Scan.parts_bytes}
+use Rattle.hlc_range_calls.specs.{Scan.ListsWhatFits, Scan.ReturnsScan, Scan.ReturnsCount, Scan.ReturnsScanBack}
 use Rattle.hlc_wire.proofs.PlacingLemmas.{put_both}
-use Rattle.hlc_range_calls.proofs.ByteLemmas.{pair_length}
-use Rattle.hlc_range_calls.proofs.PairLemmas.{same_answers}
+use Rattle.hlc_range_calls.proofs.{ByteLemmas.pair_length, PairLemmas.same_answers}
 
 abbrev Pair : Type 0
 Pair = List ℕ × List ℕ

@@ -3,8 +3,7 @@ use Rattle.std.specs.Prelude.{◌≡◌, ℕ, List, ◌++◌, Option, Some, None
 use Rattle.hlc_rows.specs.declared.row.Row.{Row}
 use Rattle.hlc_columns.specs.Answers.{IsBetween}
 use Rattle.hlc_core.specs.Differences.{Difference, AreDifferences}
-use Rattle.hlc_range_calls.specs.Listing.{sized, answer_bytes}
-use Rattle.hlc_range_calls.specs.Scan.{end_of, ListsWhatFits}
+use Rattle.hlc_range_calls.specs.{Listing.sized, Listing.answer_bytes, Scan.end_of, Scan.ListsWhatFits}
 
 -- a key preceded by its length, and its answer at the second stamp
 abbrev pub change_bytes : Difference → List ℕ

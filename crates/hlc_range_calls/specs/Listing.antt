@@ -1,7 +1,6 @@
 -- How a listing is returned: for each pair the key and then the value, each preceded by the number of its bytes.
 use Rattle.std.specs.Prelude.{◌≡◌, ℕ, ◌+◌, ◌<◌, ◌≤◌, List, [], ◌∷◌, ◌++◌, length, drop, min, Option, Some, None}
-use Rattle.std.specs.Int.{to_le_bytes, w64}
-use Rattle.std.specs.List.{flat_map}
+use Rattle.std.specs.{Int.to_le_bytes, Int.w64, List.flat_map}
 use Rattle.hlc_rows.specs.declared.row.Row.{Row}
 use Rattle.hlc_columns.specs.Answers.{AreAnswers}
 

@@ -1,13 +1,10 @@
 -- How the versions of a key are returned.
 use Rattle.std.specs.Prelude.{◌≡◌, ◌≤◌, ℕ, List, ◌++◌, length, Contains}
 use Rattle.std.specs.Int.{to_le_bytes, w16, w64}
-use Rattle.hlc_table_column.specs.Cells.{Cell}
-use Rattle.hlc_table_column.specs.Rows.{row_of}
-use Rattle.hlc_core.specs.Calls.{AreVersions}
-use Rattle.hlc_core.specs.Past.{Step, horizon, writes}
+use Rattle.hlc_table_column.specs.{Cells.Cell, Rows.row_of}
+use Rattle.hlc_core.specs.{Calls.AreVersions, Past.Step, Past.horizon, Past.writes}
 use Rattle.hlc_core.specs.StoreView.{StoreView, Represents}
-use Rattle.hlc_range_calls.specs.Listing.{answer_bytes, narrowed, IsCopied}
-use Rattle.hlc_range_calls.specs.Scan.{parts_bytes}
+use Rattle.hlc_range_calls.specs.{Listing.answer_bytes, Listing.narrowed, Listing.IsCopied, Scan.parts_bytes}
 
 -- a stamp, a node, both the low byte first, and the value, or none for a deletion
 abbrev pub version_bytes : Cell → List ℕ

@@ -1,10 +1,8 @@
 //! The differences between two snapshots, as bytes.
 ghost use Rattle.std.specs.Prelude.{◌≡◌, ◌≤◌, ◌+◌, List, length, nat_le, option_copied};
-ghost use Rattle.hlc_core.specs.Past.{Step, stamp_of, writes};
-ghost use Rattle.hlc_core.specs.StoreView.{Represents};
+ghost use Rattle.hlc_core.specs.{Past.Step, Past.stamp_of, Past.writes, StoreView.Represents};
 ghost use Rattle.hlc_wire.specs.Placing.{with_bytes};
-ghost use Rattle.hlc_range_calls.specs.Scan.{ListsWhatFits};
-ghost use Rattle.hlc_range_calls.specs.Changes.{change_bytes, ReturnsChanges};
+ghost use Rattle.hlc_range_calls.specs.{Scan.ListsWhatFits, Changes.change_bytes, Changes.ReturnsChanges};
 
 use crate::list::{put_answer, put_sized};
 use crate::scan::end;

@@ -1,7 +1,6 @@
 //! A part of a listing, as bytes.
 ghost use Rattle.std.specs.Prelude.{◌≡◌, ◌≤◌, ◌+◌, List, length, nat_le, option_copied};
-ghost use Rattle.hlc_core.specs.Past.{Step, stamp_of, writes};
-ghost use Rattle.hlc_core.specs.StoreView.{Represents};
+ghost use Rattle.hlc_core.specs.{Past.Step, Past.stamp_of, Past.writes, StoreView.Represents};
 ghost use Rattle.hlc_wire.specs.Placing.{with_bytes};
 ghost use Rattle.hlc_range_calls.specs.Listing.{narrowed};
 ghost use Rattle.hlc_range_calls.specs.Scan.{end_of, part_bytes, ListsWhatFits, ReturnsScan, ReturnsCount};

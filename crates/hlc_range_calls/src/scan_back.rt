@@ -1,9 +1,7 @@
 //! A part of a listing from its end, as bytes.
 ghost use Rattle.std.specs.Prelude.{List};
-ghost use Rattle.hlc_core.specs.Past.{Step, stamp_of, writes};
-ghost use Rattle.hlc_core.specs.StoreView.{Represents};
-ghost use Rattle.hlc_range_calls.specs.Listing.{pair_bytes};
-ghost use Rattle.hlc_range_calls.specs.Scan.{ListsWhatFits, ReturnsScanBack};
+ghost use Rattle.hlc_core.specs.{Past.Step, Past.stamp_of, Past.writes, StoreView.Represents};
+ghost use Rattle.hlc_range_calls.specs.{Listing.pair_bytes, Scan.ListsWhatFits, Scan.ReturnsScanBack};
 
 use crate::list::put_pair;
 use crate::scan::{end, fits};

@@ -2,8 +2,7 @@
 ghost use Rattle.std.specs.Prelude.{◌≡◌, ◌≤◌, ◌+◌, length, option_copied};
 ghost use Rattle.hlc_table_column.specs.Versions.{version_read};
 ghost use Rattle.hlc_wire.specs.Placing.{with_bytes};
-ghost use Rattle.hlc_range_calls.specs.Listing.{answer_bytes, narrowed};
-ghost use Rattle.hlc_range_calls.specs.Scan.{parts_bytes};
+ghost use Rattle.hlc_range_calls.specs.{Listing.answer_bytes, Listing.narrowed, Scan.parts_bytes};
 ghost use Rattle.hlc_range_calls.specs.Versions.{version_bytes, ReturnsVersions};
 
 use crate::list::put_answer;

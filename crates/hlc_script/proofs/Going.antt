@@ -1,21 +1,14 @@
 -- In the middle of a script: the lines so far are answered by what was printed, and the world represents a schedule of
 -- them.
-use Rattle.std.proofs.Common.{◌≡◌, ℕ, ◌+◌, sym, refl, subst, List, [], ◌∷◌}
-use Rattle.std.proofs.Common.{◌++◌, length, Option, Some, None}
-use Rattle.std.proofs.Common.{append_assoc, inl, inr, arith, ◌≤◌}
-use Rattle.std.specs.Prelude.{◌≢◌}
+use Rattle.std.proofs.Common.{◌≡◌, ℕ, ◌+◌, sym, refl, subst, List, [], ◌∷◌, ◌++◌, length, Option, Some, None}
+use Rattle.std.proofs.Common.{append_assoc, inl, inr, arith, ◌≤◌, append-nil, ◌≢◌}
 use Rattle.hlc_text.specs.declared.printer.Printer.{Printer}
-use Rattle.hlc_text.specs.Printing.{Prints}
+use Rattle.hlc_text.specs.{Printing.Prints, Text.printed, Lines.lines_of, Lines.bad_line}
 use Rattle.hlc_text.proofs.PrintLemmas.{printed_then, printed_none}
-use Rattle.std.proofs.Common.{append-nil}
-use Rattle.hlc_text.specs.Text.{printed}
-use Rattle.hlc_text.specs.Lines.{lines_of, bad_line}
 use Rattle.hlc_world_event.specs.Events.{Event}
-use Rattle.hlc_world.specs.declared.reply.Reply.{Reply}
-use Rattle.hlc_world.specs.WorldView.{WorldView, Represents}
+use Rattle.hlc_world.specs.{declared.reply.Reply.Reply, WorldView.WorldView, WorldView.Represents}
 use Rattle.hlc_line.specs.Line.{event_line, HasLine, HasHeader, header_line}
-use Rattle.hlc_script.specs.Reply.{reply_text}
-use Rattle.hlc_script.specs.Run.{AnswersLine, Answers, AnswersScript}
+use Rattle.hlc_script.specs.{Reply.reply_text, Run.AnswersLine, Run.Answers, Run.AnswersScript}
 
 -- an answer to the remaining lines completes an answer to all of them
 pub record Going {W : Type 0} (contents : W → Option (List ℕ)) (nodes : ℕ) (world : WorldView) (text rest : List ℕ)

@@ -1,8 +1,6 @@
 -- A line that is printed in two parts, of which the second one ends it.
 use Rattle.std.proofs.Common.{ℕ, List, [], ◌∷◌, ◌++◌, Option, sym, subst, append_assoc}
-use Rattle.hlc_text.specs.declared.printer.Printer.{Printer}
-use Rattle.hlc_text.specs.Printing.{Prints}
-use Rattle.hlc_text.specs.Text.{printed}
+use Rattle.hlc_text.specs.{declared.printer.Printer.Printer, Printing.Prints, Text.printed}
 use Rattle.hlc_text.proofs.PrintLemmas.{printed_then}
 
 pub line_then : {W : Type 0} {contents : W → Option (List ℕ)} {old mid new : Printer W} {xs : List ℕ} (ys : List ℕ)

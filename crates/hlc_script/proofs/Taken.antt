@@ -1,9 +1,8 @@
 -- An input that is in memory was taken whole, and no end of a run is a failed write.
 use Rattle.std.proofs.Common.{◌≡◌, ℕ, List, refl, subst}
-use Rattle.hlc_script.specs.declared.run.RunEnd.{RunEnd}
+use Rattle.hlc_script.specs.{declared.run.RunEnd.RunEnd, Run.MayTake, Run.InputWasLoaded, Run.MayWrite}
 use Rattle.hlc_script.specs.declared.run.RunEnd.TheVariants.{Answered, BadLine, BadHeader, NoMemory, NotLoaded}
 use Rattle.hlc_script.specs.declared.run.RunEnd.TheVariants.{WriteFault}
-use Rattle.hlc_script.specs.Run.{MayTake, InputWasLoaded, MayWrite}
 
 pub run_takes_all : (input : List ℕ) (end : RunEnd) → InputWasLoaded end → MayTake input input end
 run_takes_all input Answered loaded = refl

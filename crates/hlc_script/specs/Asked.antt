@@ -1,13 +1,10 @@
 -- What the words after the program's name ask of one thread, and the exit status.
 use Rattle.std.specs.Prelude.{◌≡◌, ℕ, List, Option, Some, None}
 use Rattle.hlc_text.specs.declared.watched.Watched.{Watched}
-use Rattle.hlc_words.specs.declared.words.Words.{Words}
-use Rattle.hlc_words.specs.declared.words.Words.TheVariants.{Run, Check, Storm}
+use Rattle.hlc_words.specs.declared.words.Words.{Words, TheVariants.Run, TheVariants.Check, TheVariants.Storm}
 use Rattle.hlc_words.specs.Words.{RefusesWords}
-use Rattle.hlc_certificate.specs.declared.check.CheckEnd.{CheckEnd}
-use Rattle.hlc_certificate.specs.Check.{RunsCheck, check_status}
-use Rattle.hlc_script.specs.declared.run.RunEnd.{RunEnd}
-use Rattle.hlc_script.specs.Run.{RunsScript, status_of}
+use Rattle.hlc_certificate.specs.{declared.check.CheckEnd.CheckEnd, Check.RunsCheck, Check.check_status}
+use Rattle.hlc_script.specs.{declared.run.RunEnd.RunEnd, Run.RunsScript, Run.status_of}
 
 -- The script or the certificate is answered, and the exit status is that of its end. Any other words are refused, and
 -- nothing is read.

@@ -2,25 +2,18 @@
 use Rattle.std.specs.Prelude.{◌≡◌, ◌≢◌, ◌↔◌, ℕ, ◌+◌, ◌≤◌, ◌⊎◌, List, [], ◌∷◌, ◌++◌, length, codes, Option, Some, None}
 use Rattle.std.specs.Prelude.{true, false, ⊤}
 use Rattle.std.specs.Io.KnownBytes.{Consumes}
-use Rattle.hlc_text.specs.declared.input.TheConstants.{INPUT_LIMIT}
-use Rattle.hlc_text.specs.declared.watched.Watched.{Watched}
-use Rattle.hlc_text.specs.Watched.{inner_of, has_failed}
-use Rattle.hlc_text.specs.declared.printer.Printer.{Printer}
-use Rattle.hlc_text.specs.Printing.{Prints, Writes}
-use Rattle.hlc_text.specs.Text.{printed}
-use Rattle.hlc_text.specs.Lines.{lines_of, bad_line}
-use Rattle.hlc_text.specs.declared.input.InputFault.TheVariants.{ReadFault}
+use Rattle.hlc_text.specs.declared.input.{TheConstants.INPUT_LIMIT, InputFault.TheVariants.ReadFault}
+use Rattle.hlc_text.specs.declared.{watched.Watched.Watched, printer.Printer.Printer}
+use Rattle.hlc_text.specs.{Watched.inner_of, Watched.has_failed, Printing.Prints, Printing.Writes}
+use Rattle.hlc_text.specs.{Text.printed, Lines.lines_of, Lines.bad_line}
 use Rattle.hlc_text.specs.Input.{IsInput, MayFault, FaultTakes, fault_line}
 use Rattle.hlc_world_event.specs.Events.{Event}
-use Rattle.hlc_world.specs.declared.reply.Reply.{Reply}
-use Rattle.hlc_world.specs.declared.reply.Reply.TheVariants.{Refused}
-use Rattle.hlc_world.specs.declared.refusal.Refusal.TheVariants.{NoMemory as no_memory}
-use Rattle.hlc_world.specs.Expected.{MayReply}
-use Rattle.hlc_script.specs.declared.run.RunEnd.{RunEnd}
+use Rattle.hlc_world.specs.declared.reply.Reply.{Reply, TheVariants.Refused}
+use Rattle.hlc_world.specs.{declared.refusal.Refusal.TheVariants.NoMemory as no_memory, Expected.MayReply}
+use Rattle.hlc_script.specs.{declared.run.RunEnd.RunEnd, Reply.reply_text}
 use Rattle.hlc_script.specs.declared.run.RunEnd.TheVariants.{Answered, BadLine, BadHeader, NoMemory, NotLoaded}
 use Rattle.hlc_script.specs.declared.run.RunEnd.TheVariants.{WriteFault}
 use Rattle.hlc_line.specs.Line.{event_line, HasLine, BearsBytes, header_line, HasHeader}
-use Rattle.hlc_script.specs.Reply.{reply_text}
 
 -- A good line was answered, and the schedule is `after` then. Its event got a reply that a world may return; or memory
 -- ran out for the event's bytes, and it did not take place.

@@ -1,11 +1,8 @@
 //! The lines of replies and refusals.
-ghost use Rattle.std.specs.Prelude.{map, Some, option_copied};
-ghost use Rattle.std.specs.List.{flat_map};
-ghost use Rattle.hlc_text.specs.Printing.{Prints};
-ghost use Rattle.hlc_text.specs.Text.{printed};
+ghost use Rattle.std.specs.{Prelude.map, Prelude.Some, Prelude.option_copied, List.flat_map};
+ghost use Rattle.hlc_text.specs.{Printing.Prints, Text.printed};
 ghost use Rattle.hlc_script.specs.Reply.{reply_line, more_lines, pair_line, report_line, reply_text, refusal_line};
-ghost use Rattle.hlc_script.specs.Reply.{refusal_detail};
-ghost use Rattle.hlc_script.specs.Reply.{answer_line};
+ghost use Rattle.hlc_script.specs.Reply.{refusal_detail, answer_line};
 
 use hlc_certificate::put_witnesses;
 use hlc_clock::Stamp;

@@ -1,17 +1,12 @@
 //! A whole run: reads the bytes of a script, and writes the bytes of its replies.
 ghost use Rattle.std.specs.Prelude.{◌≡◌, ◌≢◌, ◌≤◌, ◌↔◌, ◌∷◌, [], ℕ, List, MatchOption, false, true, length};
-ghost use Rattle.hlc_text.specs.declared.input.TheConstants.{INPUT_LIMIT};
-ghost use Rattle.hlc_text.specs.Text.{Reads, printed};
-ghost use Rattle.hlc_text.specs.Lines.{lines_of, bad_line};
-ghost use Rattle.hlc_text.specs.Watched.{has_failed};
-ghost use Rattle.hlc_text.specs.Printing.{Prints};
+ghost use Rattle.hlc_text.specs.{declared.input.TheConstants.INPUT_LIMIT, Watched.has_failed, Printing.Prints};
+ghost use Rattle.hlc_text.specs.{Text.Reads, Text.printed, Lines.lines_of, Lines.bad_line};
 ghost use Rattle.hlc_world_event.specs.Events.{Event as AnEvent};
-ghost use Rattle.hlc_world.specs.declared.reply.Reply.{Reply as AReply};
-ghost use Rattle.hlc_world.specs.WorldView.{Represents};
+ghost use Rattle.hlc_world.specs.{declared.reply.Reply.Reply as AReply, WorldView.Represents};
 ghost use Rattle.hlc_line.specs.Line.{header_line, header_words, HasHeader};
-ghost use Rattle.hlc_script.specs.Reply.{reply_text};
-ghost use Rattle.hlc_script.specs.Run.{Answers, AnswersLine, MayWrite, InputWasLoaded, ReadsScript, RunsScript};
-ghost use Rattle.hlc_script.specs.Run.{status_of};
+ghost use Rattle.hlc_script.specs.{Reply.reply_text, Run.Answers, Run.AnswersLine, Run.MayWrite, Run.InputWasLoaded};
+ghost use Rattle.hlc_script.specs.{Run.ReadsScript, Run.RunsScript, Run.status_of};
 
 use crate::reply::{put_reply, put_value_line};
 use hlc_line::{owned_event, read_line};

@@ -1,42 +1,31 @@
 -- An input has one output: each line has one event, and an event has one reply, unless memory runs out.
 use Rattle.std.proofs.Common.{◌≡◌, ℕ, ◌+◌, ◌∙◌, sym, ap, refl, List, [], ◌∷◌, ◌++◌, Option, Some, None, Ok, Result}
-use Rattle.std.proofs.Common.{append_assoc, arith, ◌⊎◌, inl, inr}
-use Rattle.std.specs.Prelude.{codes, decimal, ◌≢◌}
-use Rattle.std.specs.List.{flat_map}
+use Rattle.std.proofs.Common.{append_assoc, arith, ◌⊎◌, inl, inr, codes, decimal, ◌≢◌, flat_map}
 use Rattle.std.proofs.lemmas.Fmt.{decimal-digits_of}
-use Rattle.hlc_text.specs.Text.{printed}
-use Rattle.hlc_text.specs.Lines.{lines_of}
+use Rattle.hlc_text.specs.{Text.printed, Lines.lines_of}
 use Rattle.hlc_clock.specs.declared.clock.ClockFault.{ClockFault}
-use Rattle.hlc_node.specs.declared.item.Item.{Item}
-use Rattle.hlc_node.specs.declared.item.Message.{Message}
+use Rattle.hlc_node.specs.declared.{item.Item.Item, item.Message.Message, node.NodeFault.NodeFault}
 use Rattle.hlc_rows.specs.declared.row.Row.{Row}
-use Rattle.hlc_core.specs.declared.listing.Pair.{Pair}
-use Rattle.hlc_core.specs.Past.{Step, floor}
-use Rattle.hlc_core.specs.History.{IsAnswer}
-use Rattle.hlc_core.specs.Calls.{IsListed}
+use Rattle.hlc_core.specs.{declared.listing.Pair.Pair, Past.Step, Past.floor, History.IsAnswer, Calls.IsListed}
 use Rattle.hlc_core.proofs.ListingLemmas.{one-listing}
 use Rattle.hlc_core.proofs.ReportLemmas.{there_is_one_report, there_is_one_count}
-use Rattle.hlc_node.specs.declared.node.NodeFault.{NodeFault}
 use Rattle.hlc_world_event.specs.declared.event.Event.TheVariants.{Write, Delete, Report, Retire, Join, Send, Receive}
 use Rattle.hlc_world_event.specs.declared.event.Event.TheVariants.{Observe, Deliver, OpenAt, OpenFloor, Read}
 use Rattle.hlc_world_event.specs.declared.event.Event.TheVariants.{List as ListAll, Close, Floor, Vacuum, Rows}
-use Rattle.hlc_world.specs.declared.reply.Reply.{Reply}
+use Rattle.hlc_world.specs.{declared.reply.Reply.Reply, Schedule.item_at}
 use Rattle.hlc_world.specs.declared.reply.Reply.TheVariants.{Stamped, Joined, Sent, Received, Observed, Accepted}
 use Rattle.hlc_world.specs.declared.reply.Reply.TheVariants.{Snapshot, Answer, Listing, Closed, Floor as FloorIs}
 use Rattle.hlc_world.specs.declared.reply.Reply.TheVariants.{Vacuumed, Rows as RowsAre, Refused}
-use Rattle.hlc_world.specs.declared.refusal.Refusal.{Refusal}
-use Rattle.hlc_world.specs.declared.refusal.Refusal.TheVariants.{NoMemory as no_memory}
-use Rattle.hlc_world.specs.Schedule.{item_at}
+use Rattle.hlc_world.specs.declared.refusal.Refusal.{Refusal, TheVariants.NoMemory as no_memory}
 use Rattle.hlc_world_event.specs.Events.{Event}
 use Rattle.hlc_world.specs.Store.{accepting, accepted, paired, core_past}
 use Rattle.hlc_world.specs.Expected.{expected_refusal, IsReceived, IsObserved, IsExpectedOfStore, IsExpectedReply}
 use Rattle.hlc_world.specs.Expected.{MayReply}
-use Rattle.hlc_script.specs.declared.run.RunEnd.{RunEnd}
+use Rattle.hlc_script.specs.{declared.run.RunEnd.RunEnd, Reply.reply_lines, Reply.reply_text}
 use Rattle.hlc_script.specs.declared.run.RunEnd.TheVariants.{Answered, BadLine, BadHeader, NoMemory, NotLoaded}
 use Rattle.hlc_script.specs.declared.run.RunEnd.TheVariants.{WriteFault}
 use Rattle.hlc_text.specs.declared.input.InputFault.TheVariants.{NoMemory as not_enough, ReadFault, TooLong}
 use Rattle.hlc_line.specs.Line.{HasHeader, header_line}
-use Rattle.hlc_script.specs.Reply.{reply_lines, reply_text}
 use Rattle.hlc_script.specs.Run.{AnswersLine, Answers, AnswersScript}
 use Rattle.hlc_script_laws.specs.OneOutput.{ReportsNoMemory, OneOutput}
 use Rattle.hlc_line.proofs.LineLemmas.{one_event, one_header}

@@ -1,11 +1,7 @@
 -- An input has one output.
-use Rattle.std.specs.Prelude.{◌≡◌, ◌≢◌, ℕ, List, ◌++◌, ◌⊎◌, codes}
-use Rattle.std.specs.List.{flat_map}
-use Rattle.hlc_text.specs.Text.{printed}
-use Rattle.hlc_script.specs.declared.run.RunEnd.{RunEnd}
-use Rattle.hlc_script.specs.declared.run.RunEnd.TheVariants.{NotLoaded}
-use Rattle.hlc_text.specs.declared.input.InputFault.TheVariants.{ReadFault}
-use Rattle.hlc_script.specs.Run.{MayWrite}
+use Rattle.std.specs.Prelude.{◌≡◌, ◌≢◌, ℕ, List, ◌++◌, ◌⊎◌, codes, flat_map}
+use Rattle.hlc_text.specs.{Text.printed, declared.input.InputFault.TheVariants.ReadFault}
+use Rattle.hlc_script.specs.{declared.run.RunEnd.RunEnd, declared.run.RunEnd.TheVariants.NotLoaded, Run.MayWrite}
 
 -- one of its lines is `refused 15`
 abbrev pub ReportsNoMemory : List ℕ → Type 0

@@ -1,14 +1,9 @@
 -- The receipts of each caller are the trail's calls of that caller, in order: both lists rise by number and have the
 -- same receipts.
 use Rattle.std.proofs.Common.{◌≡◌, ℕ, suc, zero, ◌+◌, ◌<◌, ◌≤◌, ◌⊎◌, inl, inr, ⊎_elim, List, [], ◌∷◌, length, Bool}
-use Rattle.std.proofs.Common.{true, false}
-use Rattle.std.proofs.Common.{◌==◌, Option, Some, None, slice_get, refl, sym, ap, ◌∙◌, subst, arith}
-use Rattle.std.specs.Prelude.{if◌then◌else◌}
-use Rattle.std.proofs.lemmas.Bool.Decides.{nat_tests}
-use Rattle.std.proofs.lemmas.Bool.{false≢true}
-use Rattle.hlc_server.specs.declared.entry.Entry.{Entry}
-use Rattle.hlc_server.specs.declared.entry.Receipt.{Receipt}
-use Rattle.hlc_server.specs.Trails.{entry}
+use Rattle.std.proofs.Common.{true, false, ◌==◌, Option, Some, None, slice_get, refl, sym, ap, ◌∙◌, subst, arith}
+use Rattle.std.{specs.Prelude.if◌then◌else◌, proofs.lemmas.Bool.Decides.nat_tests, proofs.lemmas.Bool.false≢true}
+use Rattle.hlc_server.specs.{declared.entry.Entry.Entry, declared.entry.Receipt.Receipt, Trails.entry}
 use Rattle.hlc_server.specs.Settling.{Claim, key_of, IsBelow, IsInTrail, AreGood, IsSettled, receipt_of, receipts_from}
 use Rattle.hlc_server.specs.Settling.{of_caller, receipts_in, EachIsClaimed}
 use Rattle.hlc_server.proofs.Settlings.{all_claimed}

@@ -1,19 +1,15 @@
 -- A trail with one more call is the history with that call as its last event, by induction on the trail. So one more
 -- call keeps the trail legal, and the core still represents it.
 use Rattle.std.proofs.Common.{Bool, true, false, ◌≡◌, ℕ, ◌+◌, List, [], ◌∷◌, ◌++◌, length, Option, Some, None, refl, ap}
-use Rattle.std.proofs.Common.{sym}
-use Rattle.std.proofs.Common.{◌∙◌, subst, arith, length-append}
-use Rattle.std.specs.Prelude.{if◌then◌else◌}
-use Rattle.std.specs.Option.{ForSome}
+use Rattle.std.proofs.Common.{sym, ◌∙◌, subst, arith, length-append}
+use Rattle.std.specs.{Prelude.if◌then◌else◌, Option.ForSome}
 use Rattle.hlc_events.specs.declared.event.CoreEvent.{CoreEvent}
-use Rattle.hlc_core.specs.declared.reply.CoreReply.{CoreReply}
-use Rattle.hlc_core.specs.StoreView.{StoreView, Represents}
+use Rattle.hlc_core.specs.{declared.reply.CoreReply.CoreReply, StoreView.StoreView, StoreView.Represents}
 use Rattle.hlc_core.specs.Past.{Step, Started, Began, Took, Opened, Closed, Vacuumed, PartVacuumed, Joined}
 use Rattle.hlc_core.specs.Past.{initial_nodes, IsLegal}
 use Rattle.hlc_core.specs.History.{step_of, with_step, past_of, RepresentsHistory, IsStep}
-use Rattle.hlc_server.specs.declared.entry.Entry.{Entry}
+use Rattle.hlc_server.specs.declared.{entry.Entry.Entry, trail.Trail.Trail}
 use Rattle.hlc_server.specs.Trails.{history_after, history_of, IsAudited, HasHistory, entry, with_entry, entries_of}
-use Rattle.hlc_server.specs.declared.trail.Trail.{Trail}
 
 history_after-push : (history : List (CoreEvent × CoreReply)) (trail : List Entry) (e : Entry)
     → history_after history (trail ++ e ∷ []) ≡ (e.event, e.reply) ∷ history_after history trail

@@ -1,19 +1,12 @@
 -- Good receipts, one after another, and how many there can be. Their callers and numbers rise, and each is in the
 -- trail, so there are no more of them than entries; and where there are as many, each entry is that of some receipt.
 use Rattle.std.proofs.Common.{◌≡◌, ℕ, suc, zero, ◌+◌, ◌<◌, ◌≤◌, ◌⊎◌, inl, inr, ⊎_elim, List, [], ◌∷◌, ◌++◌, length, map}
-use Rattle.std.proofs.Common.{take}
-use Rattle.std.proofs.Common.{Bool, true, false, ◌&&◌, ◌||◌, not, ◌==◌, nat_lt, Option, Some, None, slice_get, refl}
-use Rattle.std.proofs.Common.{sym, ap}
-use Rattle.std.proofs.Common.{◌∙◌, subst, arith, append_assoc, length-append, drop, get_or, length-take}
-use Rattle.std.specs.Prelude.{if◌then◌else◌}
-use Rattle.std.proofs.lemmas.Bool.Decides.{nat_tests}
-use Rattle.hlc_server.specs.declared.entry.Entry.{Entry}
-use Rattle.hlc_server.specs.declared.entry.Receipt.{Receipt}
-use Rattle.hlc_server.specs.Trails.{entry}
-use Rattle.std.specs.declared.vec.Vec.{Vec}
-use Rattle.std.proofs.lemmas.List.{take_more, append-nil, take-append-le, take-append-drop, map-append, length-map}
-use Rattle.std.proofs.lemmas.List.{take-map}
-use Rattle.hlc_server.specs.Seats.{CallerView}
+use Rattle.std.proofs.Common.{take, Bool, true, false, ◌&&◌, ◌||◌, not, ◌==◌, nat_lt, Option, Some, None, slice_get}
+use Rattle.std.proofs.Common.{refl, sym, ap, ◌∙◌, subst, arith, append_assoc, length-append, drop, get_or, length-take}
+use Rattle.std.specs.{Prelude.if◌then◌else◌, declared.vec.Vec.Vec}
+use Rattle.std.proofs.lemmas.{Bool.Decides.nat_tests, List.take_more, List.append-nil, List.take-append-le}
+use Rattle.std.proofs.lemmas.{List.take-append-drop, List.map-append, List.length-map, List.take-map}
+use Rattle.hlc_server.specs.{declared.entry.Entry.Entry, declared.entry.Receipt.Receipt, Trails.entry, Seats.CallerView}
 use Rattle.hlc_server.specs.Settling.{Claim, claim, claims_of, IsFirstBad, key_of, IsBelow, IsGood, AreGood, IsSettled}
 use Rattle.hlc_server.specs.Settling.{last_key}
 

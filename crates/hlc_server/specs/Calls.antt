@@ -1,18 +1,13 @@
 -- What happens while a call has the lock, and what it returns to the caller.
-use Rattle.std.specs.Prelude.{◌≡◌, ◌↔◌, ◌+◌, ◌-◌, ◌^◌, ◌≤◌, ◌⊎◌, ℕ, Bool, List, Option, None, IsSome, Result, MatchResult}
-use Rattle.std.specs.Option.{ForSome, is_some}
+use Rattle.std.specs.Prelude.{◌≡◌, ◌↔◌, ◌+◌, ◌-◌, ◌^◌, ◌≤◌, ◌⊎◌, ℕ, Bool, List, Option, None, IsSome, Result}
+use Rattle.std.specs.Prelude.{MatchResult}
+use Rattle.std.specs.{Option.ForSome, Option.is_some, declared.alloc.AllocError.AllocError}
 use Rattle.hlc_events.specs.declared.event.CoreEvent.{CoreEvent}
-use Rattle.hlc_core.specs.declared.reply.CoreReply.{CoreReply}
-use Rattle.std.specs.declared.alloc.AllocError.{AllocError}
-use Rattle.hlc_core.specs.StoreView.{StoreView, Represents}
-use Rattle.hlc_core.specs.Past.{Step}
+use Rattle.hlc_core.specs.{declared.reply.CoreReply.CoreReply, Past.Step, StoreView.StoreView, StoreView.Represents}
 use Rattle.hlc_core.specs.History.{RepresentsHistory, IsStep, IsExpected, IsReplyTo, past_of, expected_refusal}
 use Rattle.hlc_core.specs.History.{MayRunOutOfMemory}
-use Rattle.hlc_server.specs.declared.entry.Entry.{Entry}
-use Rattle.hlc_server.specs.declared.entry.Receipt.{Receipt}
-use Rattle.hlc_server.specs.declared.entry.NotDone.{NotDone}
-use Rattle.hlc_server.specs.declared.entry.NotDone.TheVariants.{NumbersSpent, NoMemory}
-use Rattle.hlc_server.specs.Seats.{CallerView}
+use Rattle.hlc_server.specs.{declared.entry.Entry.Entry, declared.entry.Receipt.Receipt, Seats.CallerView}
+use Rattle.hlc_server.specs.declared.entry.NotDone.{NotDone, TheVariants.NumbersSpent, TheVariants.NoMemory}
 use Rattle.hlc_server.specs.Trails.{GuardedView, HasHistory, entry, with_entry, history_of}
 
 -- The call was made: the share counts it; the receipt has the caller's number, the event, a reply of that event's form,

@@ -2,15 +2,10 @@
 use Rattle.std.specs.Prelude.{◌≡◌, ℕ, ◌+◌, ◌<◌, ◌⊎◌, List, [], ◌∷◌, ◌++◌, length, map, filter, ◌==◌, take, slice_get}
 use Rattle.std.specs.Prelude.{Option, Some, None, Result, Ok, Err, ⊤}
 use Rattle.std.specs.declared.vec.Vec.{Vec}
-use Rattle.hlc_core.specs.History.{RepresentsHistory}
-use Rattle.hlc_core.specs.Headline.{IsFaithful}
-use Rattle.hlc_server.specs.declared.entry.Entry.{Entry}
-use Rattle.hlc_server.specs.declared.entry.Receipt.{Receipt}
-use Rattle.hlc_server.specs.declared.settle.Settled.{Settled}
-use Rattle.hlc_server.specs.declared.settle.SettleFault.{SettleFault}
-use Rattle.hlc_server.specs.declared.settle.SettleFault.TheVariants.{NoTrail, ReceiptMismatch}
-use Rattle.hlc_server.specs.Seats.{CallerView}
-use Rattle.hlc_server.specs.Trails.{GuardedView, history_of, entry}
+use Rattle.hlc_core.specs.{History.RepresentsHistory, Headline.IsFaithful}
+use Rattle.hlc_server.specs.declared.{entry.Entry.Entry, entry.Receipt.Receipt, settle.Settled.Settled}
+use Rattle.hlc_server.specs.declared.settle.SettleFault.{SettleFault, TheVariants.NoTrail, TheVariants.ReceiptMismatch}
+use Rattle.hlc_server.specs.{Seats.CallerView, Trails.GuardedView, Trails.history_of, Trails.entry}
 
 -- a receipt, and the number of the caller in whose list it is
 pub record Claim : Type 0 where

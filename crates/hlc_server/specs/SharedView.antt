@@ -1,8 +1,7 @@
 -- What contracts know of a shared store: whether a trail of its calls is kept. Other threads may change what its lock
 -- protects at any time.
 use Rattle.std.specs.Prelude.{Bool, true, false}
-use Rattle.hlc_server.specs.declared.lock.StoreLock.{StoreLock}
-use Rattle.hlc_server.specs.declared.lock.StoreLock.TheVariants.{Audited, Plain}
+use Rattle.hlc_server.specs.declared.lock.StoreLock.{StoreLock, TheVariants.Audited, TheVariants.Plain}
 
 pub record SharedView : Type 0 where
   pub audited : Bool

@@ -1,12 +1,8 @@
 -- What the lock protects, and the history that a trail has.
-use Rattle.std.specs.Prelude.{◌≡◌, ℕ, List, [], ◌∷◌, ◌++◌, length, Option}
-use Rattle.std.specs.Option.{option_map}
+use Rattle.std.specs.Prelude.{◌≡◌, ℕ, List, [], ◌∷◌, ◌++◌, length, Option, option_map}
 use Rattle.hlc_events.specs.declared.event.CoreEvent.{CoreEvent}
-use Rattle.hlc_core.specs.declared.reply.CoreReply.{CoreReply}
-use Rattle.hlc_core.specs.StoreView.{StoreView}
-use Rattle.hlc_core.specs.History.{RepresentsHistory}
-use Rattle.hlc_server.specs.declared.entry.Entry.{Entry}
-use Rattle.hlc_server.specs.declared.trail.Trail.{Trail}
+use Rattle.hlc_core.specs.{declared.reply.CoreReply.CoreReply, StoreView.StoreView, History.RepresentsHistory}
+use Rattle.hlc_server.specs.declared.{entry.Entry.Entry, trail.Trail.Trail}
 
 -- what the lock protects: a core; the calls that it took, in order, where they are kept; and how many there were
 pub record GuardedView : Type 0 where

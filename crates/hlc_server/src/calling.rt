@@ -1,8 +1,7 @@
 //! Calls on what the lock protects, for one thread.
 ghost use Rattle.std.specs.Prelude.{◌≡◌, ◌<◌, ◌≤◌, ◌+◌, ◌-◌, ◌^◌};
 ghost use Rattle.hlc_events.specs.declared.event.CoreEvent.{CoreEvent as AnEvent};
-ghost use Rattle.hlc_server.specs.Calls.{IsResultFor, IsLockedCall};
-ghost use Rattle.hlc_server.specs.Trails.{HasHistory};
+ghost use Rattle.hlc_server.specs.{Calls.IsResultFor, Calls.IsLockedCall, Trails.HasHistory};
 
 use crate::caller::{Called, Caller};
 use crate::entry::{CallResult, NotDone, Receipt};

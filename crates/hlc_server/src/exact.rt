@@ -2,8 +2,7 @@
 ghost use Rattle.hlc_events.specs.contracts.exact.CoreEventExact.TheImpl.Laws.{equal-law as event_equal};
 ghost use Rattle.hlc_core.specs.contracts.reply.CoreReplyExact.TheImpl.Laws.{equal-law as reply_equal};
 ghost use Rattle.std.proofs.Common.{rules, ap};
-ghost use Rattle.std.proofs.lemmas.Bool.Decides.{Decides-and, Decides-eqb};
-ghost use Rattle.std.proofs.lemmas.Grind.{common_steps};
+ghost use Rattle.std.proofs.lemmas.{Bool.Decides.Decides-and, Bool.Decides.Decides-eqb, Grind.common_steps};
 
 use crate::end::WorkEnd;
 use crate::entry::{Entry, NotDone, Receipt};

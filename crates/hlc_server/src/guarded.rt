@@ -1,11 +1,8 @@
 //! What the lock protects, and how it is made.
 ghost use Rattle.std.specs.Prelude.{◌≡◌, ◌<◌, [], ⊤, Some, None, IfOk, MatchResult, map, if◌then◌else◌};
-ghost use Rattle.std.specs.Option.{ForSome};
-ghost use Rattle.std.specs.List.{range_with_len};
-ghost use Rattle.hlc_core.specs.Calls.{new_refusal, IsRefusal};
-ghost use Rattle.hlc_core.specs.History.{RepresentsHistory};
-ghost use Rattle.hlc_server.specs.Seats.{fresh_seat};
-ghost use Rattle.hlc_server.specs.Trails.{IsAudited, HasHistory, entries_of};
+ghost use Rattle.std.specs.{Option.ForSome, List.range_with_len};
+ghost use Rattle.hlc_core.specs.{Calls.new_refusal, Calls.IsRefusal, History.RepresentsHistory};
+ghost use Rattle.hlc_server.specs.{Seats.fresh_seat, Trails.IsAudited, Trails.HasHistory, Trails.entries_of};
 
 use crate::caller::Caller;
 use crate::trail::Trail;

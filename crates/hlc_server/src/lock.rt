@@ -1,6 +1,5 @@
 //! The lock of a shared store, with or without a trail.
-ghost use Rattle.std.specs.Prelude.{◌≡◌};
-ghost use Rattle.std.specs.Option.{is_some};
+ghost use Rattle.std.specs.{Prelude.◌≡◌, Option.is_some};
 ghost use Rattle.hlc_server.specs.SharedView.{keeps_trail};
 
 use crate::guarded::Guarded;

@@ -1,6 +1,5 @@
 //! What the lock of a shared store protects, by the number of trails.
-ghost use Rattle.std.specs.Prelude.{◌≡◌, ◌==◌};
-ghost use Rattle.std.specs.Option.{is_some};
+ghost use Rattle.std.specs.{Prelude.◌≡◌, Prelude.◌==◌, Option.is_some};
 ghost use Rattle.hlc_server.specs.Calls.{IsResultFor, IsUnderLock};
 
 use crate::caller::Caller;

@@ -1,14 +1,9 @@
 //! A store that threads share.
 ghost use Rattle.std.specs.Prelude.{◌≡◌, ℕ, ◌<◌, ⊤, IfOk, MatchResult, map};
-ghost use Rattle.std.specs.List.{range_with_len};
-ghost use Rattle.std.specs.Option.{is_some};
-ghost use Rattle.std.specs.Fn.{FnOnceReturnsAt};
-ghost use Rattle.hlc_core.specs.StoreView.{StoreView};
-ghost use Rattle.hlc_core.specs.Calls.{new_refusal, IsRefusal};
+ghost use Rattle.std.specs.{List.range_with_len, Option.is_some, Fn.FnOnceReturnsAt};
+ghost use Rattle.hlc_core.specs.{StoreView.StoreView, Calls.new_refusal, Calls.IsRefusal};
 ghost use Rattle.hlc_events.specs.declared.event.CoreEvent.{CoreEvent as AnEvent};
-ghost use Rattle.hlc_server.specs.Seats.{fresh_seat};
-ghost use Rattle.hlc_server.specs.Calls.{IsShared};
-ghost use Rattle.hlc_server.specs.Trails.{HasHistory};
+ghost use Rattle.hlc_server.specs.{Seats.fresh_seat, Calls.IsShared, Trails.HasHistory};
 
 use crate::caller::{Called, Caller};
 use crate::entry::CallResult;

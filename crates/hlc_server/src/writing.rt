@@ -1,9 +1,7 @@
 //! Calls of the core, and their entries in the trail.
 ghost use Rattle.std.specs.Prelude.{◌≡◌, ◌+◌, ◌≤◌, ◌++◌, ◌∷◌, [], Some, IfOk, OnOk, OnErr, vec_len, vec_capacity};
-ghost use Rattle.hlc_core.specs.History.{IsVacuum, IsPlain};
-ghost use Rattle.hlc_core.specs.Planned.{IsPlannedFor};
-ghost use Rattle.hlc_server.specs.Trails.{entries_of};
-ghost use Rattle.hlc_server.specs.Calls.{Enters};
+ghost use Rattle.hlc_core.specs.{History.IsVacuum, History.IsPlain, Planned.IsPlannedFor};
+ghost use Rattle.hlc_server.specs.{Trails.entries_of, Calls.Enters};
 
 use crate::entry::Entry;
 use crate::trail::Trail;

@@ -1,9 +1,7 @@
 -- What was read is no checkpoint after it was divided or joined, so no bytes were made.
 use Rattle.std.proofs.Common.{◌≡◌, ℕ, List, inl, inr, subst}
-use Rattle.hlc_core.specs.StoreView.{StoreView}
-use Rattle.hlc_core.specs.Checkpoint.{IsCheckpoint}
-use Rattle.hlc_split.specs.Merge.{AreJoinable}
-use Rattle.hlc_split.specs.Split.{is_under, is_from, part_of}
+use Rattle.hlc_core.specs.{StoreView.StoreView, Checkpoint.IsCheckpoint}
+use Rattle.hlc_split.specs.{Merge.AreJoinable, Split.is_under, Split.is_from, Split.part_of}
 use Rattle.hlc_split_calls.specs.Halves.{IsRead, IsNoCheckpoint, IsNotDivided, IsNotJoined, join_of}
 
 pub not_below : (bytes key : List ℕ) (own code word : ℕ) (kept made : StoreView) → IsRead bytes own kept

@@ -1,16 +1,13 @@
 -- How the bytes of the halves of a checkpoint are returned, and those of what two checkpoints are joined into.
 use Rattle.std.specs.Prelude.{◌≡◌, ℕ, ◌⊎◌, List, Ok, Err, ◌++◌}
-use Rattle.hlc_wire.specs.declared.fault.WireFault.{WireFault}
-use Rattle.hlc_wire.specs.Faults.{fault_code}
+use Rattle.hlc_wire.specs.{declared.fault.WireFault.WireFault, Faults.fault_code}
 use Rattle.hlc_core.specs.StoreView.{StoreView, with_rows}
 use Rattle.hlc_checkpoint.specs.Checkpoint.{IsCheckpoint, IsFirstReason}
-use Rattle.hlc_checkpoint.specs.RestoreFaults.{fault_code as reason_code}
-use Rattle.hlc_checkpoint.specs.declared.checkpoint.RestoreFault.{RestoreFault}
+use Rattle.hlc_checkpoint.specs.{RestoreFaults.fault_code as reason_code, declared.checkpoint.RestoreFault.RestoreFault}
 use Rattle.hlc_body.specs.Reading.{saved}
 use Rattle.hlc_saved.specs.Saved.{AreOf}
-use Rattle.hlc_split.specs.Split.{is_under, is_from, part_of}
+use Rattle.hlc_split.specs.{Split.is_under, Split.is_from, Split.part_of, declared.joining.MergeFault.MergeFault}
 use Rattle.hlc_split.specs.Merge.{AreJoinable, IsReason, merge_code}
-use Rattle.hlc_split.specs.declared.joining.MergeFault.{MergeFault}
 
 -- the bytes are those of this tag and checkpoint
 abbrev pub IsRead : List ℕ → ℕ → StoreView → Type 0

@@ -1,7 +1,6 @@
 //! The bytes of a checkpoint, divided at a key.
 ghost use Rattle.std.specs.Prelude.{◌≡◌, IfOk, IfErr, is_some};
-ghost use Rattle.hlc_split_calls.specs.Halves.{AreHalves, IsNotDivided};
-ghost use Rattle.hlc_split_calls.specs.Outputs.{OnOutputs};
+ghost use Rattle.hlc_split_calls.specs.{Halves.AreHalves, Halves.IsNotDivided, Outputs.OnOutputs};
 
 use crate::bytes::{read, written};
 use hlc_handle::{Output, Slot};

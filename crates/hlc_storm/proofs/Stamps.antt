@@ -1,9 +1,7 @@
 -- The stamp of a node's next item in a storm: its reading is one above the last, so the counter starts at 0.
-use Rattle.std.proofs.Common.{◌≡◌, ℕ, ◌+◌, ◌<◌, Option, Some, None, Ok, [], ◌∷◌}
-use Rattle.std.proofs.Common.{false, arith, ap, ◌∙◌}
+use Rattle.std.proofs.Common.{◌≡◌, ℕ, ◌+◌, ◌<◌, Option, Some, None, Ok, [], ◌∷◌, false, arith, ap, ◌∙◌}
 use Rattle.std.proofs.lemmas.Bool.Decides.{nat_tests}
-use Rattle.hlc_clock.specs.Stamp.{physical}
-use Rattle.hlc_clock.specs.NextStamp.{next_stamp, is_carried, expected_stamp}
+use Rattle.hlc_clock.specs.{Stamp.physical, NextStamp.next_stamp, NextStamp.is_carried, NextStamp.expected_stamp}
 use Rattle.hlc_rows.specs.declared.limits.BodyFault.{BodyFault}
 use Rattle.hlc_node.specs.Node.{issue_after}
 use Rattle.hlc_storm.specs.Written.{stamp_at, after_writes}

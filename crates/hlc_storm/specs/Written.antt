@@ -2,10 +2,8 @@
 use Rattle.std.specs.Prelude.{ℕ, ◌+◌, ◌*◌, ◌%◌, false, List, [], ◌∷◌, ◌++◌, map, codes, decimal, Some}
 use Rattle.std.specs.List.{range_with_len}
 use Rattle.hlc_clock.specs.declared.stamp.TheConstants.{COUNTER_BOUND}
-use Rattle.hlc_node.specs.declared.item.Item.{Item}
-use Rattle.hlc_node.specs.declared.item.Body.TheVariants.{Write, Report}
-use Rattle.hlc_node.specs.Items.{an_item}
-use Rattle.hlc_node.specs.Node.{NodeView}
+use Rattle.hlc_node.specs.declared.item.{Item.Item, Body.TheVariants.Write, Body.TheVariants.Report}
+use Rattle.hlc_node.specs.{Items.an_item, Node.NodeView}
 use Rattle.hlc_words.specs.declared.plan.StormPlan.{StormPlan}
 
 -- the key of this number

@@ -1,6 +1,5 @@
 //! Runs a storm in a scope of threads.
-ghost use Rattle.std.specs.Prelude.{◌≡◌, ◌+◌, true, IfOk, IfErr, length};
-ghost use Rattle.std.specs.Option.{is_some};
+ghost use Rattle.std.specs.Prelude.{◌≡◌, ◌+◌, true, IfOk, IfErr, length, is_some};
 ghost use Rattle.hlc_storm_report.specs.Found.{MayRefuse, MayReport};
 
 use crate::gates::StormGates;

@@ -1,14 +1,11 @@
 //! The workers of a storm.
-ghost use Rattle.std.specs.Prelude.{◌≡◌, ◌≢◌, ◌<◌, ℕ, false, true, None, length, map, replicate, vec_len};
+ghost use Rattle.std.specs.Prelude.{◌≡◌, ◌≢◌, ◌<◌, ℕ, false, true, None, length, map, replicate, vec_len, Option};
 ghost use Rattle.hlc_node.specs.declared.item.Item.{Item as AnItem};
-ghost use Rattle.std.specs.Prelude.{Option};
 ghost use Rattle.hlc_floor.specs.Views.{FloorPassView};
 ghost use Rattle.hlc_link.specs.Ends.{ReceiverView};
 ghost use Rattle.hlc_events.specs.declared.event.CoreEvent.{CoreEvent as AnEvent};
 ghost use Rattle.hlc_server.specs.declared.end.WorkEnd.{WorkEnd};
-ghost use Rattle.hlc_workers.specs.Paid.{IsPaid, event_of};
-ghost use Rattle.hlc_workers.specs.Feeding.{TookAll, fed_all};
-ghost use Rattle.hlc_workers.specs.Rounds.{HasServed};
+ghost use Rattle.hlc_workers.specs.{Paid.IsPaid, Paid.event_of, Rounds.HasServed, Feeding.TookAll, Feeding.fed_all};
 
 use hlc_core::Bytes;
 use hlc_floor::{Board, Feeder, FloorPass};

@@ -1,14 +1,9 @@
 -- The lines of the nodes are printed one by one: one more count adds one more line, numbered by how many there were.
-use Rattle.std.proofs.Common.{◌≡◌, ℕ, ◌+◌, ◌<◌, get_or, ◌∙◌, sym, ap, subst, arith, List, [], ◌∷◌, ◌++◌}
-use Rattle.std.proofs.Common.{take, length, Option}
-use Rattle.std.specs.List.{flat_map}
-use Rattle.std.proofs.lemmas.List.{take_more, length-take-le}
-use Rattle.std.proofs.lemmas.List.Concat.{flat_map-append}
-use Rattle.hlc_text.specs.Text.{printed}
-use Rattle.hlc_text.specs.declared.printer.Printer.{Printer}
-use Rattle.hlc_text.specs.Printing.{Prints}
+use Rattle.std.proofs.Common.{◌≡◌, ℕ, ◌+◌, ◌<◌, get_or, ◌∙◌, sym, ap, subst, arith, List, [], ◌∷◌, ◌++◌, take, length}
+use Rattle.std.proofs.Common.{Option, append-nil, flat_map, length-take-le}
+use Rattle.std.proofs.lemmas.List.{take_more, Concat.flat_map-append}
+use Rattle.hlc_text.specs.{Text.printed, Printing.Prints, declared.printer.Printer.Printer}
 use Rattle.hlc_text.proofs.PrintLemmas.{printed_then}
-use Rattle.std.proofs.Common.{append-nil}
 use Rattle.hlc_storm_report.specs.Printed.{accepted_line, accepted_lines}
 
 lines_more : (node : ℕ) (xs : List ℕ) (x : ℕ)

@@ -1,9 +1,7 @@
 -- A snapshot that was just opened is open, with its stamp: its id is above those of all snapshots opened before.
-use Rattle.std.proofs.Common.{◌≡◌, ℕ, ◌+◌, ◌<◌, ◌≤◌, List, [], ◌∷◌, ◌++◌, Some, refl, ◌∙◌, arith}
-use Rattle.std.specs.Prelude.{All, ◌==◌, not}
+use Rattle.std.proofs.Common.{◌≡◌, ℕ, ◌+◌, ◌<◌, ◌≤◌, List, [], ◌∷◌, ◌++◌, Some, refl, ◌∙◌, arith, All, ◌==◌, not}
 use Rattle.std.proofs.lemmas.List.Elements.{All-head, All-tail, All-weaker, All-filter, All-nil, All-push}
-use Rattle.hlc_snapshot.specs.declared.snapshot.Snapshot.{Snapshot}
-use Rattle.hlc_snapshot.specs.RegistryView.{stamp_in}
+use Rattle.hlc_snapshot.specs.{declared.snapshot.Snapshot.Snapshot, RegistryView.stamp_in}
 use Rattle.hlc_snapshot.proofs.RegisterLemmas.{stamp_in-hit, stamp_in-miss}
 use Rattle.hlc_core.specs.Past.{Step, Started, Began, Took, Opened, Closed, Vacuumed, PartVacuumed, Joined, last_id}
 use Rattle.hlc_core.specs.Past.{open_snapshots, stamp_of, IsLegal}

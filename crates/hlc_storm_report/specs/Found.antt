@@ -3,17 +3,13 @@ use Rattle.std.specs.Prelude.{◌≡◌, ◌≢◌, ℕ, ◌+◌, List, ◌∷�
 use Rattle.std.specs.List.{range_with_len}
 use Rattle.hlc_vacuum_draft.specs.declared.report.Report.{Report}
 use Rattle.hlc_events.specs.declared.event.CoreEvent.{CoreEvent}
-use Rattle.hlc_core.specs.declared.reply.CoreReply.{CoreReply}
+use Rattle.hlc_core.specs.{declared.reply.CoreReply.CoreReply, Stored.IsReport, Listing.IsListing}
 use Rattle.hlc_core.specs.Past.{Step, Opened, Closed, count, floor, last_id, writes}
-use Rattle.hlc_core.specs.Stored.{IsReport}
-use Rattle.hlc_core.specs.Listing.{IsListing}
 use Rattle.hlc_core.specs.History.{IsLegalHistory, past_of}
-use Rattle.hlc_server.specs.declared.settle.SettleFault.TheVariants.{NoTrail}
+use Rattle.hlc_server.specs.declared.{settle.SettleFault.TheVariants.NoTrail, end.WorkEnd.TheVariants.Done}
 use Rattle.hlc_words.specs.declared.plan.StormPlan.{StormPlan}
 use Rattle.hlc_storm_report.specs.declared.report.StormReport.{StormReport}
-use Rattle.hlc_storm_report.specs.declared.report.StormFault.{StormFault}
-use Rattle.hlc_storm_report.specs.declared.report.StormFault.TheVariants.{Work, Settle}
-use Rattle.hlc_server.specs.declared.end.WorkEnd.TheVariants.{Done}
+use Rattle.hlc_storm_report.specs.declared.report.StormFault.{StormFault, TheVariants.Work, TheVariants.Settle}
 
 -- For a past of a core: the number of accepted items of each node of the plan, the floor, the keys that have a value
 -- there, with the newest accepted one, and the rows that a vacuum to the floor keeps, made after the snapshot of the

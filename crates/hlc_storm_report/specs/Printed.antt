@@ -6,10 +6,8 @@ use Rattle.hlc_text.specs.Text.{bytes_token, printed}
 use Rattle.hlc_core.specs.declared.listing.Pair.{Pair}
 use Rattle.hlc_server.specs.declared.entry.NotDone.TheVariants.{NumbersSpent, NoMemory as NoGrowth}
 use Rattle.hlc_server.specs.declared.settle.SettleFault.TheVariants.{NoTrail, ReceiptMismatch}
-use Rattle.hlc_server.specs.declared.end.WorkEnd.{WorkEnd}
-use Rattle.hlc_server.specs.declared.end.WorkEnd.TheVariants.{Spent}
-use Rattle.hlc_storm_report.specs.declared.report.StormReport.{StormReport}
-use Rattle.hlc_storm_report.specs.declared.report.StormFault.{StormFault}
+use Rattle.hlc_server.specs.declared.end.WorkEnd.{WorkEnd, TheVariants.Spent}
+use Rattle.hlc_storm_report.specs.declared.report.{StormReport.StormReport, StormFault.StormFault}
 use Rattle.hlc_storm_report.specs.declared.report.StormFault.TheVariants.{Work, Settle, NoMemory}
 
 -- how many items of a node were accepted

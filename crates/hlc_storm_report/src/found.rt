@@ -3,9 +3,7 @@ ghost use Rattle.std.specs.Prelude.{◌≡◌, ◌+◌, ◌∷◌, List, None, m
 ghost use Rattle.std.specs.List.{range_with_len};
 ghost use Rattle.hlc_vacuum_draft.specs.declared.report.Report.{Report as AReport};
 ghost use Rattle.hlc_core.specs.Past.{Step, Opened, Closed, count, floor, last_id, room_refusal, writes};
-ghost use Rattle.hlc_core.specs.Listing.{IsListing};
-ghost use Rattle.hlc_core.specs.Stored.{IsReport};
-ghost use Rattle.hlc_core.specs.StoreView.{Represents};
+ghost use Rattle.hlc_core.specs.{Listing.IsListing, Stored.IsReport, StoreView.Represents};
 ghost use Rattle.hlc_storm_report.specs.Found.{IsFoundIn};
 
 use crate::report::{StormFault, StormReport};

@@ -1,12 +1,8 @@
 //! The printed output of a storm.
-ghost use Rattle.std.specs.Prelude.{map, ◌≡◌};
-ghost use Rattle.std.specs.List.{flat_map};
-ghost use Rattle.hlc_text.specs.Text.{printed};
-ghost use Rattle.hlc_text.specs.Watched.{has_failed};
-ghost use Rattle.hlc_text.specs.Printing.{Prints, Writes};
-ghost use Rattle.hlc_storm_report.specs.Printed.{accepted_line, accepted_lines, storm_pair_line};
-ghost use Rattle.hlc_storm_report.specs.Printed.{report_text, work_line, storm_fault_line};
-ghost use Rattle.hlc_storm_report.specs.Printed.{storm_text, storm_status};
+ghost use Rattle.std.specs.{Prelude.map, Prelude.◌≡◌, List.flat_map};
+ghost use Rattle.hlc_text.specs.{Text.printed, Watched.has_failed, Printing.Prints, Printing.Writes};
+ghost use Rattle.hlc_storm_report.specs.Printed.{accepted_line, accepted_lines, storm_pair_line, report_text};
+ghost use Rattle.hlc_storm_report.specs.Printed.{work_line, storm_fault_line, storm_text, storm_status};
 
 use crate::report::{StormFault, StormReport};
 use hlc_core::Pair;

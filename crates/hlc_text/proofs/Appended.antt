@@ -1,8 +1,7 @@
 -- A text that is written where another one ends, and texts that are appended one after another.
 use Rattle.std.proofs.Common.{◌≡◌, ◌≤◌, ◌+◌, ◌++◌, ◌∙◌, sym, ap, ℕ, List, take, drop, length, take-append-drop}
 use Rattle.std.proofs.Common.{append_assoc}
-use Rattle.std.proofs.Math.Seq.{take-append_seam, take-append-add}
-use Rattle.std.proofs.lemmas.List.{length-take-le}
+use Rattle.std.proofs.{Math.Seq.take-append_seam, Math.Seq.take-append-add, lemmas.List.length-take-le}
 
 pub text_after : (old new text rest : List ℕ) (start : ℕ) → start ≤ length old → take start new ≡ take start old
     → drop start new ≡ text ++ rest → take (start + length text) new ≡ take start old ++ text

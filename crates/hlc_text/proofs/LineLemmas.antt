@@ -2,12 +2,9 @@
 -- into its words.
 use Rattle.std.proofs.Common.{◌≡◌, ℕ, ◌<◌, ◌≤◌, ◌∙◌, sym, ap, refl, List, [], ◌∷◌, ◌++◌, length, Option, Some, None}
 use Rattle.std.proofs.Common.{append_assoc, arith, eqb, length-append}
-use Rattle.std.specs.List.{slice_split}
-use Rattle.std.specs.Io.KnownBytes.{Consumes}
+use Rattle.std.specs.{List.slice_split, Io.KnownBytes.Consumes}
 use Rattle.std.proofs.lemmas.List.Splits.{length-slice_split, join_with_byte-slice_split}
-use Rattle.hlc_text.specs.Text.{Reads}
-use Rattle.hlc_text.specs.Lines.{spaced, lines_of_parts, lines_of}
-use Rattle.hlc_text.specs.Input.{IsInput}
+use Rattle.hlc_text.specs.{Text.Reads, Input.IsInput, Lines.spaced, Lines.lines_of_parts, Lines.lines_of}
 
 -- a line that is cut off is the first line
 pub first_of_lines : (line text rest : List ℕ)

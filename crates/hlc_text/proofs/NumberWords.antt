@@ -2,10 +2,7 @@
 -- follows.
 use Rattle.std.proofs.Common.{◌≡◌, ℕ, ◌+◌, ◌-◌, ◌<◌, ◌∙◌, sym, ap, List, [], ◌∷◌, length, get_or, take, drop, arith}
 use Rattle.std.proofs.Common.{eqb}
-use Rattle.std.specs.Prelude.{decimal}
-use Rattle.std.specs.Int.{IsInRange}
-use Rattle.std.specs.List.{slice_split}
-use Rattle.std.proofs.lemmas.List.{take_all}
+use Rattle.std.{specs.Prelude.decimal, specs.Int.IsInRange, specs.List.slice_split, proofs.lemmas.List.take_all}
 use Rattle.hlc_text.proofs.Cuts.{at_none, at_first_range}
 
 no_space : (text : List ℕ) (at : ℕ) → ((k : ℕ) → k < at → IsInRange 48 57 (get_or text k 0)) → (k : ℕ) → k < at

@@ -1,9 +1,8 @@
 -- The first byte of some value among the next ones, found by counting those before it, is the first one in the text.
 use Rattle.std.proofs.Common.{◌≡◌, ℕ, ◌+◌, ◌<◌, ◌≤◌, ◌∙◌, sym, List, length, get_or, arith, eqb, eq-eqb, inl, inr, not}
-use Rattle.std.specs.List.{prefix_len}
+use Rattle.std.{specs.List.prefix_len, proofs.lemmas.Simd.run_in_chunk_fails, proofs.lemmas.Simd.run_in_chunk_stops}
 use lib.Lanes.{chunk}
 use Rattle.std.proofs.lemmas.Bool.{cases_lt, eqb-true, false≢true}
-use Rattle.std.proofs.lemmas.Simd.{run_in_chunk_fails, run_in_chunk_stops}
 
 -- none of the counted bytes is it
 none_counted : (text : List ℕ) (byte from n r : ℕ) → from + n ≤ length text

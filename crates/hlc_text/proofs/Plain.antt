@@ -1,14 +1,11 @@
 -- Bytes that are each their own spelling are read as themselves, since the first one is and the rest are such bytes.
 use Rattle.std.proofs.Common.{◌<◌, ◌∙◌, if◌then◌else◌, length, arith, nat_eq, ne_eqb, sym, ◌≡◌, ℕ, List, [], ◌∷◌, Bool}
-use Rattle.std.proofs.Common.{true, false, Option, Some, None, ap, refl, not, ◌&&◌, ◌==◌, ◌+◌, ◌*◌}
-use Rattle.std.specs.Prelude.{unwrap_or}
-use Rattle.std.proofs.Common.{inl, inr}
-use Rattle.std.proofs.lemmas.Bool.{and_parts, false≢true, cases_Bool}
-use Rattle.std.specs.List.{list_all, flat_map}
+use Rattle.std.proofs.Common.{true, false, Option, Some, None, ap, refl, not, ◌&&◌, ◌==◌, ◌+◌, ◌*◌, inl, inr}
+use Rattle.std.specs.{Prelude.unwrap_or, List.list_all, List.flat_map}
+use Rattle.std.proofs.lemmas.{Bool.and_parts, Bool.false≢true, Bool.cases_Bool, Option.same_Some}
 use Rattle.hlc_text.specs.Text.{is_literal, percent, byte_token, bytes_token}
-use Rattle.hlc_text.specs.Spelling.{spelled_bytes, token_bytes, bytes_in, with_byte, is_own_spelling}
-use Rattle.hlc_text.specs.Spelling.{is_hex, hex_value, is_escaped}
-use Rattle.std.proofs.lemmas.Option.{same_Some}
+use Rattle.hlc_text.specs.Spelling.{spelled_bytes, token_bytes, bytes_in, with_byte, is_own_spelling, is_hex, hex_value}
+use Rattle.hlc_text.specs.Spelling.{is_escaped}
 
 first_is_literal : (b : ℕ) (bs : List ℕ) → list_all is_literal (b ∷ bs) ≡ true
     → (is_literal b ≡ true) × (list_all is_literal bs ≡ true)

@@ -5,10 +5,9 @@ use Rattle.std.proofs.Common.{◌∷◌, ◌++◌, get_or, map, length, take, dr
 use Rattle.std.proofs.Common.{if◌then◌else◌}
 use Rattle.std.proofs.lemmas.Bool.{and_parts, agree_below_at, agree_below, false≢true, ne_eqb}
 use Rattle.std.proofs.lemmas.List.{take-append-drop, drop-take, take-take, length-map, take_all, length-drop}
-use Rattle.std.proofs.lemmas.List.Folds.{list_all-append}
+use Rattle.std.{proofs.lemmas.List.Folds.list_all-append, specs.List.list_all}
 use Rattle.std.proofs.lemmas.Simd.{map-map, mask_l-mod, length-chunk, chunk-fits}
 use lib.Lanes.{chunk, mask_l, top, Each1}
-use Rattle.std.specs.List.{list_all}
 
 -- the first bytes pass, so only those from a place among them on are left to check
 pub rest_decides : (p : ℕ → Bool) (xs : List ℕ) (a b : ℕ) → b ≤ a → list_all p (take a xs) ≡ true

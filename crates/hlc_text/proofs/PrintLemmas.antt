@@ -1,15 +1,10 @@
 -- Lemmas on printing, for proofs about what is printed piece by piece: one text printed after another, the lines of a
 -- list printed one by one, and the effect of `finish` on it all. A printer keeps its writer, so what several calls
 -- printed is what the writer took and what still waits.
-use Rattle.std.proofs.Common.{◌≡◌, ℕ, ◌+◌, ◌<◌, get_or, ◌∙◌, sym, ap, subst, refl}
-use Rattle.std.proofs.Common.{List, [], ◌∷◌, ◌++◌, take, length}
-use Rattle.std.proofs.Common.{map, Option, append-nil}
-use Rattle.std.specs.Borrow.{MutBor}
-use Rattle.std.specs.List.{flat_map}
-use Rattle.std.proofs.lemmas.List.{map-append, take_more}
-use Rattle.std.proofs.lemmas.List.Concat.{flat_map-append}
-use Rattle.hlc_text.specs.declared.printer.Printer.{Printer}
-use Rattle.hlc_text.specs.declared.watched.Watched.{Watched}
+use Rattle.std.proofs.Common.{◌≡◌, ℕ, ◌+◌, ◌<◌, get_or, ◌∙◌, sym, ap, subst, refl, List, [], ◌∷◌, ◌++◌, take, length}
+use Rattle.std.proofs.Common.{map, Option, append-nil, MutBor, flat_map}
+use Rattle.std.proofs.lemmas.List.{map-append, take_more, Concat.flat_map-append}
+use Rattle.hlc_text.specs.declared.{printer.Printer.Printer, watched.Watched.Watched}
 use Rattle.hlc_text.specs.Printing.{StartsAt, HasItsWriter, Prints, Finishes, Writes, writer_of, waiting_of}
 use Rattle.hlc_text.specs.Watched.{inner_of, has_failed}
 use Rattle.hlc_text.proofs.Texts.{Took, Appends-nil, took_both, took_none}

@@ -1,15 +1,12 @@
 -- Bytes are spelled as percent-encoding spells them: for each of 256 bytes, one escapes it exactly where the other
 -- does, which is checked by trying all; and a byte below 256 has the same two digits in both.
-use Rattle.std.proofs.Common.{◌≡◌, ℕ, suc, ◌<◌, ◌/◌, ◌%◌, true, not, List, [], ◌∷◌, get_or, refl, ap, ◌∙◌}
-use Rattle.std.proofs.Common.{inl, inr, arith}
-use Rattle.std.specs.Fmt.{digit_glyph}
-use Rattle.std.specs.List.{flat_map}
+use Rattle.std.proofs.Common.{◌≡◌, ℕ, suc, ◌<◌, ◌/◌, ◌%◌, true, not, List, [], ◌∷◌, get_or, refl, ap, ◌∙◌, inl, inr}
+use Rattle.std.proofs.Common.{arith}
+use Rattle.std.specs.{Fmt.digit_glyph, List.flat_map}
 use Rattle.std.proofs.lemmas.Bool.{agree_below, agree_below_at, cases_Bool}
-use Rattle.percent_encoding.specs.AsciiSet.{should_percent_encode}
-use Rattle.percent_encoding.specs.Percent.{percent_encode, percent_encode_byte}
+use Rattle.percent_encoding.specs.{AsciiSet.should_percent_encode, Percent.percent_encode, Percent.percent_encode_byte}
 use Rattle.percent_encoding.proofs.PercentLemmas.{percent_encode-nil, percent_encode_escaped, percent_encode_kept}
-use Rattle.hlc_text.specs.declared.printer.TheConstants.{ESCAPED}
-use Rattle.hlc_text.specs.Text.{is_literal, byte_token}
+use Rattle.hlc_text.specs.{declared.printer.TheConstants.ESCAPED, Text.is_literal, Text.byte_token}
 
 tried : agree_below (should_percent_encode ESCAPED) (λ b. not (is_literal b)) 256 ≡ true
 unfolding should_percent_encode

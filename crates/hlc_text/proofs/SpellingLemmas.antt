@@ -2,11 +2,8 @@
 -- no others.
 use Rattle.std.proofs.Common.{◌≡◌, ℕ, ◌+◌, ◌*◌, ◌/◌, ◌%◌, ◌<◌, ◌∙◌, sym, ap, refl, length, get_or, List, [], ◌∷◌, ◌++◌}
 use Rattle.std.proofs.Common.{Some, true, false, arith, inl, inr}
-use Rattle.std.specs.Fmt.{digit_glyph}
-use Rattle.std.specs.List.{flat_map}
-use Rattle.std.proofs.lemmas.Grind.{common_steps}
-use Rattle.std.proofs.lemmas.Bool.{cases_Bool, cases_eq, ne_eqb}
-use Rattle.std.proofs.lemmas.Option.{same_Some}
+use Rattle.std.specs.{Fmt.digit_glyph, List.flat_map}
+use Rattle.std.proofs.lemmas.{Grind.common_steps, Option.same_Some, Bool.cases_Bool, Bool.cases_eq, Bool.ne_eqb}
 use Rattle.hlc_text.specs.Text.{is_literal, byte_token, bytes_token, AreBytes}
 use Rattle.hlc_text.specs.Spelling.{is_hex, hex_value, is_escaped, with_byte, spelled_bytes, token_bytes}
 

@@ -1,10 +1,8 @@
 -- Texts that a writer takes one after another, after text that waited: two texts, and no text. The next call starts
 -- with the text that one call leaves waiting.
-use Rattle.std.proofs.Common.{◌≡◌, ℕ, ◌∙◌, sym, ap, subst, refl, Bool, true, false}
-use Rattle.std.proofs.Common.{List, [], ◌++◌, Option, Some, None}
+use Rattle.std.proofs.Common.{◌≡◌, ℕ, ◌∙◌, sym, ap, subst, refl, Bool, true, false, List, [], ◌++◌, Option, Some, None}
 use Rattle.std.proofs.Common.{append-nil, append_assoc}
-use Rattle.std.specs.Io.KnownBytes.{Appends}
-use Rattle.std.proofs.lemmas.Bool.{false≢true}
+use Rattle.std.{specs.Io.KnownBytes.Appends, proofs.lemmas.Bool.false≢true}
 
 -- what waited and the text were taken, except for what still waits; or a front of them where the writer failed
 pub record Took (failed_before failed : Bool) (before after : Option (List ℕ)) (waited waits text : List ℕ)

@@ -3,16 +3,12 @@
 -- other stamp.
 use Rattle.std.proofs.Common.{◌≡◌, ℕ, ◌/◌, ◌%◌, ◌<◌, ◌≤◌, ◌^◌, ◌∙◌, sym, ap, refl, true, false, List, [], ◌∷◌, ◌++◌}
 use Rattle.std.proofs.Common.{get_or, length, arith, eqb, inl, inr, le-leb}
-use Rattle.std.specs.Prelude.{◌≢◌, decimal, nat_le}
-use Rattle.std.specs.Fmt.{digit_glyph}
+use Rattle.std.specs.{Prelude.◌≢◌, Prelude.decimal, Prelude.nat_le, Fmt.digit_glyph}
 use Rattle.std.specs.List.{slice_split, flat_map, All, AllByRecursion, list_all, join_with_byte}
 use Rattle.std.proofs.lemmas.Bool.{cases_Bool, ne_eqb, and_parts, and_from, leb-true}
-use Rattle.std.proofs.lemmas.Grind.{common_steps}
-use Rattle.std.proofs.lemmas.Fmt.{decimal_is_IsNumeral, decimal_injective}
-use Rattle.std.proofs.lemmas.Str.Parse.{digit_at}
+use Rattle.std.proofs.lemmas.{Grind.common_steps, Str.Parse.digit_at, Fmt.decimal_is_IsNumeral, Fmt.decimal_injective}
 use Rattle.std.proofs.lemmas.List.Elements.{All-from_get_or, All-from_recursion}
-use Rattle.std.proofs.lemmas.List.Sums.{list_all-from_AllPass}
-use Rattle.std.proofs.lemmas.List.Folds.{list_all-append}
+use Rattle.std.proofs.lemmas.List.{Sums.list_all-from_AllPass, Folds.list_all-append}
 use Rattle.std.proofs.lemmas.List.Splits.{slice_split_none, slice_split_at}
 use Rattle.hlc_clock.specs.Stamp.{stamp_text}
 use Rattle.hlc_text.specs.Text.{is_literal, byte_token, bytes_token}

@@ -1,9 +1,8 @@
 -- What an input is, according to what is known of its reader's bytes, and why there is none.
 use Rattle.std.specs.Prelude.{◌≡◌, ℕ, ◌<◌, ◌≤◌, List, length, codes, Option, Some, None, ⊤}
 use Rattle.std.specs.Io.KnownBytes.{Consumes}
-use Rattle.hlc_text.specs.declared.input.InputFault.{InputFault}
+use Rattle.hlc_text.specs.declared.input.{InputFault.InputFault, TheConstants.INPUT_LIMIT}
 use Rattle.hlc_text.specs.declared.input.InputFault.TheVariants.{NoMemory, ReadFault, TooLong}
-use Rattle.hlc_text.specs.declared.input.TheConstants.{INPUT_LIMIT}
 
 -- the bytes that a reader had left, where they are known
 abbrev pub IsInput : Option (List ℕ) → List ℕ → Type 0

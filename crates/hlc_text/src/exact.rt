@@ -1,6 +1,5 @@
 //! `==` of these types is true exactly on equal values, and each copy is equal.
-ghost use Rattle.std.proofs.Common.{rules};
-ghost use Rattle.std.proofs.lemmas.Grind.{common_steps};
+ghost use Rattle.std.proofs.{Common.rules, lemmas.Grind.common_steps};
 
 use crate::input::InputFault;
 use hlc_values::Exact;

@@ -1,12 +1,9 @@
 //! The whole input of a run or a check, and its first line.
 ghost use Rattle.std.specs.Prelude.{◌≡◌, ◌<◌, ◌≤◌, ◌∷◌, ◌↔◌, ◌^◌, Err, false, true, length, vec_len, IfOk, IfErr};
 ghost use Rattle.std.specs.Io.KnownBytes.{Consumes};
-ghost use Rattle.hlc_text.specs.Watched.{inner_of, has_failed};
-ghost use Rattle.hlc_text.specs.Lines.{lines_of};
+ghost use Rattle.hlc_text.specs.{Watched.inner_of, Watched.has_failed, declared.input.TheConstants.INPUT_LIMIT};
+ghost use Rattle.hlc_text.specs.{Lines.lines_of, Text.printed, Printing.Prints};
 ghost use Rattle.hlc_text.specs.Input.{IsInput, IsNotLoaded, fault_line};
-ghost use Rattle.hlc_text.specs.Printing.{Prints};
-ghost use Rattle.hlc_text.specs.Text.{printed};
-ghost use Rattle.hlc_text.specs.declared.input.TheConstants.{INPUT_LIMIT};
 
 use crate::printer::Printer;
 use crate::watched::Watched;

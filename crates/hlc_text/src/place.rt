@@ -1,7 +1,6 @@
 //! Searches for the place of the first byte of some value in a text, several bytes at a time.
 ghost use Rattle.std.specs.Prelude.{◌≡◌, ◌≢◌, ◌==◌, ◌<◌, ◌≤◌, ◌+◌, not, ℕ, MatchOption, length, slice_index};
-ghost use Rattle.std.specs.List.{prefix_len};
-ghost use Rattle.std.specs.Simd.Lanes.{chunk};
+ghost use Rattle.std.specs.{List.prefix_len, Simd.Lanes.chunk};
 
 use std::simd::prelude::*;
 

@@ -1,9 +1,7 @@
 //! Whether bytes are their own spelling, checked several at a time.
 ghost use Rattle.std.specs.Prelude.{◌≡◌, ◌<◌, ◌≤◌, ◌+◌, length};
-ghost use Rattle.std.specs.List.{list_all};
-ghost use Rattle.std.specs.Simd.Lanes.{chunk};
-ghost use Rattle.hlc_text.specs.Text.{is_literal};
-ghost use Rattle.hlc_text.specs.Spelling.{is_own_spelling};
+ghost use Rattle.std.specs.{List.list_all, Simd.Lanes.chunk};
+ghost use Rattle.hlc_text.specs.{Text.is_literal, Spelling.is_own_spelling};
 
 use std::simd::prelude::*;
 

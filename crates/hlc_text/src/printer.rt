@@ -3,8 +3,7 @@
 //! Each call prints one text, whatever happens to the writer: one that has failed takes nothing more. So a caller
 //! prints all of its text, then calls `finish`, and then asks the writer once whether it failed. Before `finish` at
 //! least 32,768 bytes are written at once; only where the writer takes a part of them, the rest is written alone.
-ghost use Rattle.std.specs.Prelude.{◌≡◌, ◌<◌, ◌≤◌, ◌+◌, decimal, ◌++◌, [], length};
-ghost use Rattle.std.specs.List.{flat_map};
+ghost use Rattle.std.specs.Prelude.{◌≡◌, ◌<◌, ◌≤◌, ◌+◌, decimal, ◌++◌, [], length, flat_map};
 ghost use Rattle.hlc_clock.specs.Stamp.{stamp_text};
 ghost use Rattle.hlc_text.specs.Text.{byte_token, bytes_token, printed};
 ghost use Rattle.hlc_text.specs.Printing.{StartsAt, Prints, Finishes, Writes};

@@ -1,11 +1,8 @@
 -- The words after the program's name. The type ensures that the sizes of a storm are in their ranges.
 use Rattle.std.specs.Prelude.{◌≡◌, ℕ, List, [], ◌∷◌, Option, Some, None, map, codes, decimal, String, string_bytes, ⊤}
-use Rattle.hlc_text.specs.declared.watched.Watched.{Watched}
-use Rattle.hlc_text.specs.Printing.{Writes}
-use Rattle.hlc_text.specs.Text.{Reads, printed}
+use Rattle.hlc_text.specs.{declared.watched.Watched.Watched, Printing.Writes, Text.Reads, Text.printed}
 use Rattle.hlc_words.specs.declared.plan.StormPlan.{StormPlan}
-use Rattle.hlc_words.specs.declared.words.Words.{Words}
-use Rattle.hlc_words.specs.declared.words.Words.TheVariants.{Run, Check, Storm}
+use Rattle.hlc_words.specs.declared.words.Words.{Words, TheVariants.Run, TheVariants.Check, TheVariants.Storm}
 
 -- the bytes of each word
 abbrev pub bytes_of : {Z : Type 0} → List (String Z) → List (List ℕ)

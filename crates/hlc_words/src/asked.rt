@@ -1,8 +1,6 @@
 //! What becomes of the words: they ask for something, or they are refused.
-ghost use Rattle.std.specs.Prelude.{◌≡◌, codes};
-ghost use Rattle.std.specs.Option.{option_map};
-ghost use Rattle.hlc_text.specs.Text.{printed};
-ghost use Rattle.hlc_text.specs.Printing.{Writes};
+ghost use Rattle.std.specs.{Prelude.◌≡◌, Prelude.codes, Option.option_map};
+ghost use Rattle.hlc_text.specs.{Text.printed, Printing.Writes};
 ghost use Rattle.hlc_words.specs.Words.{Asks, bytes_of};
 
 use crate::words::{Words, read_words};

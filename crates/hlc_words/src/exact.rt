@@ -1,7 +1,6 @@
 //! Two plans of a storm are equal exactly where all their sizes are.
-ghost use Rattle.std.proofs.lemmas.Grind.{common_steps};
+ghost use Rattle.std.proofs.lemmas.{Grind.common_steps, Bool.Decides.Decides-and, Bool.Decides.Decides-eqb};
 ghost use Rattle.std.proofs.Common.{rules, ap};
-ghost use Rattle.std.proofs.lemmas.Bool.Decides.{Decides-and, Decides-eqb};
 ghost use Rattle.hlc_words.specs.Plan.{same_plan};
 
 use crate::plan::StormPlan;

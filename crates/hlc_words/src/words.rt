@@ -1,8 +1,6 @@
 //! The words after the program's name.
 ghost use Rattle.std.specs.Prelude.{◌≡◌, ◌≢◌, ◌≤◌, ◌∷◌, [], ℕ, List, decimal, ⊤, MatchOption};
-ghost use Rattle.std.specs.Result.{result_ok};
-ghost use Rattle.std.proofs.Common.{rules};
-ghost use Rattle.std.proofs.lemmas.Grind.{common_steps};
+ghost use Rattle.std.{specs.Result.result_ok, proofs.Common.rules, proofs.lemmas.Grind.common_steps};
 ghost use Rattle.hlc_text.specs.Text.{Reads};
 ghost use Rattle.hlc_words.specs.contracts.exact.StormPlanExact.TheImpl.Laws.{equal-law as plan_equal};
 ghost use Rattle.hlc_words.specs.Words.{words_of, plan_words, bytes_of};

@@ -1,13 +1,10 @@
 -- One more look at each word: what it found comes last, and the stamp is the least of it. Seen values only rise, so the
 -- least of them does too, and no stamp is below the one before.
 use Rattle.std.proofs.Common.{◌≡◌, ℕ, ◌+◌, ◌-◌, ◌<◌, ◌≤◌, List, [], ◌∷◌, ◌++◌, length, zero, suc, refl, ◌∙◌, sym, ap}
-use Rattle.std.proofs.Common.{subst}
-use Rattle.std.proofs.Common.{arith, length-append, append_assoc, append-nil}
-use Rattle.std.specs.Prelude.{slice_index}
+use Rattle.std.proofs.Common.{subst, arith, length-append, append_assoc, append-nil, slice_index}
 use mathlib.Core.Logic.{dite}
 use native.Mathlib.Decide.{dec_lt}
-use Rattle.hlc_floor.specs.Board.{found_at}
-use Rattle.hlc_floor.specs.Views.{FloorPassView, IsLeast}
+use Rattle.hlc_floor.specs.{Board.found_at, Views.FloorPassView, Views.IsLeast}
 use Rattle.hlc_workers.specs.Rounds.{NeverFalls, HasFound, look_of, IsLeastFound, AreLeastFound}
 
 -- the entries of a list with one more

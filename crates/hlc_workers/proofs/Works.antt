@@ -1,28 +1,21 @@
 -- What the receipts say after one more call, or one more round: the new receipts come after the earlier ones, and each
 -- fact about a list of receipts follows from those about its two parts.
-use Rattle.std.proofs.Common.{◌≡◌, ℕ, List, [], ◌∷◌, ◌++◌, map, Bool, Option, Some}
-use Rattle.std.proofs.Common.{None, sym, ap, ◌∙◌, arith}
-use Rattle.std.proofs.Common.{length-append, append_assoc, refl, subst, All, length, take, get_or, ◌+◌, ◌<◌}
-use Rattle.std.proofs.Common.{zero-add, replicate, drop}
-use Rattle.std.specs.Prelude.{Result, Ok, Err, MatchResult}
-use Rattle.std.proofs.lemmas.List.{append-nil, map-append, take_more, take-append-drop, replicate-append-replicate}
+use Rattle.std.proofs.Common.{◌≡◌, ℕ, List, [], ◌∷◌, ◌++◌, map, Bool, Option, Some, None, sym, ap, ◌∙◌, arith}
+use Rattle.std.proofs.Common.{length-append, append_assoc, refl, subst, All, length, take, get_or, ◌+◌, ◌<◌, zero-add}
+use Rattle.std.proofs.Common.{replicate, drop, Result, Ok, Err, MatchResult, append-nil, take-append-drop, option_map}
+use Rattle.std.proofs.lemmas.List.{map-append, take_more, replicate-append-replicate}
 use Rattle.std.proofs.lemmas.List.Elements.{All-append, All-nil}
 use mathlib.Core.Logic.{dite}
 use native.Mathlib.Decide.{dec_lt}
 use Rattle.hlc_node.specs.declared.item.Item.{Item}
-use Rattle.hlc_server.specs.declared.entry.Receipt.{Receipt}
-use Rattle.hlc_server.specs.Seats.{CallerView}
-use Rattle.std.specs.Option.{option_map}
-use Rattle.hlc_floor.specs.Views.{FeederView, post}
-use Rattle.hlc_workers.specs.declared.session.Work.{Work}
+use Rattle.hlc_server.specs.{declared.entry.Receipt.Receipt, declared.end.WorkEnd.WorkEnd, Seats.CallerView}
+use Rattle.hlc_floor.specs.Views.{FeederView, post, FloorPassView}
+use Rattle.hlc_workers.specs.declared.session.{Work.Work, Opening.Opening}
 use Rattle.hlc_workers.specs.Paid.{event_of, IsPaid, Passed, HasCalled, HasStayed, IsStopped, MadeSome}
 use Rattle.hlc_workers.specs.Feeding.{accept_of, TookAll, raised_by, highest, fed_by, fed_all}
 use Rattle.hlc_events.specs.declared.event.CoreEvent.{CoreEvent}
 use Rattle.hlc_events.specs.declared.event.CoreEvent.TheVariants.{Read, Close, Vacuum}
 use Rattle.hlc_core.specs.declared.reply.CoreReply.TheVariants.{Closed}
-use Rattle.hlc_server.specs.declared.end.WorkEnd.{WorkEnd}
-use Rattle.hlc_workers.specs.declared.session.Opening.{Opening}
-use Rattle.hlc_floor.specs.Views.{FloorPassView}
 use Rattle.hlc_workers.specs.Rounds.{opening_of, reads_of, IsOpening, IsRound, AreRounds, HasServed, HasBegun}
 
 -- before the first call

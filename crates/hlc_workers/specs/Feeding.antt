@@ -1,20 +1,14 @@
 -- What a worker of a link has done.
-use Rattle.std.specs.Prelude.{◌≡◌, ◌≢◌, ◌==◌, ◌&&◌, ℕ, List, [], ◌∷◌, ◌++◌, length}
-use Rattle.std.specs.Prelude.{map, nat_lt, Bool, true, false}
-use Rattle.std.specs.Prelude.{if◌then◌else◌, Option, None, IsSome}
-use Rattle.std.specs.Option.{option_to_list, option_map}
+use Rattle.std.specs.Prelude.{◌≡◌, ◌≢◌, ◌==◌, ◌&&◌, ℕ, List, [], ◌∷◌, ◌++◌, length, map, nat_lt, Bool, true, false}
+use Rattle.std.specs.Prelude.{if◌then◌else◌, Option, None, IsSome, option_to_list, option_map}
 use Rattle.hlc_node.specs.declared.item.Item.{Item}
 use Rattle.hlc_link.specs.Ends.{ReceiverView}
 use Rattle.hlc_floor.specs.Views.{FeederView, post, word_of}
-use Rattle.hlc_events.specs.declared.event.CoreEvent.{CoreEvent}
-use Rattle.hlc_events.specs.declared.event.CoreEvent.TheVariants.{Accept}
-use Rattle.hlc_core.specs.declared.reply.CoreReply.{CoreReply}
-use Rattle.hlc_core.specs.declared.reply.CoreReply.TheVariants.{Accepted}
+use Rattle.hlc_events.specs.declared.event.CoreEvent.{CoreEvent, TheVariants.Accept}
+use Rattle.hlc_core.specs.declared.reply.CoreReply.{CoreReply, TheVariants.Accepted}
 use Rattle.hlc_server.specs.declared.entry.Receipt.{Receipt}
-use Rattle.hlc_workers.specs.declared.session.Work.{Work}
-use Rattle.hlc_server.specs.declared.end.WorkEnd.{WorkEnd}
-use Rattle.hlc_server.specs.declared.end.WorkEnd.TheVariants.{Done, Held, Closed}
-use Rattle.hlc_workers.specs.Paid.{event_of, HasCalled, HasStayed}
+use Rattle.hlc_workers.specs.{declared.session.Work.Work, Paid.event_of, Paid.HasCalled, Paid.HasStayed}
+use Rattle.hlc_server.specs.declared.end.WorkEnd.{WorkEnd, TheVariants.Done, TheVariants.Held, TheVariants.Closed}
 
 -- the call that passes an item to the store
 abbrev pub accept_of : Item → CoreEvent

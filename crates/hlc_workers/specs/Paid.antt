@@ -1,14 +1,10 @@
 -- What a worker's receipts say about its calls.
-use Rattle.std.specs.Prelude.{◌≡◌, ◌≢◌, ◌+◌, ◌<◌, ◌≤◌, ℕ, List, [], ◌∷◌, ◌++◌}
-use Rattle.std.specs.Prelude.{length, map, replicate, Bool, true, false, All}
-use Rattle.std.specs.Prelude.{Result, MatchResult}
-use Rattle.hlc_events.specs.declared.event.CoreEvent.{CoreEvent}
-use Rattle.hlc_events.specs.declared.event.CoreEvent.TheVariants.{Vacuum}
-use Rattle.hlc_server.specs.declared.entry.Receipt.{Receipt}
-use Rattle.hlc_server.specs.Seats.{CallerView}
+use Rattle.std.specs.Prelude.{◌≡◌, ◌≢◌, ◌+◌, ◌<◌, ◌≤◌, ℕ, List, [], ◌∷◌, ◌++◌, length, map, replicate, Bool, true}
+use Rattle.std.specs.Prelude.{false, All, Result, MatchResult}
+use Rattle.hlc_events.specs.declared.event.CoreEvent.{CoreEvent, TheVariants.Vacuum}
+use Rattle.hlc_server.specs.{declared.entry.Receipt.Receipt, Seats.CallerView}
 use Rattle.hlc_workers.specs.declared.session.Work.{Work}
-use Rattle.hlc_server.specs.declared.end.WorkEnd.{WorkEnd}
-use Rattle.hlc_server.specs.declared.end.WorkEnd.TheVariants.{Done, Held, Closed}
+use Rattle.hlc_server.specs.declared.end.WorkEnd.{WorkEnd, TheVariants.Done, TheVariants.Held, TheVariants.Closed}
 
 -- the call of a receipt
 abbrev pub event_of : Receipt → CoreEvent

@@ -3,14 +3,11 @@ use Rattle.std.specs.Prelude.{◌≡◌, ℕ, ◌+◌, ◌-◌, ◌<◌, ◌≤�
 use Rattle.hlc_events.specs.declared.fault.CoreFault.TheVariants.{AboveFloor, BelowHorizon}
 use Rattle.hlc_events.specs.declared.event.CoreEvent.{CoreEvent}
 use Rattle.hlc_events.specs.declared.event.CoreEvent.TheVariants.{OpenAt, OpenFloor, Read, Close}
-use Rattle.hlc_core.specs.declared.reply.CoreReply.{CoreReply}
-use Rattle.hlc_core.specs.declared.reply.CoreReply.TheVariants.{Opened, Refused}
+use Rattle.hlc_core.specs.declared.reply.CoreReply.{CoreReply, TheVariants.Opened, TheVariants.Refused}
 use Rattle.hlc_server.specs.declared.entry.Receipt.{Receipt}
-use Rattle.hlc_floor.specs.Board.{found_at}
-use Rattle.hlc_floor.specs.Views.{FloorPassView, IsLeast}
-use Rattle.hlc_workers.specs.declared.session.Opening.{Opening}
-use Rattle.hlc_workers.specs.declared.session.Opening.TheVariants.{Opened as opened, Outside as outside}
-use Rattle.hlc_workers.specs.declared.session.Opening.TheVariants.{NotOpened as refused}
+use Rattle.hlc_floor.specs.{Board.found_at, Views.FloorPassView, Views.IsLeast}
+use Rattle.hlc_workers.specs.declared.session.Opening.{Opening, TheVariants.Opened as opened}
+use Rattle.hlc_workers.specs.declared.session.Opening.{TheVariants.Outside as outside, TheVariants.NotOpened as refused}
 use Rattle.hlc_workers.specs.Paid.{event_of}
 
 -- the result of an opening, from its reply

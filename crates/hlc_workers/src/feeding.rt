@@ -1,6 +1,5 @@
 //! The worker of a link.
-ghost use Rattle.std.specs.Prelude.{◌≡◌, ◌≢◌, ◌<◌, ℕ, true, false, None, length, vec_len};
-ghost use Rattle.std.specs.Prelude.{IfSome, IsSome, MatchResult};
+ghost use Rattle.std.specs.Prelude.{◌≡◌, ◌≢◌, ◌<◌, ℕ, true, false, None, length, vec_len, IfSome, IsSome, MatchResult};
 ghost use Rattle.std.specs.Option.{option_map};
 ghost use Rattle.hlc_workers.specs.Paid.{IsPaid};
 ghost use Rattle.hlc_workers.specs.Feeding.{TookAll, FedOne, FedNone, fed_by, fed_all};

@@ -1,8 +1,6 @@
 //! What a worker needs to make its calls of a store.
-ghost use Rattle.std.specs.Prelude.{◌≡◌, ◌<◌, ◌⊎◌, [], false, true, length, vec_len, vec_capacity};
-ghost use Rattle.std.specs.Prelude.{IfErr, OnOk};
-ghost use Rattle.hlc_workers.specs.Paid.{MadeOne};
-ghost use Rattle.hlc_workers.specs.Rounds.{IsOpening, opening_of};
+ghost use Rattle.std.specs.Prelude.{◌≡◌, ◌<◌, ◌⊎◌, [], false, true, length, vec_len, vec_capacity, IfErr, OnOk};
+ghost use Rattle.hlc_workers.specs.{Paid.MadeOne, Rounds.IsOpening, Rounds.opening_of};
 
 use crate::gate::Gate;
 use hlc_core::{CoreEvent, CoreFault, CoreReply};

@@ -1,6 +1,5 @@
 //! The worker of the vacuum.
-ghost use Rattle.std.specs.Prelude.{◌≡◌, ◌≢◌, ◌<◌, ℕ, List, map, replicate, false, true, length, vec_len};
-ghost use Rattle.std.specs.Prelude.{MatchResult};
+ghost use Rattle.std.specs.Prelude.{◌≡◌, ◌≢◌, ◌<◌, ℕ, List, map, replicate, false, true, length, vec_len, MatchResult};
 ghost use Rattle.hlc_events.specs.declared.event.CoreEvent.{CoreEvent as AnEvent};
 ghost use Rattle.hlc_server.specs.declared.entry.Receipt.{Receipt as AReceipt};
 ghost use Rattle.hlc_workers.specs.Paid.{IsPaid, MadeOne, HasCalled, IsStopped, AreVacuums, event_of};

@@ -1,15 +1,10 @@
 -- What the program does for the words after its name, and its exit status.
 use Rattle.std.specs.Prelude.{◌≡◌, ℕ, List, Option, Some, None, Result}
-use Rattle.hlc_text.specs.declared.watched.Watched.{Watched}
-use Rattle.hlc_text.specs.Watched.{has_failed}
-use Rattle.hlc_text.specs.Printing.{Writes}
-use Rattle.hlc_words.specs.declared.words.Words.{Words}
-use Rattle.hlc_words.specs.declared.words.Words.TheVariants.{Run, Check, Storm}
+use Rattle.hlc_text.specs.{declared.watched.Watched.Watched, Watched.has_failed, Printing.Writes}
+use Rattle.hlc_words.specs.declared.words.Words.{Words, TheVariants.Run, TheVariants.Check, TheVariants.Storm}
 use Rattle.hlc_script.specs.Asked.{AnswersInput}
-use Rattle.hlc_storm_report.specs.declared.report.StormReport.{StormReport}
-use Rattle.hlc_storm_report.specs.declared.report.StormFault.{StormFault}
-use Rattle.hlc_storm_report.specs.Found.{MayReport}
-use Rattle.hlc_storm_report.specs.Printed.{storm_text, storm_status}
+use Rattle.hlc_storm_report.specs.declared.report.{StormReport.StormReport, StormFault.StormFault}
+use Rattle.hlc_storm_report.specs.{Found.MayReport, Printed.storm_text, Printed.storm_status}
 
 -- What was asked for is done, and the exit status is that of its end. For a storm there is an outcome that its plan may
 -- have, whose text is written, and nothing is read. A script and a certificate are answered, and other words refused.

@@ -1,6 +1,5 @@
 //! The program: what it does for the words after its name.
-ghost use Rattle.std.specs.Prelude.{◌≡◌, false, Option};
-ghost use Rattle.std.specs.Option.{option_map};
+ghost use Rattle.std.specs.{Prelude.◌≡◌, Prelude.false, Prelude.Option, Option.option_map};
 ghost use Rattle.hlc_text.specs.Watched.{has_failed};
 ghost use Rattle.hlc_words.specs.Words.{Asks, bytes_of};
 ghost use Rattle.hlcstore.specs.Program.{RunsCommand};

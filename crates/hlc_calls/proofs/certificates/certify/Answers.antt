@@ -2,8 +2,7 @@
 use Rattle.std.proofs.Common.{refl, sym, subst, inr}
 use Rattle.hlc_events.specs.declared.certificate_fault.CertificateFault.TheVariants.{Vacuum}
 use Rattle.hlc_events.specs.declared.fault.CoreFault.TheVariants.{NoMemory}
-use Rattle.hlc_calls.specs.Certified.{IsShown}
-use Rattle.hlc_calls.proofs.Certifying.{certificate-shown}
+use Rattle.hlc_calls.{specs.Certified.IsShown, proofs.Certifying.certificate-shown}
 use Rattle.hlc_calls.proofs.certificates.certify.Goals as goal
 
 pub returns-in-Some-clause-answer : goal.returns-in-Some-clause-answer

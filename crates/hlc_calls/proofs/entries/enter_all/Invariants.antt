@@ -1,7 +1,6 @@
 -- The entries so far lie within the bytes and were accepted, and the store represents their items.
 use Rattle.std.proofs.Common.{◌≤◌, ◌-◌, List, length, take}
-use Rattle.hlc_core.specs.Past.{Step}
-use Rattle.hlc_core.specs.StoreView.{Represents}
+use Rattle.hlc_core.specs.{Past.Step, StoreView.Represents}
 use Rattle.hlc_calls.specs.Entries.{AreWithin, entered}
 use Rattle.hlc_calls.proofs.entries.enter_all.Given as goal
 

@@ -1,7 +1,6 @@
 -- A retirement has no content that could be refused, like a report.
 use Rattle.std.proofs.Common.{sym, ap, subst}
-use Rattle.hlc_node.specs.declared.item.Item.{Item}
-use Rattle.hlc_node.specs.declared.item.Body.TheVariants.{Retire as a_retire}
+use Rattle.hlc_node.specs.declared.item.{Item.Item, Body.TheVariants.Retire as a_retire}
 use Rattle.hlc_node.specs.Items.{an_item, body_refusal}
 use Rattle.hlc_calls.specs.Answers.{ReturnsChecked}
 use Rattle.hlc_calls.proofs.items.check_plain.Goals as goal

@@ -1,7 +1,6 @@
 -- One more item was taken; or the next one was not.
 use Rattle.std.proofs.Common.{arith, rules}
-use Rattle.hlc_calls.specs.Log.{with_items}
-use Rattle.hlc_calls.proofs.Logs.{one_more, stopped_here}
+use Rattle.hlc_calls.{specs.Log.with_items, proofs.Logs.one_more, proofs.Logs.stopped_here}
 use Rattle.hlc_calls.proofs.log.take_all.Goals as goal
 
 pub loop-rest-preserved : goal.loop-rest-preserved

@@ -1,7 +1,6 @@
 -- The items so far were taken.
 use Rattle.std.proofs.Common.{◌+◌, ◌≤◌, List, length}
-use Rattle.hlc_core.specs.Past.{Step}
-use Rattle.hlc_core.specs.StoreView.{Represents}
+use Rattle.hlc_core.specs.{Past.Step, StoreView.Represents}
 use Rattle.hlc_calls.proofs.Logs.{TakenSoFar}
 use Rattle.hlc_calls.proofs.log.take_all.Given as goal
 

@@ -1,7 +1,6 @@
 -- The item at the front was read, and came before or was accepted.
 use Rattle.std.proofs.Common.{◌∙◌, ℕ, sym, subst, arith}
-use Rattle.hlc_calls.specs.Log.{IsStopped}
-use Rattle.hlc_calls.specs.Outcome.{answer_code}
+use Rattle.hlc_calls.specs.{Log.IsStopped, Outcome.answer_code}
 use Rattle.hlc_calls.proofs.Logs.{front_is, front_fits, front_shortens, passed_over, taken, refused_here}
 use Rattle.hlc_calls.proofs.log.take_front.Goals as goal
 

@@ -1,6 +1,5 @@
 -- A place that was passed is that of no such node.
-use Rattle.std.proofs.Common.{◌∙◌, sym, arith}
-use Rattle.std.proofs.lemmas.Option.{slice_get_within}
+use Rattle.std.proofs.{Common.◌∙◌, Common.sym, Common.arith, lemmas.Option.slice_get_within}
 use Rattle.hlc_calls.proofs.Holders.{passed}
 use Rattle.hlc_calls.proofs.status.holder.Goals as goal
 

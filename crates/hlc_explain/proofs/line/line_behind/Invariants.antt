@@ -1,6 +1,5 @@
 -- The line that is left after this many lines of the rest is the one that is searched for.
-use Rattle.std.proofs.Common.{◌≡◌, length}
-use Rattle.std.specs.Prelude.{slice_get}
+use Rattle.std.{proofs.Common.◌≡◌, proofs.Common.length, specs.Prelude.slice_get}
 use Rattle.hlc_text.specs.Lines.{lines_of}
 use Rattle.hlc_explain.proofs.line.line_behind.Given as goal
 

@@ -1,7 +1,6 @@
 -- This many numbers were split off the first seat, and each has its feeder.
 use Rattle.std.proofs.Common.{◌≡◌, []}
-use Rattle.hlc_floor.specs.Views.{posts}
-use Rattle.hlc_floor.specs.Board.{uncut}
+use Rattle.hlc_floor.specs.{Views.posts, Board.uncut}
 use Rattle.hlc_floor.proofs.board.cut_feeders.Given as goal
 
 abbrev pub invariant-loop-node : goal.invariant-loop-node

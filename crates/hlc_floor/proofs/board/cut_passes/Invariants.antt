@@ -1,7 +1,6 @@
 -- The first seat owns no number, and this many passes were split off it.
 use Rattle.std.proofs.Common.{◌≡◌, [], replicate}
-use Rattle.hlc_floor.specs.Views.{blind}
-use Rattle.hlc_floor.specs.Board.{uncut}
+use Rattle.hlc_floor.specs.{Views.blind, Board.uncut}
 use Rattle.hlc_floor.proofs.board.cut_passes.Given as goal
 
 abbrev pub invariant-loop-pass : goal.invariant-loop-pass

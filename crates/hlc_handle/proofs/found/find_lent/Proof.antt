@@ -1,60 +1,38 @@
 -- `find_lent` reads for the lifetime of the loan, of whose token a reader has a part, and not for that of its own `&`:
 -- so what it finds may be read for as long as the core is lent. Assumes `Logic`.
 use Rattle.std.proofs.Common.{ℕ, ◌+◌, List, [], ◌∷◌, ◌++◌, refl, ap, ◌∙◌, w32, w64, Bor, length}
-use Rattle.std.specs.Prelude.{Some}
-use mir.Syntax.{named}
-use mir.Val.{Val, vint, vptr, vstruct, vcons, vnil, of_list}
-use base.Logic.{SProp, emp, id⊢, ex_e, snd∗}
-use base.Fml.{Lft, ftrue, fhide, flft}
-use types.Logic.{sem}
+use Rattle.std.{specs.Prelude.Some, proofs.raw_atomic.Walks.proved, proofs.raw_atomic.Walks.leaves}
+use mir.{Syntax.named, Val.Val, Val.vint, Val.vptr, Val.vstruct, Val.vcons, Val.vnil, Val.of_list}
+use base.{Logic.SProp, Logic.emp, Logic.id⊢, Logic.ex_e, Logic.snd∗, Fml.Lft, Fml.ftrue, Fml.fhide, Fml.flft}
+use types.{Logic.sem, Within.tokens_halve, Tokens.shr_bor-open, Tokens.obor_close}
 use types.Kit.{‵, raw, ◌⊛◌, some, later, at_ret, ◌$◌, ◌∵◌, !, qed, by, move, keep, drop, split, join, fsplit, fjoin}
 use types.Kit.{fpick, fpack, feq_i, feq_l, flt_l, pick, await, use0, use1}
 use types.Run.{stop, hop, fld, addr, from, of_opd, first, blocks, exec, no_more, and_then, returns, enter}
 use types.ByLocal.{alloc_all, pass_all, free_all, look_at, look_in_at, get, get_in, through, sets, sets_last, lands_as}
 use types.ByLocal.{env}
 use types.Part.{agg, look_in, sub, whole}
-use types.Tokens.{shr_bor-open, obor_close}
-use types.Within.{tokens_halve}
-use contract.Monad.{fact, fact_i}
-use contract.Running.{tables}
+use contract.{Monad.fact, Monad.fact_i, Running.tables}
 use denote.Builtin.{RefOf, SliceRefOf, u8, u32, u64, usize}
-use denote.Exit.{yes}
-use denote.Laws.{Is}
-use denote.Memory.{hidden_shr}
-use denote.Opens.{unhide, hide}
-use denote.Plain.{uint_vals, uint_Tells, uint_Makes}
+use denote.{Exit.yes, Laws.Is, Memory.hidden_shr, Plain.uint_vals, Plain.uint_Tells, Plain.uint_Makes}
+use denote.{Opens.unhide, Opens.hide, Ref.shr_vals, Ref.shr_Tells}
 use denote.RattleType.{RattleType, Valss, owns}
 use denote.RawPtr.{InBlock, block_ptr, block_of, count_of}
-use denote.Ref.{shr_vals, shr_Tells}
-use denote.Signature.{Slot, types_at, plain}
+use denote.{Signature.Slot, Signature.types_at, Signature.plain, Steps.nothing, Steps.heard, Steps.owned, Steps.only}
 use denote.Slice.{ShrSlice, shr_slice_vals, shr_slice_Tells, slice_val}
-use denote.Steps.{nothing, heard, owned, only}
-use denote.Struct.Struct.{within}
-use denote.Struct.Declared.{shape as shape_of}
-use denote.Struct.Tuple.{Tuple, tuple_type}
-use denote.Struct.Lending.{in_block_says}
-use denote.Triple.Call.{calls_at}
-use denote.Triple.Clauses.{ensured, lasts}
-use denote.Triple.Spec.{triple_of}
+use denote.Struct.{Struct.within, Lending.in_block_says, Declared.shape as shape_of, Tuple.Tuple, Tuple.tuple_type}
+use denote.Triple.{Call.calls_at, Spec.triple_of, Clauses.ensured, Clauses.lasts}
 use denote.Triple.Walked.{Stays, stay_dropped, walk_of, Goes-dropped}
-use Rattle.core.proofs.alloc.Shapes.{after}
-use Rattle.core.proofs.atomic.Steps.{fm}
-use Rattle.std.proofs.raw_atomic.Walks.{proved, leaves}
+use Rattle.core.proofs.{alloc.Shapes.after, atomic.Steps.fm}
 use Rattle.std_alloc.proofs.Words.{pointer_in, pointer_out}
-use Rattle.hlc_core.specs.Past.{Step, stamp_of, writes}
-use Rattle.hlc_core.specs.StoreView.{Represents}
+use Rattle.hlc_core.specs.{Past.Step, Past.stamp_of, Past.writes, StoreView.Represents}
+use Rattle.hlc_handle.specs.{Found.Finds, Found.FindsLent, Lent.lent_shares, Lent.lent_bytes}
+use Rattle.hlc_handle.proofs.{LentWords.Words, LentWords.shows, Rooms.one, Rooms.room_in}
+use Rattle.hlc_handle.proofs.found.{find.Met.met, find_lent.Statement.statement}
+use Rattle.hlc_handle.specs.contracts.found.find_lent.{ended, clauses, Key.name as #self}
 use Rattle.hlc_core.specs.contracts.store.Core as core
-use Rattle.hlc_handle.specs.Found.{Finds, FindsLent}
-use Rattle.hlc_handle.specs.Lent.{lent_shares, lent_bytes}
-use Rattle.hlc_handle.proofs.LentWords.{Words, shows}
-use Rattle.hlc_handle.proofs.Rooms.{one, room_in}
 use Rattle.hlc_handle.specs.contracts.found.LentBytes as bytes
 use Rattle.hlc_handle.specs.contracts.reader.LentCore as lent
 use Rattle.hlc_handle.specs.contracts.found.find as callee
-use Rattle.hlc_handle.proofs.found.find.Met.{met}
-use Rattle.hlc_handle.specs.contracts.found.find_lent.{ended, clauses}
-use Rattle.hlc_handle.specs.contracts.found.find_lent.Key.{name as #self}
-use Rattle.hlc_handle.proofs.found.find_lent.Statement.{statement}
 use Rattle.hlc_handle.proofs.found.find_lent.Code as code
 
 -- what is returned

@@ -1,7 +1,6 @@
 -- The reader that is put back has read what it had read, and the bytes where there was memory.
 use Rattle.std.proofs.Common.{refl, sym, subst, inl, inr}
-use Rattle.hlc_saved.specs.declared.reader.CheckpointReader.{CheckpointReader}
-use Rattle.hlc_saved.specs.Blocks.{HasRead}
+use Rattle.hlc_saved.specs.{declared.reader.CheckpointReader.CheckpointReader, Blocks.HasRead}
 use Rattle.hlc_handle_calls.proofs.restorings.feed.Goals as goal
 
 pub returns-in-Ok : goal.returns-in-Ok

@@ -1,7 +1,6 @@
 -- The store is restored from all that the reader has read.
 use Rattle.std.proofs.Common.{sym, subst}
-use Rattle.hlc_saved.specs.declared.reader.CheckpointReader.{CheckpointReader}
-use Rattle.hlc_saved.specs.Blocks.{HasRead}
+use Rattle.hlc_saved.specs.{declared.reader.CheckpointReader.CheckpointReader, Blocks.HasRead}
 use Rattle.hlc_saved.proofs.SaveLemmas.{resumed_tag, resumed_represents, resumed_only}
 use Rattle.hlc_calls.proofs.ResumedLemmas.{is_made, is_past}
 use Rattle.hlc_handle_calls.proofs.Openings.{restores, restores_past}

@@ -1,7 +1,6 @@
 -- With the last bytes, all were read.
 use Rattle.std.proofs.Common.{◌≡◌, refl, sym, subst, ◌++◌, take, List, ℕ}
-use Rattle.hlc_saved.specs.declared.savings.Saver.{Saver}
-use Rattle.hlc_saved.specs.Saver.{HasMade, mark_of}
+use Rattle.hlc_saved.specs.{declared.savings.Saver.Saver, Saver.HasMade, Saver.mark_of}
 use Rattle.hlc_handle_calls.proofs.savings.read_on.Goals as goal
 
 pub returns-then-is_read : goal.returns-then-is_read

@@ -1,7 +1,6 @@
 -- What was read is what the bytes are of, and the newer checkpoint is what was made of it.
 use Rattle.std.proofs.Common.{◌≡◌, ℕ, List, [], ◌++◌, Ok, ap, sym, ◌∙◌, subst, refl, inl, inr, rules}
-use Rattle.std.proofs.lemmas.Grind.{common_steps}
-use Rattle.std.proofs.lemmas.Result.{err_from_is_err_and}
+use Rattle.std.proofs.lemmas.{Grind.common_steps, Result.err_from_is_err_and}
 use Rattle.hlc_wire.proofs.FieldLemmas.{ok_is}
 use Rattle.hlc_core.specs.StoreView.{StoreView, Represents}
 use Rattle.hlc_body.specs.Reading.{saved}

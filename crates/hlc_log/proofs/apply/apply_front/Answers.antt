@@ -1,7 +1,6 @@
 -- The record at the front was read, and came before or was applied.
 use Rattle.std.proofs.Common.{arith}
-use Rattle.hlc_log.specs.Record.{record_seen}
-use Rattle.hlc_log.proofs.LogLemmas.{front_is, front_shortens}
+use Rattle.hlc_log.{specs.Record.record_seen, proofs.LogLemmas.front_is, proofs.LogLemmas.front_shortens}
 use Rattle.hlc_log.proofs.apply.apply_front.Goals as goal
 
 pub returns-in-Ok-enter-clause-represents : goal.returns-in-Ok-enter-clause-represents

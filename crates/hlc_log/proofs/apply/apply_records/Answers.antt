@@ -1,7 +1,6 @@
 -- One more record was applied.
 use Rattle.std.proofs.Common.{arith}
-use Rattle.hlc_log.specs.Log.{with_records}
-use Rattle.hlc_log.proofs.LogLemmas.{one_more}
+use Rattle.hlc_log.{specs.Log.with_records, proofs.LogLemmas.one_more}
 use Rattle.hlc_log.proofs.apply.apply_records.Goals as goal
 
 pub loop-rest-preserved : goal.loop-rest-preserved

@@ -1,7 +1,6 @@
 -- The records so far were applied.
 use Rattle.std.proofs.Common.{◌≡◌, ◌+◌, ◌≤◌, List, length}
-use Rattle.hlc_core.specs.Past.{Step}
-use Rattle.hlc_core.specs.StoreView.{Represents}
+use Rattle.hlc_core.specs.{Past.Step, StoreView.Represents}
 use Rattle.hlc_log.proofs.LogLemmas.{AppliedSoFar}
 use Rattle.hlc_log.proofs.apply.apply_records.Given as goal
 

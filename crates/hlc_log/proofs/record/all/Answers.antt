@@ -1,10 +1,7 @@
 -- Where the copy of a record needs memory, it is a write.
-use Rattle.std.proofs.Common.{sym, arith}
-use Rattle.std.proofs.lemmas.Bool.{eqb-true, false≢true}
-use Rattle.std.proofs.lemmas.List.{nil_from_length}
+use Rattle.std.proofs.{Common.sym, Common.arith, Common.eqb-true, lemmas.Bool.false≢true, lemmas.List.nil_from_length}
 use Rattle.hlc_wire.proofs.ItemLemmas.{whole_is_ok}
-use Rattle.hlc_log.specs.Record.{record_at, record_seen}
-use Rattle.hlc_log.proofs.RecordLemmas.{write_at}
+use Rattle.hlc_log.{specs.Record.record_at, specs.Record.record_seen, proofs.RecordLemmas.write_at}
 use Rattle.hlc_log.proofs.record.all.Goals as goal
 
 pub returns-in_err-copy-clause-memory : goal.returns-in_err-copy-clause-memory

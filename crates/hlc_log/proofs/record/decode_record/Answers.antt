@@ -3,8 +3,7 @@ use Rattle.std.proofs.Common.{ap, subst, ◌∙◌, arith}
 use Rattle.hlc_wire.specs.Reading.{Gives, whole}
 use Rattle.hlc_wire.proofs.FieldLemmas.{whole_again}
 use Rattle.hlc_wire.proofs.ItemLemmas.{is_found}
-use Rattle.hlc_log.specs.declared.record.Record.{Record}
-use Rattle.hlc_log.specs.Record.{record_bytes, record_at, RecordFits}
+use Rattle.hlc_log.specs.{declared.record.Record.Record, Record.record_bytes, Record.record_at, Record.RecordFits}
 use Rattle.hlc_log.proofs.RecordLemmas.{record_reader}
 use Rattle.hlc_log.proofs.record.decode_record.Goals as goal
 

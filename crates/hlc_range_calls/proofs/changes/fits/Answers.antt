@@ -1,6 +1,5 @@
 -- A key and an answer take their bytes, and 9, or 17 where there is a value.
-use Rattle.std.proofs.Common.{◌∙◌, ◌<◌, ◌≤◌, ◌-◌, Some, None, sym, ap, leb, length, arith}
-use Rattle.std.specs.Prelude.{option_copied}
+use Rattle.std.proofs.Common.{◌∙◌, ◌<◌, ◌≤◌, ◌-◌, Some, None, sym, ap, leb, length, arith, option_copied}
 use Rattle.hlc_range_calls.specs.Changes.{change_bytes}
 use Rattle.hlc_range_calls.proofs.ByteLemmas.{none_length, some_length, same_le, no_le}
 use Rattle.hlc_range_calls.proofs.changes.fits.Goals as goal

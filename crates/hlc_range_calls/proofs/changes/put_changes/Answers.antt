@@ -1,10 +1,7 @@
 -- One more item is put after those before it, if it fits.
-use Rattle.std.proofs.Common.{◌≤◌, ◌+◌, ◌-◌, ◌∙◌, ℕ, List, sym, length, arith}
-use Rattle.std.specs.Prelude.{Option, option_copied}
-use Rattle.std.proofs.lemmas.Bool.{leb-true}
+use Rattle.std.proofs.Common.{◌≤◌, ◌+◌, ◌-◌, ◌∙◌, ℕ, List, sym, length, arith, Option, option_copied, leb-true}
 use Rattle.hlc_range_calls.specs.Changes.{change_bytes}
-use Rattle.hlc_range_calls.proofs.Differing.{change_long}
-use Rattle.hlc_range_calls.proofs.ScanLemmas.{room-left, few-put, put-one}
+use Rattle.hlc_range_calls.proofs.{Differing.change_long, ScanLemmas.room-left, ScanLemmas.few-put, ScanLemmas.put-one}
 use Rattle.hlc_range_calls.proofs.changes.put_changes.Goals as goal
 
 pub overflow_add-index : goal.overflow_add-index

@@ -1,7 +1,6 @@
 -- Both walks over the snapshot have its one list of answers.
 use Rattle.std.proofs.Common.{◌≡◌, ◌≤◌, List, ℕ, length, refl, subst, arith}
-use Rattle.hlc_range_calls.specs.Listing.{listing_bytes}
-use Rattle.hlc_range_calls.proofs.RoomLemmas.{listing_room}
+use Rattle.hlc_range_calls.{specs.Listing.listing_bytes, proofs.RoomLemmas.listing_room}
 use Rattle.hlc_range_calls.proofs.PairLemmas.{one_list, listed_at, put_whole, put_none}
 use Rattle.hlc_range_calls.proofs.list.list.Goals as goal
 

@@ -1,6 +1,5 @@
 -- One more pair is put after those before it; and at the end none is left.
-use Rattle.hlc_range_calls.specs.Listing.{pair_bytes}
-use Rattle.hlc_range_calls.proofs.ByteLemmas.{put_next}
+use Rattle.hlc_range_calls.{specs.Listing.pair_bytes, proofs.ByteLemmas.put_next}
 use Rattle.hlc_range_calls.proofs.list.put_listing.Goals as goal
 
 pub loop-key-preserved : goal.loop-key-preserved

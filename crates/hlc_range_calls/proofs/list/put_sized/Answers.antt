@@ -1,6 +1,5 @@
 -- The number, and the bytes after it.
-use Rattle.std.proofs.Common.{length, w64}
-use Rattle.std.specs.Int.{to_le_bytes}
+use Rattle.std.{proofs.Common.length, proofs.Common.w64, specs.Int.to_le_bytes}
 use Rattle.hlc_wire.proofs.PlacingLemmas.{put_both}
 use Rattle.hlc_range_calls.proofs.list.put_sized.Goals as goal
 

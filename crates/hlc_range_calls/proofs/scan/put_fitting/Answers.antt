@@ -1,6 +1,5 @@
 -- One more item is put after those before it, if it fits.
-use Rattle.std.proofs.Common.{◌≤◌, ◌+◌, ◌-◌, ◌∙◌, ℕ, List, sym, length, arith}
-use Rattle.std.proofs.lemmas.Bool.{leb-true}
+use Rattle.std.proofs.Common.{◌≤◌, ◌+◌, ◌-◌, ◌∙◌, ℕ, List, sym, length, arith, leb-true}
 use Rattle.hlc_range_calls.specs.Scan.{part_bytes}
 use Rattle.hlc_range_calls.proofs.ScanLemmas.{part_length, room-left, few-put, put-one}
 use Rattle.hlc_range_calls.proofs.scan.put_fitting.Goals as goal

@@ -1,7 +1,5 @@
 -- One more item is put after those before it, if it fits.
-use Rattle.std.proofs.Common.{◌≤◌, ◌+◌, ◌-◌, ◌∙◌, ℕ, List, sym, length, arith}
-use Rattle.std.proofs.lemmas.Bool.{leb-true}
-use Rattle.std.specs.Prelude.{false}
+use Rattle.std.proofs.Common.{◌≤◌, ◌+◌, ◌-◌, ◌∙◌, ℕ, List, sym, length, arith, leb-true, false}
 use Rattle.hlc_range_calls.specs.Listing.{pair_bytes}
 use Rattle.hlc_range_calls.proofs.ScanLemmas.{part_length, room-left, few-put, put-one}
 use Rattle.hlc_range_calls.proofs.scan_back.put_fitting_back.Goals as goal

@@ -1,6 +1,5 @@
 -- The items so far are at the start of the buffer.
-use Rattle.hlc_range_calls.specs.Listing.{pair_bytes}
-use Rattle.hlc_range_calls.proofs.ScanLemmas.{PutSoFar}
+use Rattle.hlc_range_calls.{specs.Listing.pair_bytes, proofs.ScanLemmas.PutSoFar}
 use Rattle.hlc_range_calls.proofs.scan_back.put_fitting_back.Given as goal
 
 abbrev pub invariant-loop-key : goal.invariant-loop-key

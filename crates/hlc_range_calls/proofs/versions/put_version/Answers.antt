@@ -1,7 +1,6 @@
 -- The stamp, the node, and the answer after them.
 use Rattle.std.proofs.Common.{◌≡◌, ◌∙◌, ap}
-use Rattle.std.specs.Prelude.{option_copied}
-use Rattle.std.specs.Int.{to_le_bytes, w16, w64}
+use Rattle.std.specs.{Prelude.option_copied, Int.to_le_bytes, Int.w16, Int.w64}
 use Rattle.hlc_range_calls.specs.Listing.{answer_bytes}
 use Rattle.hlc_wire.proofs.PlacingLemmas.{put_three}
 use Rattle.hlc_range_calls.proofs.versions.put_version.Goals as goal

@@ -1,7 +1,6 @@
 -- One more version is put after those before it; and at the end none is left.
 use Rattle.hlc_table_column.specs.Versions.{version_read}
-use Rattle.hlc_range_calls.specs.Versions.{version_bytes}
-use Rattle.hlc_range_calls.proofs.ByteLemmas.{put_next}
+use Rattle.hlc_range_calls.{specs.Versions.version_bytes, proofs.ByteLemmas.put_next}
 use Rattle.hlc_range_calls.proofs.versions.put_versions.Goals as goal
 
 pub loop-stamp-preserved : goal.loop-stamp-preserved

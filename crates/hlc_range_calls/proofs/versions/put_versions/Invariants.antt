@@ -1,8 +1,7 @@
 -- The bytes of the versions so far are at the start of the buffer.
 use Rattle.std.proofs.Common.{◌≡◌, ◌++◌, ℕ, List, length}
 use Rattle.hlc_wire.specs.Placing.{with_bytes}
-use Rattle.hlc_range_calls.specs.Scan.{parts_bytes}
-use Rattle.hlc_range_calls.specs.Versions.{version_bytes}
+use Rattle.hlc_range_calls.specs.{Scan.parts_bytes, Versions.version_bytes}
 use Rattle.hlc_range_calls.proofs.versions.put_versions.Given as goal
 
 abbrev pub invariant-loop-stamp : goal.invariant-loop-stamp

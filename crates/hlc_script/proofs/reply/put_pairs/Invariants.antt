@@ -1,8 +1,6 @@
 -- The lines of the pairs so far are printed.
-use Rattle.std.proofs.Common.{map, take}
-use Rattle.std.specs.List.{flat_map}
-use Rattle.hlc_text.specs.Printing.{Prints}
-use Rattle.hlc_text.specs.Text.{printed}
+use Rattle.std.{proofs.Common.map, proofs.Common.take, specs.List.flat_map}
+use Rattle.hlc_text.specs.{Printing.Prints, Text.printed}
 use Rattle.hlc_script.specs.Reply.{pair_line}
 use Rattle.hlc_script.proofs.reply.put_pairs.Given as goal
 

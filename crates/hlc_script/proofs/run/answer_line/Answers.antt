@@ -1,9 +1,7 @@
 -- The event is a read of the word, whose answer the world returns.
 use Rattle.std.proofs.Common.{◌≡◌, List, ◌∷◌, refl, ap, sym, ◌∙◌, subst, inl}
-use Rattle.hlc_world_event.specs.Events.{Event}
-use Rattle.hlc_world_event.specs.declared.event.Event.TheVariants.{Read}
-use Rattle.hlc_world.specs.declared.reply.Reply.{Reply}
-use Rattle.hlc_world.specs.WorldView.{Represents}
+use Rattle.hlc_world_event.specs.{Events.Event, declared.event.Event.TheVariants.Read}
+use Rattle.hlc_world.specs.{declared.reply.Reply.Reply, WorldView.Represents}
 use Rattle.hlc_script.specs.Run.{AnswersLine}
 use Rattle.hlc_script.proofs.run.answer_line.Goals as goal
 

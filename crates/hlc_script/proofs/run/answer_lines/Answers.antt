@@ -1,6 +1,5 @@
 -- Each line is answered as its event, or is the first bad one; at the end no line is left.
-use Rattle.std.proofs.Common.{arith, ◌≡◌, length}
-use Rattle.std.proofs.lemmas.Grind.{common_steps}
+use Rattle.std.proofs.{Common.arith, Common.◌≡◌, Common.length, lemmas.Grind.common_steps}
 use Rattle.hlc_script.proofs.Going.{going_first, going_more, going_bad, going_end}
 use Rattle.hlc_script.proofs.run.answer_lines.Goals as goal
 

@@ -1,6 +1,5 @@
 -- What is printed is written when all is finished, and cut off where the writer failed.
-use Rattle.std.proofs.Common.{refl, rules, arith}
-use Rattle.std.proofs.lemmas.Grind.{common_steps}
+use Rattle.std.proofs.{Common.refl, Common.rules, Common.arith, lemmas.Grind.common_steps}
 use Rattle.hlc_text.proofs.PrintLemmas.{printed_finished}
 use Rattle.hlc_script.proofs.Taken.{run_not_cut}
 use Rattle.hlc_script.proofs.run.run_script.Goals as goal

@@ -1,7 +1,6 @@
 -- One more part is split off, and its caller has the next number.
 use Rattle.std.proofs.Common.{ℕ, List, arith, ap, sym, ◌∙◌, map, [], ◌∷◌, ◌++◌}
-use Rattle.std.specs.List.{range_with_len}
-use Rattle.std.proofs.lemmas.List.FromFn.{map-range_with_len_more}
+use Rattle.std.{specs.List.range_with_len, proofs.lemmas.List.FromFn.map-range_with_len_more}
 use Rattle.hlc_server.specs.Seats.{CallerView, fresh_seat}
 use Rattle.hlc_server.proofs.guarded.callers_of.Goals as goal
 

@@ -1,6 +1,5 @@
 -- The callers so far have their numbers and empty shares, and the rest is shared by those to come.
-use Rattle.std.proofs.Common.{◌≡◌, ◌+◌, map}
-use Rattle.std.specs.List.{range_with_len}
+use Rattle.std.{proofs.Common.◌≡◌, proofs.Common.◌+◌, proofs.Common.map, specs.List.range_with_len}
 use Rattle.hlc_server.specs.Seats.{fresh_seat}
 use Rattle.hlc_server.proofs.guarded.callers_of.Given as goal
 

@@ -2,10 +2,8 @@
 -- that the trail is a legal history which the core represents.
 use Rattle.std.proofs.Common.{◌≡◌, List, Some, sym, ap, ◌∙◌, subst}
 use Rattle.hlc_core.proofs.FaithfulLemmas.{histories_are_faithful}
-use Rattle.hlc_server.specs.declared.entry.Entry.{Entry}
-use Rattle.hlc_server.specs.Trails.{entries_of, history_of}
-use Rattle.hlc_server.specs.Settling.{claims_of, IsSettled}
-use Rattle.hlc_server.proofs.Callers.{each_is_claimed}
+use Rattle.hlc_server.specs.{declared.entry.Entry.Entry, Trails.entries_of, Trails.history_of}
+use Rattle.hlc_server.{specs.Settling.claims_of, specs.Settling.IsSettled, proofs.Callers.each_is_claimed}
 use Rattle.hlc_server.proofs.settle.settle_guarded.Goals as goal
 
 pub returns : goal.returns

@@ -2,8 +2,7 @@
 use Rattle.std.proofs.Common.{List, [], ◌∷◌, ◌++◌, Some, ap, sym, ◌∙◌}
 use Rattle.hlc_events.specs.declared.event.CoreEvent.{CoreEvent}
 use Rattle.hlc_core.specs.declared.reply.CoreReply.{CoreReply}
-use Rattle.hlc_server.specs.declared.entry.Entry.{Entry}
-use Rattle.hlc_server.specs.Trails.{entry}
+use Rattle.hlc_server.specs.{declared.entry.Entry.Entry, Trails.entry}
 use Rattle.hlc_server.proofs.writing.write_vacuum.Goals as goal
 
 pub returns : goal.returns

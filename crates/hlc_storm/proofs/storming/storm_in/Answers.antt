@@ -1,15 +1,11 @@
 -- The receipts settle, so the store represents the history in its trail; the report is found in that past.
 use Rattle.std.proofs.Common.{◌≡◌, ℕ, List, Result, Ok, Err, IfOk, IfErr}
 use Rattle.hlc_events.specs.declared.event.CoreEvent.{CoreEvent}
-use Rattle.hlc_core.specs.declared.reply.CoreReply.{CoreReply}
-use Rattle.hlc_core.specs.Past.{Step}
-use Rattle.hlc_core.specs.StoreView.{StoreView, Represents}
-use Rattle.hlc_core.specs.History.{RepresentsHistory, past_of}
-use Rattle.hlc_server.specs.declared.settle.SettleFault.TheVariants.{NoTrail}
-use Rattle.hlc_server.specs.declared.end.WorkEnd.TheVariants.{Done}
+use Rattle.hlc_core.specs.{declared.reply.CoreReply.CoreReply, Past.Step}
+use Rattle.hlc_core.specs.{StoreView.StoreView, StoreView.Represents, History.RepresentsHistory, History.past_of}
+use Rattle.hlc_server.specs.declared.{settle.SettleFault.TheVariants.NoTrail, end.WorkEnd.TheVariants.Done}
 use Rattle.hlc_words.specs.declared.plan.StormPlan.{StormPlan}
-use Rattle.hlc_storm_report.specs.declared.report.StormReport.{StormReport}
-use Rattle.hlc_storm_report.specs.declared.report.StormFault.{StormFault}
+use Rattle.hlc_storm_report.specs.declared.report.{StormReport.StormReport, StormFault.StormFault}
 use Rattle.hlc_storm_report.specs.declared.report.StormFault.TheVariants.{Work, Settle, NoMemory}
 use Rattle.hlc_storm_report.specs.Found.{IsFoundIn, MayReport}
 use Rattle.hlc_storm.proofs.storming.storm_in.Goals as goal

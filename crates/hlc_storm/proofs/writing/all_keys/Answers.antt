@@ -1,7 +1,6 @@
 -- The key of the next number is appended to the earlier ones.
 use Rattle.std.proofs.Common.{List, ℕ, ◌∙◌, ap, sym, arith, ◌++◌, ◌∷◌, [], map}
-use Rattle.std.specs.List.{range_with_len}
-use Rattle.std.proofs.lemmas.List.FromFn.{map-range_with_len_more}
+use Rattle.std.{specs.List.range_with_len, proofs.lemmas.List.FromFn.map-range_with_len_more}
 use Rattle.hlc_storm.specs.Written.{key_text}
 use Rattle.hlc_storm.proofs.writing.all_keys.Goals as goal
 

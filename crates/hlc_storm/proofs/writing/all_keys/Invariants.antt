@@ -1,6 +1,5 @@
 -- The keys so far are there.
-use Rattle.std.proofs.Common.{◌≡◌, map}
-use Rattle.std.specs.List.{range_with_len}
+use Rattle.std.{proofs.Common.◌≡◌, proofs.Common.map, specs.List.range_with_len}
 use Rattle.hlc_storm.specs.Written.{key_text}
 use Rattle.hlc_storm.proofs.writing.all_keys.Given as goal
 

@@ -1,7 +1,6 @@
 -- The count of the next node is that of its number.
 use Rattle.std.proofs.Common.{◌∙◌, ap, sym, arith, ◌++◌, ◌∷◌, [], map}
-use Rattle.std.specs.List.{range_with_len}
-use Rattle.std.proofs.lemmas.List.FromFn.{map-range_with_len_more}
+use Rattle.std.{specs.List.range_with_len, proofs.lemmas.List.FromFn.map-range_with_len_more}
 use Rattle.hlc_core.specs.Past.{count}
 use Rattle.hlc_storm_report.proofs.found.counts_of.Goals as goal
 

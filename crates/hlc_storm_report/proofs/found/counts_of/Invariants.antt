@@ -1,8 +1,6 @@
 -- The counts of the nodes so far are there.
-use Rattle.std.proofs.Common.{◌≡◌, List, map}
-use Rattle.std.specs.List.{range_with_len}
-use Rattle.hlc_core.specs.Past.{Step, count}
-use Rattle.hlc_core.specs.StoreView.{Represents}
+use Rattle.std.{proofs.Common.◌≡◌, proofs.Common.List, proofs.Common.map, specs.List.range_with_len}
+use Rattle.hlc_core.specs.{Past.Step, Past.count, StoreView.Represents}
 use Rattle.hlc_storm_report.proofs.found.counts_of.Given as goal
 
 abbrev pub invariant-loop-node : goal.invariant-loop-node

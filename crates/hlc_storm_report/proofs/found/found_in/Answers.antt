@@ -1,8 +1,7 @@
 -- The contract of each call says what it did to the past that the core represented before: the listing at the floor,
 -- and then the vacuum.
 use Rattle.std.proofs.Common.{◌+◌, ◌∷◌, sym, subst}
-use Rattle.hlc_core.specs.Past.{Opened, Closed, last_id}
-use Rattle.hlc_core.specs.Stored.{IsReport}
+use Rattle.hlc_core.specs.{Past.Opened, Past.Closed, Past.last_id, Stored.IsReport}
 use Rattle.hlc_storm_report.proofs.found.found_in.Goals as goal
 
 pub returns-clause-found : goal.returns-clause-found

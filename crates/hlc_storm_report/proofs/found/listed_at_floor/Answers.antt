@@ -2,9 +2,7 @@
 -- the floor, listed and closed.
 use Rattle.std.proofs.Common.{◌+◌, ◌∷◌, ◌∙◌, ap, subst, sym}
 use Rattle.hlc_core.specs.Past.{Opened, Closed, floor, last_id, stamp_of, writes}
-use Rattle.hlc_core.specs.Calls.{IsListed}
-use Rattle.hlc_core.specs.Listing.{IsListing}
-use Rattle.hlc_core.specs.StoreView.{Represents}
+use Rattle.hlc_core.specs.{Calls.IsListed, Listing.IsListing, StoreView.Represents}
 use Rattle.hlc_storm_report.proofs.Opening.{just_opened}
 use Rattle.hlc_storm_report.proofs.found.listed_at_floor.Goals as goal
 

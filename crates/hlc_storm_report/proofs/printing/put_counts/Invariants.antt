@@ -1,8 +1,6 @@
 -- The lines of the nodes so far are printed.
-use Rattle.std.proofs.Common.{take}
-use Rattle.std.specs.List.{flat_map}
-use Rattle.hlc_text.specs.Text.{printed}
-use Rattle.hlc_text.specs.Printing.{Prints}
+use Rattle.std.{proofs.Common.take, specs.List.flat_map}
+use Rattle.hlc_text.specs.{Text.printed, Printing.Prints}
 use Rattle.hlc_storm_report.specs.Printed.{accepted_lines}
 use Rattle.hlc_storm_report.proofs.printing.put_counts.Given as goal
 

@@ -1,10 +1,8 @@
 -- What was taken is what is stored and the bytes of the last read, whose number was checked before memory was requested
 -- for them. It is the beginning of an input.
-use Rattle.std.specs.Io.KnownBytes.{Consumes}
-use Rattle.hlc_text.specs.Watched.{inner_of}
+use Rattle.std.{specs.Io.KnownBytes.Consumes, proofs.lemmas.List.length-take}
+use Rattle.hlc_text.specs.{Watched.inner_of, declared.input.TheConstants.INPUT_LIMIT}
 use Rattle.std.proofs.Common.{rules, arith, ◌<◌, ◌≤◌, ◌++◌, take, length, length-append}
-use Rattle.hlc_text.specs.declared.input.TheConstants.{INPUT_LIMIT}
-use Rattle.std.proofs.lemmas.List.{length-take}
 use Rattle.hlc_text.proofs.LineLemmas.{input_taken, taken_more}
 use Rattle.hlc_text.proofs.input.read_input.Goals as goal
 

@@ -1,8 +1,7 @@
 -- What was read is stored, and is no more than allowed; each round stores more.
 use Rattle.std.proofs.Common.{◌≡◌, ◌+◌, ◌-◌, ◌≤◌, false, vec_len}
 use Rattle.std.specs.Io.KnownBytes.{Consumes}
-use Rattle.hlc_text.specs.declared.input.TheConstants.{INPUT_LIMIT}
-use Rattle.hlc_text.specs.Watched.{inner_of, has_failed}
+use Rattle.hlc_text.specs.{declared.input.TheConstants.INPUT_LIMIT, Watched.inner_of, Watched.has_failed}
 use Rattle.hlc_text.proofs.input.read_input.Given as goal
 
 abbrev pub invariant-reading : goal.invariant-reading

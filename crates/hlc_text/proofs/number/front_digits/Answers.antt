@@ -1,7 +1,6 @@
 -- One more byte is a digit, and ten times the value plus that digit is the value of both. A value of eighteen digits
 -- and one more digit fit.
-use Rattle.std.proofs.Common.{arith, inl, inr, ◌≡◌}
-use Rattle.std.proofs.lemmas.Bool.{cases_lt}
+use Rattle.std.proofs.{Common.arith, Common.inl, Common.inr, Common.◌≡◌, lemmas.Bool.cases_lt}
 use Rattle.hlc_text.proofs.Numbers.{front_smaller, value_more}
 use Rattle.hlc_text.proofs.number.front_digits.Goals as goal
 

@@ -1,7 +1,6 @@
 -- The digits spell their value where no zero comes before others.
 use Rattle.std.proofs.Common.{◌≡◌, ◌<◌, ◌^◌, ◌∙◌, sym, ap, get_or, take, arith, inl, inr}
-use Rattle.std.specs.Prelude.{decimal}
-use Rattle.std.specs.Str.Parse.{digits_value}
+use Rattle.std.specs.{Prelude.decimal, Str.Parse.digits_value}
 use Rattle.hlc_text.proofs.Numbers.{front_spelled}
 use Rattle.hlc_text.proofs.number.front_number.Goals as goal
 

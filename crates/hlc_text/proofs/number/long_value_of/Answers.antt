@@ -1,8 +1,6 @@
 -- One more byte is a digit, and ten times the value plus that digit is the value of both. What is too large so far
 -- stays so.
-use Rattle.std.proofs.Common.{◌≡◌, arith, inl, inr}
-use Rattle.std.proofs.lemmas.Bool.{cases_lt}
-use Rattle.std.proofs.lemmas.List.{take_all}
+use Rattle.std.proofs.{Common.◌≡◌, Common.arith, Common.inl, Common.inr, lemmas.Bool.cases_lt, lemmas.List.take_all}
 use Rattle.hlc_text.proofs.Numbers.{all_digits, is_digit_at, value_more, too_large}
 use Rattle.hlc_text.proofs.number.long_value_of.Goals as goal
 

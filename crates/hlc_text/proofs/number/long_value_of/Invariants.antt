@@ -1,7 +1,6 @@
 -- The bytes so far are digits, and the value is theirs.
 use Rattle.std.proofs.Common.{◌≡◌, ◌<◌, ℕ, get_or, take}
-use Rattle.std.specs.Str.Parse.{digits_value}
-use Rattle.std.specs.Int.{IsInRange}
+use Rattle.std.specs.{Str.Parse.digits_value, Int.IsInRange}
 use Rattle.hlc_text.proofs.number.long_value_of.Given as goal
 
 abbrev pub invariant-loop-at : goal.invariant-loop-at

@@ -1,8 +1,7 @@
 -- Where all bytes are digits at the front, the value is theirs; where fewer than nineteen are, the next byte is no
 -- digit.
 use Rattle.std.proofs.Common.{◌≡◌, ◌<◌, ◌∙◌, ap, subst, length, take, List, ℕ, arith}
-use Rattle.std.specs.Str.Parse.{AllDigits, digits_value}
-use Rattle.std.proofs.lemmas.List.{take_all}
+use Rattle.std.{specs.Str.Parse.AllDigits, specs.Str.Parse.digits_value, proofs.lemmas.List.take_all}
 use Rattle.hlc_text.proofs.Numbers.{front_all, is_digit_at}
 use Rattle.hlc_text.proofs.number.value_of.Goals as goal
 

@@ -1,7 +1,6 @@
 -- The lowest set bit of the comparison is the first lane that is the byte.
 use Rattle.std.proofs.Common.{eqb, sym, ap, ◌∙◌, arith, w8}
-use lib.Count.{count_trailing_zeros}
-use lib.Lanes.{chunk}
+use lib.{Count.count_trailing_zeros, Lanes.chunk}
 use Rattle.std.proofs.lemmas.Simd.{length-chunk, bitmask_splat, leading_from_mask_l, trailing_mask_l}
 use Rattle.hlc_text.proofs.place.before_of_16.Goals as goal
 

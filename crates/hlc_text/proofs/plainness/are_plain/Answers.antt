@@ -1,8 +1,7 @@
 -- The first eight pass, and the last eight are all that is left.
 use Rattle.std.proofs.Common.{◌-◌, length, sym, ap, ◌∙◌, arith}
 use Rattle.std.specs.List.{list_all}
-use Rattle.hlc_text.specs.Text.{is_literal}
-use Rattle.hlc_text.proofs.PlainBlocks.{rest_decides, last_chunk}
+use Rattle.hlc_text.{specs.Text.is_literal, proofs.PlainBlocks.rest_decides, proofs.PlainBlocks.last_chunk}
 use Rattle.hlc_text.proofs.plainness.are_plain.Goals as goal
 
 pub returns-then-are_plain_8 : goal.returns-then-are_plain_8

@@ -2,8 +2,7 @@
 use Rattle.std.proofs.Common.{ℕ, ltb, cond, bit_or, refl, arith}
 use Rattle.std.proofs.lemmas.Simd.{zip2_splat, zip2_splat_left, zip2_of_maps, length-chunk}
 use lib.Lanes.{chunk}
-use Rattle.hlc_text.specs.Text.{is_literal}
-use Rattle.hlc_text.proofs.PlainBlocks.{block_decides}
+use Rattle.hlc_text.{specs.Text.is_literal, proofs.PlainBlocks.block_decides}
 use Rattle.hlc_text.proofs.plainness.are_plain_16.Goals as goal
 
 pub returns : goal.returns

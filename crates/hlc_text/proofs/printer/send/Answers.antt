@@ -1,6 +1,5 @@
 -- One more write takes a front of the rest.
-use Rattle.std.proofs.Common.{◌≡◌, false, arith}
-use Rattle.std.proofs.lemmas.Grind.{common_steps}
+use Rattle.std.proofs.{Common.◌≡◌, Common.false, Common.arith, lemmas.Grind.common_steps}
 use Rattle.hlc_text.proofs.Sending.{going_on}
 use Rattle.hlc_text.proofs.printer.send.Goals as goal
 

@@ -1,8 +1,6 @@
 -- A front of the text is taken and the rest is left. Each write takes a byte, or is the last one.
-use Rattle.std.proofs.Common.{◌+◌, length}
-use Rattle.std.specs.Prelude.{if◌then◌else◌}
-use Rattle.hlc_text.specs.Watched.{inner_of, has_failed}
-use Rattle.hlc_text.proofs.Sending.{IsBeingSent}
+use Rattle.std.{proofs.Common.◌+◌, proofs.Common.length, specs.Prelude.if◌then◌else◌}
+use Rattle.hlc_text.{specs.Watched.inner_of, specs.Watched.has_failed, proofs.Sending.IsBeingSent}
 use Rattle.hlc_text.proofs.printer.send.Given as goal
 
 abbrev pub invariant-loop-rest : goal.invariant-loop-rest

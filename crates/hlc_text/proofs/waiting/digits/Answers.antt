@@ -1,6 +1,5 @@
 -- The number lies between two powers of ten, so it has that many digits.
-use Rattle.std.proofs.Common.{arith}
-use Rattle.std.proofs.lemmas.Fmt.{decimal_nonempty, length-decimal-le}
+use Rattle.std.proofs.{Common.arith, lemmas.Fmt.decimal_nonempty, lemmas.Fmt.length-decimal-le}
 use Rattle.hlc_text.proofs.Numbers.{decimal_long}
 use Rattle.hlc_text.proofs.waiting.digits.Goals as goal
 

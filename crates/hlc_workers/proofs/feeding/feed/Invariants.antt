@@ -1,9 +1,7 @@
 -- All items taken so far were passed to the store, and the board is raised with those that were accepted, where there
 -- is a feeder.
-use Rattle.std.proofs.Common.{◌≡◌, None}
-use Rattle.std.specs.Option.{option_map}
-use Rattle.hlc_workers.specs.Paid.{IsPaid, Passed}
-use Rattle.hlc_workers.specs.Feeding.{TookAll, fed_all}
+use Rattle.std.{proofs.Common.◌≡◌, proofs.Common.None, specs.Option.option_map}
+use Rattle.hlc_workers.specs.{Paid.IsPaid, Paid.Passed, Feeding.TookAll, Feeding.fed_all}
 use Rattle.hlc_workers.proofs.feeding.feed.Given as goal
 
 abbrev pub invariant-loop : goal.invariant-loop

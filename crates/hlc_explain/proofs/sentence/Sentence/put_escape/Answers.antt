@@ -1,7 +1,6 @@
 -- The sign, and then the digits.
 use Rattle.std.proofs.Common.{[], ◌∷◌}
-use Rattle.hlc_explain.specs.Sentence.{hex}
-use Rattle.hlc_explain.proofs.Sentences.{both_put}
+use Rattle.hlc_explain.{specs.Sentence.hex, proofs.Sentences.both_put}
 use Rattle.hlc_explain.proofs.sentence.Sentence.put_escape.Goals as goal
 
 pub returns : goal.returns

@@ -1,7 +1,6 @@
 -- Each byte is put after those before it.
 use Rattle.std.proofs.Common.{arith, rules}
-use Rattle.hlc_explain.specs.Sentence.{quoted_byte}
-use Rattle.hlc_explain.proofs.Sentences.{next_written, no_more}
+use Rattle.hlc_explain.{specs.Sentence.quoted_byte, proofs.Sentences.next_written, proofs.Sentences.no_more}
 use Rattle.hlc_explain.proofs.sentence.Sentence.put_quoted_bytes.Goals as goal
 
 pub loop-byte-init : goal.loop-byte-init

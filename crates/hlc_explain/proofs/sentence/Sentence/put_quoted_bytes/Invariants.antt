@@ -1,6 +1,5 @@
 -- The bytes so far are put.
-use Rattle.std.proofs.Common.{◌≡◌, take}
-use Rattle.std.specs.List.{flat_map}
+use Rattle.std.{proofs.Common.◌≡◌, proofs.Common.take, specs.List.flat_map}
 use Rattle.hlc_explain.specs.Sentence.{with_bytes, quoted_byte}
 use Rattle.hlc_explain.proofs.sentence.Sentence.put_quoted_bytes.Given as goal
 

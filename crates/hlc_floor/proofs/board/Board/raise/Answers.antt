@@ -2,8 +2,7 @@
 -- raised last.
 use Rattle.std.proofs.Common.{◌≡◌, sym, ap, ◌∙◌, subst, ◌<◌, arith}
 use mathlib.Core.Option.{none}
-use Rattle.atomic_table.specs.Table.{step}
-use Rattle.atomic_table.specs.Seated.{TableId}
+use Rattle.atomic_table.specs.{Table.step, Seated.TableId}
 use Rattle.hlc_floor.proofs.Fresh.{raises_as}
 use Rattle.hlc_floor.proofs.board.Board.raise.Goals as goal
 

@@ -1,44 +1,28 @@
 -- `of` takes the box apart.
 use Rattle.std.proofs.Common.{◌≡◌, List, [], ◌∷◌, ◌++◌, refl, sym, ap, ◌∙◌, subst}
-use mir.Syntax.{a_type, dcons, dnil}
-use mir.Raw.{raw as bare}
+use mir.{Syntax.a_type, Syntax.dcons, Syntax.dnil, Raw.raw as bare, MapTy.inst_fn}
 use mir.Val.{Val, vptr, vstruct, of_list}
-use mir.MapTy.{inst_fn}
-use base.Logic.{SProp, ent, emp, never, id⊢, fst∗}
-use base.Fml.{ftrue, fsep, flft}
+use base.{Logic.SProp, Logic.ent, Logic.emp, Logic.never, Logic.id⊢, Logic.fst∗, Fml.ftrue, Fml.fsep, Fml.flft}
 use prog.Wp.{WpFn}
-use types.Logic.{sem}
+use types.{Logic.sem, Part.agg, Part.sub, Part.whole}
 use types.Kit.{‵, raw, ◌⊛◌, some, later, ◌$◌, ◌∵◌, !, qed, by, move, keep, drop, split, split3, join, fsplit, fjoin}
 use types.Kit.{fpick, pick, suffices, use0, use1, await, rewrite, feq_l}
 use types.Run.{stop, fld, of_opd, no_more, and_then, returns, enter}
 use types.ByLocal.{alloc_all, pass_all, free_all, look_at, get, get_in, sets, lands_as}
-use types.Part.{agg, sub, whole}
-use contract.Monad.{fact, fact_i}
-use contract.Running.{tables}
-use denote.Exit.{no}
-use denote.RattleType.{RattleType, owns}
-use denote.Signature.{types_at, plain}
-use denote.Builtin.{RawPtr}
+use contract.{Monad.fact, Monad.fact_i, Running.tables}
+use denote.{Exit.no, Builtin.RawPtr, Struct.Tuple.Tuple, Steps.nothing, Steps.only, Steps.heard}
+use denote.{RattleType.RattleType, RattleType.owns, Signature.types_at, Signature.plain}
 use denote.RawPtr.{Ptr, block_ptr, null_ptr, ptr_val, in_a_block}
-use denote.Steps.{nothing, only, heard}
-use denote.Param.{param, layout, bounded}
-use denote.Param.Laws.{param_laws}
-use denote.Struct.Tuple.{Tuple}
-use denote.Triple.Spec.{triple_of}
-use denote.Triple.Call.{calls_at}
-use denote.Triple.Walked.{Stays, stay_dropped, walk_of}
-use Rattle.core.proofs.alloc.Calls.{Goes-blank, handle_tells}
-use Rattle.core.proofs.atomic.Steps.{fm}
+use denote.Param.{param, layout, bounded, Laws.param_laws}
+use denote.Triple.{Spec.triple_of, Call.calls_at, Walked.Stays, Walked.stay_dropped, Walked.walk_of}
+use Rattle.core.proofs.{alloc.Calls.Goes-blank, alloc.Calls.handle_tells, atomic.Steps.fm}
 use Rattle.std_alloc.specs.Box.Ownership.{box_owns}
-use Rattle.std_alloc.proofs.BoxSteps.Form as box
-use Rattle.std_alloc.proofs.BoxSteps.Steps.{box_out, box_in}
+use Rattle.std_alloc.proofs.{BoxSteps.Steps.box_out, BoxSteps.Steps.box_in, boxed.Box.into_raw_with_allocator.Met.met}
 use Rattle.std.proofs.raw_atomic.Walks.{proved_at, leaves}
-use Rattle.hlc_handle.proofs.Values.{both, loose_good, loose_in}
+use Rattle.hlc_handle.proofs.{Values.both, Values.loose_good, Values.loose_in, loose.Loose.of.Statement.statement}
+use Rattle.hlc_handle.specs.contracts.loose.Loose.of.{ended, clauses, Key.name as #self}
+use Rattle.std_alloc.proofs.BoxSteps.Form as box
 use Rattle.std_alloc.specs.contracts.boxed.Box.into_raw_with_allocator as callee
-use Rattle.std_alloc.proofs.boxed.Box.into_raw_with_allocator.Met.{met}
-use Rattle.hlc_handle.specs.contracts.loose.Loose.of.{ended, clauses}
-use Rattle.hlc_handle.specs.contracts.loose.Loose.of.Key.{name as #self}
-use Rattle.hlc_handle.proofs.loose.Loose.of.Statement.{statement}
 use Rattle.hlc_handle.proofs.loose.Loose.of.Code as code
 
 pub of_spec : {M : Type 1} → statement M

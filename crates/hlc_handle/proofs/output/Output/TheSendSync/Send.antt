@@ -1,7 +1,6 @@
 -- The bytes that a call made may go to another thread.
 use denote.Param.Send.{IsSend, owning_send}
-use Rattle.hlc_handle.specs.Rows.{bytes_row}
-use Rattle.hlc_handle.specs.contracts.output.Output.{the_row, the_type}
+use Rattle.hlc_handle.specs.{Rows.bytes_row, contracts.output.Output.the_row, contracts.output.Output.the_type}
 use Rattle.hlc_handle.proofs.Crossing.{pointer_send, flag_send, bytes_send, slot_keyless}
 
 pub send : IsSend the_row

@@ -1,9 +1,6 @@
 -- `loose` returns the box at the pointer.
-use Rattle.hlc_handle.specs.Rows.{bytes_row}
-use Rattle.hlc_handle.proofs.Slots.{loose_met}
-use Rattle.hlc_handle.proofs.Handles.{output}
-use Rattle.hlc_handle.specs.contracts.output.OutputSlotVecU8.loose.Key.{name as #self}
-use Rattle.hlc_handle.proofs.output.OutputSlotVecU8.loose.Statement.{statement}
+use Rattle.hlc_handle.specs.{Rows.bytes_row, contracts.output.OutputSlotVecU8.loose.Key.name as #self}
+use Rattle.hlc_handle.proofs.{Slots.loose_met, Handles.output, output.OutputSlotVecU8.loose.Statement.statement}
 use Rattle.hlc_handle.proofs.output.OutputSlotVecU8.loose.Code as code
 
 pub loose_spec : {M : Type 1} → statement M

@@ -1,9 +1,6 @@
 -- `none` has nothing, at null.
-use Rattle.hlc_handle.specs.Rows.{bytes_row}
-use Rattle.hlc_handle.proofs.Slots.{none_met}
-use Rattle.hlc_handle.proofs.Handles.{output}
-use Rattle.hlc_handle.specs.contracts.output.OutputSlotVecU8.none.Key.{name as #self}
-use Rattle.hlc_handle.proofs.output.OutputSlotVecU8.none.Statement.{statement}
+use Rattle.hlc_handle.specs.{Rows.bytes_row, contracts.output.OutputSlotVecU8.none.Key.name as #self}
+use Rattle.hlc_handle.proofs.{Slots.none_met, Handles.output, output.OutputSlotVecU8.none.Statement.statement}
 use Rattle.hlc_handle.proofs.output.OutputSlotVecU8.none.Code as code
 
 pub none_spec : {M : Type 1} → statement M

@@ -1,9 +1,6 @@
 -- `of` stores the box's pointer.
-use Rattle.hlc_handle.specs.Rows.{bytes_row}
-use Rattle.hlc_handle.proofs.Slots.{of_met}
-use Rattle.hlc_handle.proofs.Handles.{output}
-use Rattle.hlc_handle.specs.contracts.output.OutputSlotVecU8.of.Key.{name as #self}
-use Rattle.hlc_handle.proofs.output.OutputSlotVecU8.of.Statement.{statement}
+use Rattle.hlc_handle.specs.{Rows.bytes_row, contracts.output.OutputSlotVecU8.of.Key.name as #self}
+use Rattle.hlc_handle.proofs.{Slots.of_met, Handles.output, output.OutputSlotVecU8.of.Statement.statement}
 use Rattle.hlc_handle.proofs.output.OutputSlotVecU8.of.Code as code
 
 pub of_spec : {M : Type 1} → statement M

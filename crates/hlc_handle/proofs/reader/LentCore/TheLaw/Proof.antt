@@ -1,13 +1,10 @@
 -- A `&` to a reader is made, copied and shortened. Assumes `Logic`.
 use denote.Param.Shared.{copy_shared}
-use denote.Struct.Field.{RawPtr-field}
-use denote.Struct.Laws.{RawPtr-copy}
-use denote.Struct.Lending.{lent_at, lent_at_shr_laws, of_Lends}
+use denote.Struct.{Field.RawPtr-field, Laws.RawPtr-copy, Lending.lent_at, Lending.lent_at_shr_laws, Lending.of_Lends}
+use Rattle.hlc_handle.proofs.{Lending.lends, Lending.shares_laws, reader.LentCore.TheLaw.Statement.statement}
 use Rattle.hlc_handle.specs.contracts.reader.LentCore as C
 use Rattle.hlc_core.specs.contracts.store.Core as core
 use Rattle.hlc_core.proofs.store.Core.TheLaws as core_laws
-use Rattle.hlc_handle.proofs.Lending.{lends, shares_laws}
-use Rattle.hlc_handle.proofs.reader.LentCore.TheLaw.Statement.{statement}
 
 pub shares : statement
 shares = let R = core.the_row in let L = core_laws.the_row_laws.shr_laws in

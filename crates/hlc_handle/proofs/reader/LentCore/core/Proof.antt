@@ -1,38 +1,28 @@
 -- `core` shows what every reader sees. Assumes `Logic`.
 use Rattle.std.proofs.Common.{◌≡◌, ◌+◌, List, [], ◌∷◌, ◌++◌, refl, sym, subst}
 use mir.Val.{Val, vptr}
-use base.Logic.{SProp, ent, emp, id⊢}
-use base.Fml.{Lft, Share, ftrue, fhide, flft}
+use base.{Logic.SProp, Logic.ent, Logic.emp, Logic.id⊢, Fml.Lft, Fml.Share, Fml.ftrue, Fml.fhide, Fml.flft}
 use prog.Wp.{WpFn}
-use types.Kit.{‵, raw, ◌⊛◌, at_ret, ◌$◌, ◌∵◌, !, qed, by, move, keep, split, join, fsplit, fjoin, feq_i}
-use types.Kit.{feq_l, suffices, use0, use1}
+use types.Kit.{‵, raw, ◌⊛◌, at_ret, ◌$◌, ◌∵◌, !, qed, by, move, keep, split, join, fsplit, fjoin, feq_i, feq_l}
+use types.Kit.{suffices, use0, use1}
 use types.Run.{stop, hop, fld, addr, of_opd, first, blocks, exec, returns, enter}
 use types.ByLocal.{alloc_all, pass_all, free_all, look_at, get, through, sets, sets_last, env}
 use types.Part.{look_in, whole}
-use contract.Monad.{fact, fact_i}
-use contract.Running.{tables}
-use denote.Builtin.{RefOf}
-use denote.Exit.{yes}
-use denote.Memory.{hidden_shr}
-use denote.Opens.{unhide, hide}
-use denote.RattleType.{owns}
-use denote.RawPtr.{InBlock, block_of, count_of}
-use denote.Signature.{types_at, plain}
-use denote.Steps.{nothing, heard}
+use contract.{Monad.fact, Monad.fact_i, Running.tables}
+use denote.{Builtin.RefOf, Exit.yes, Opens.unhide, Opens.hide}
+use denote.{Memory.hidden_shr, RattleType.owns, Steps.nothing, Steps.heard}
+use denote.{RawPtr.InBlock, RawPtr.block_of, RawPtr.count_of, Signature.types_at, Signature.plain}
 use denote.Struct.Lending.{lent_at, lent_at_shr_laws, in_block_says}
 use denote.Triple.Walked.{Stays, stay_dropped, walk_of, Goes-dropped}
 use Rattle.core.proofs.alloc.Shapes.{after}
 use Rattle.std.proofs.raw_atomic.Walks.{proved_at, leaves}
 use Rattle.std_alloc.proofs.Words.{pointer_in, pointer_out}
+use Rattle.hlc_handle.specs.Lent.{lent_shares}
+use Rattle.hlc_handle.proofs.{Lending.sees, LentWords.Words, LentWords.shows, reader.LentCore.core.Statement.statement}
+use Rattle.hlc_handle.specs.contracts.reader.LentCore.core.{ended, clauses, Key.name as #self}
 use Rattle.hlc_core.specs.contracts.store.Core as core
 use Rattle.hlc_core.proofs.store.Core.TheLaws as core_laws
-use Rattle.hlc_handle.specs.Lent.{lent_shares}
 use Rattle.hlc_handle.specs.contracts.reader.LentCore as lent
-use Rattle.hlc_handle.proofs.Lending.{sees}
-use Rattle.hlc_handle.proofs.LentWords.{Words, shows}
-use Rattle.hlc_handle.specs.contracts.reader.LentCore.core.{ended, clauses}
-use Rattle.hlc_handle.specs.contracts.reader.LentCore.core.Key.{name as #self}
-use Rattle.hlc_handle.proofs.reader.LentCore.core.Statement.{statement}
 use Rattle.hlc_handle.proofs.reader.LentCore.core.Code as code
 
 pub core_spec : {M : Type 1} → statement M

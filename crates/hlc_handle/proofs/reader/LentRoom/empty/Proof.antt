@@ -1,26 +1,18 @@
 -- `empty` contains nothing, at null. Assumes `Logic`.
-use Rattle.std.proofs.Common.{◌≡◌, [], ◌∷◌, refl, lit<, w64}
-use Rattle.std.specs.Prelude.{Option, None}
+use Rattle.std.proofs.Common.{◌≡◌, [], ◌∷◌, refl, lit<, w64, Option, None}
 use mir.Val.{Val, vint}
-use base.Logic.{SProp, emp}
-use base.Fml.{ftrue}
+use base.{Logic.SProp, Logic.emp, Fml.ftrue}
 use types.Kit.{‵, raw, ◌⊛◌, ◌$◌, ◌∵◌, !, qed, by, keep, use0}
-use types.Run.{lit, no_more, and_then, returns, enter}
+use types.{Run.lit, Run.no_more, Run.and_then, Run.returns, Run.enter, Part.agg}
 use types.ByLocal.{alloc_all, pass_all, free_all, look_at, sets}
-use types.Part.{agg}
-use contract.Monad.{fact, fact_i}
-use contract.Running.{tables}
-use denote.RawPtr.{null_ptr}
-use denote.Steps.{nothing}
-use denote.Triple.Walked.{Stays, walk_of}
+use contract.{Monad.fact, Monad.fact_i, Running.tables}
+use denote.{RawPtr.null_ptr, Steps.nothing, Triple.Walked.Stays, Triple.Walked.walk_of}
 use Rattle.std.proofs.raw_atomic.Walks.{proved_at, leaves}
-use Rattle.hlc_core.specs.contracts.store.Core as core
 use Rattle.hlc_handle.specs.Lent.{Loan, lent_room_owns}
+use Rattle.hlc_handle.proofs.{Rooms.one, Rooms.room_in, reader.LentRoom.empty.Statement.statement}
+use Rattle.hlc_handle.specs.contracts.reader.LentRoom.empty.{ended, clauses, Key.name as #self}
+use Rattle.hlc_core.specs.contracts.store.Core as core
 use Rattle.hlc_handle.specs.contracts.reader.LentRoom as room
-use Rattle.hlc_handle.proofs.Rooms.{one, room_in}
-use Rattle.hlc_handle.specs.contracts.reader.LentRoom.empty.{ended, clauses}
-use Rattle.hlc_handle.specs.contracts.reader.LentRoom.empty.Key.{name as #self}
-use Rattle.hlc_handle.proofs.reader.LentRoom.empty.Statement.{statement}
 use Rattle.hlc_handle.proofs.reader.LentRoom.empty.Code as code
 
 pub empty_spec : {M : Type 1} → statement M

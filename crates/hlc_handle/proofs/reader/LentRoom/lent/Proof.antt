@@ -1,6 +1,5 @@
 -- `lent` returns what is at the room's pointer. Assumes `Logic`.
-use Rattle.std.proofs.Common.{◌≡◌, List, [], ◌∷◌, ◌++◌, refl, sym, ap, ◌∙◌, subst}
-use Rattle.std.specs.Prelude.{Option, Some, IsSome}
+use Rattle.std.proofs.Common.{◌≡◌, List, [], ◌∷◌, ◌++◌, refl, sym, ap, ◌∙◌, subst, Option, Some, IsSome}
 use mir.Val.{Val, vptr}
 use base.Logic.{SProp, ent, emp, id⊢}
 use prog.Wp.{WpFn}
@@ -8,25 +7,19 @@ use types.Kit.{‵, raw, ◌⊛◌, ◌$◌, ◌∵◌, !, qed, by, move, keep, 
 use types.Run.{stop, fld, of_opd, no_more, and_then, returns, enter}
 use types.ByLocal.{alloc_all, pass_all, free_all, look_at, get, get_in, sets}
 use types.Part.{agg, sub, whole}
-use contract.Monad.{fact, fact_i}
-use contract.Running.{tables}
-use denote.RattleType.{owns}
+use contract.{Monad.fact, Monad.fact_i, Running.tables}
+use denote.{RattleType.owns, Steps.nothing, Steps.heard, Signature.types_at, Signature.plain}
 use denote.RawPtr.{Ptr, block_ptr, ptr_val, in_a_block}
-use denote.Signature.{types_at, plain}
-use denote.Steps.{nothing, heard}
-use denote.Triple.Entry.{alive}
-use denote.Triple.Walked.{Stays, stay_dropped, walk_of}
+use denote.Triple.{Entry.alive, Walked.Stays, Walked.stay_dropped, Walked.walk_of}
 use Rattle.core.proofs.alloc.Calls.{Goes-blank}
 use Rattle.std.proofs.raw_atomic.Walks.{proved_at, leaves}
-use Rattle.hlc_core.specs.contracts.store.Core as core
 use Rattle.hlc_handle.specs.Lent.{Loan, lent_owns, lent_room_owns}
+use Rattle.hlc_handle.proofs.Rooms.{one, some_is, room_in, room_out}
+use Rattle.hlc_handle.proofs.{LentValues.nowhere, reader.LentRoom.lent.Statement.statement}
+use Rattle.hlc_handle.specs.contracts.reader.LentRoom.lent.{ended, clauses, Key.name as #self}
+use Rattle.hlc_core.specs.contracts.store.Core as core
 use Rattle.hlc_handle.specs.contracts.reader.LentCore as lent
 use Rattle.hlc_handle.specs.contracts.reader.LentRoom as room
-use Rattle.hlc_handle.proofs.Rooms.{one, some_is, room_in, room_out}
-use Rattle.hlc_handle.proofs.LentValues.{nowhere}
-use Rattle.hlc_handle.specs.contracts.reader.LentRoom.lent.{ended, clauses}
-use Rattle.hlc_handle.specs.contracts.reader.LentRoom.lent.Key.{name as #self}
-use Rattle.hlc_handle.proofs.reader.LentRoom.lent.Statement.{statement}
 use Rattle.hlc_handle.proofs.reader.LentRoom.lent.Code as code
 
 pub lent_spec : {M : Type 1} → statement M

@@ -1,9 +1,8 @@
 -- `none` has nothing, at null.
-use Rattle.hlc_saved.specs.contracts.reader.CheckpointReader as reader
-use Rattle.hlc_handle.proofs.Slots.{none_met}
-use Rattle.hlc_handle.proofs.Handles.{restoring}
+use Rattle.hlc_handle.proofs.{Slots.none_met, Handles.restoring}
 use Rattle.hlc_handle.specs.contracts.restoring.RestoringSlotCheckpointReader.none.Key.{name as #self}
 use Rattle.hlc_handle.proofs.restoring.RestoringSlotCheckpointReader.none.Statement.{statement}
+use Rattle.hlc_saved.specs.contracts.reader.CheckpointReader as reader
 use Rattle.hlc_handle.proofs.restoring.RestoringSlotCheckpointReader.none.Code as code
 
 pub none_spec : {M : Type 1} → statement M

@@ -1,9 +1,7 @@
 -- `loose` returns the box at the pointer.
-use Rattle.hlc_saved.specs.contracts.savings.Saver as saver
-use Rattle.hlc_handle.proofs.Slots.{loose_met}
-use Rattle.hlc_handle.proofs.Handles.{saving}
+use Rattle.hlc_handle.proofs.{Slots.loose_met, Handles.saving, saving.SavingSlotSaver.loose.Statement.statement}
 use Rattle.hlc_handle.specs.contracts.saving.SavingSlotSaver.loose.Key.{name as #self}
-use Rattle.hlc_handle.proofs.saving.SavingSlotSaver.loose.Statement.{statement}
+use Rattle.hlc_saved.specs.contracts.savings.Saver as saver
 use Rattle.hlc_handle.proofs.saving.SavingSlotSaver.loose.Code as code
 
 pub loose_spec : {M : Type 1} → statement M

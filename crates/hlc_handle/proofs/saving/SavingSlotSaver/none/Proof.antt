@@ -1,9 +1,7 @@
 -- `none` has nothing, at null.
-use Rattle.hlc_saved.specs.contracts.savings.Saver as saver
-use Rattle.hlc_handle.proofs.Slots.{none_met}
-use Rattle.hlc_handle.proofs.Handles.{saving}
+use Rattle.hlc_handle.proofs.{Slots.none_met, Handles.saving, saving.SavingSlotSaver.none.Statement.statement}
 use Rattle.hlc_handle.specs.contracts.saving.SavingSlotSaver.none.Key.{name as #self}
-use Rattle.hlc_handle.proofs.saving.SavingSlotSaver.none.Statement.{statement}
+use Rattle.hlc_saved.specs.contracts.savings.Saver as saver
 use Rattle.hlc_handle.proofs.saving.SavingSlotSaver.none.Code as code
 
 pub none_spec : {M : Type 1} → statement M

@@ -1,9 +1,7 @@
 -- `loose` returns the box at the pointer.
-use Rattle.hlc_core.specs.contracts.store.Core as core
-use Rattle.hlc_handle.proofs.Slots.{loose_met}
-use Rattle.hlc_handle.proofs.Handles.{store}
+use Rattle.hlc_handle.proofs.{Slots.loose_met, Handles.store, store.StoreSlotCore.loose.Statement.statement}
 use Rattle.hlc_handle.specs.contracts.store.StoreSlotCore.loose.Key.{name as #self}
-use Rattle.hlc_handle.proofs.store.StoreSlotCore.loose.Statement.{statement}
+use Rattle.hlc_core.specs.contracts.store.Core as core
 use Rattle.hlc_handle.proofs.store.StoreSlotCore.loose.Code as code
 
 pub loose_spec : {M : Type 1} → statement M

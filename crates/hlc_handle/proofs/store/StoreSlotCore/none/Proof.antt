@@ -1,9 +1,7 @@
 -- `none` has nothing, at null.
-use Rattle.hlc_core.specs.contracts.store.Core as core
-use Rattle.hlc_handle.proofs.Slots.{none_met}
-use Rattle.hlc_handle.proofs.Handles.{store}
+use Rattle.hlc_handle.proofs.{Slots.none_met, Handles.store, store.StoreSlotCore.none.Statement.statement}
 use Rattle.hlc_handle.specs.contracts.store.StoreSlotCore.none.Key.{name as #self}
-use Rattle.hlc_handle.proofs.store.StoreSlotCore.none.Statement.{statement}
+use Rattle.hlc_core.specs.contracts.store.Core as core
 use Rattle.hlc_handle.proofs.store.StoreSlotCore.none.Code as code
 
 pub none_spec : {M : Type 1} → statement M

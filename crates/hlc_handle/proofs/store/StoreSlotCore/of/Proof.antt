@@ -1,9 +1,7 @@
 -- `of` stores the box's pointer.
-use Rattle.hlc_core.specs.contracts.store.Core as core
-use Rattle.hlc_handle.proofs.Slots.{of_met}
-use Rattle.hlc_handle.proofs.Handles.{store}
+use Rattle.hlc_handle.proofs.{Slots.of_met, Handles.store, store.StoreSlotCore.of.Statement.statement}
 use Rattle.hlc_handle.specs.contracts.store.StoreSlotCore.of.Key.{name as #self}
-use Rattle.hlc_handle.proofs.store.StoreSlotCore.of.Statement.{statement}
+use Rattle.hlc_core.specs.contracts.store.Core as core
 use Rattle.hlc_handle.proofs.store.StoreSlotCore.of.Code as code
 
 pub of_spec : {M : Type 1} → statement M

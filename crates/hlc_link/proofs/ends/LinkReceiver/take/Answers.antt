@@ -1,8 +1,7 @@
 -- A take preserves the rule: the pass is the receiver's, and it has not taken the end.
 use Rattle.std.proofs.Common.{◌∙◌, ap}
 use Rattle.crossbeam_channel.specs.Claims.{view}
-use Rattle.hlc_link.specs.Link.{receiver}
-use Rattle.hlc_link.proofs.Keeps.{takes_as}
+use Rattle.hlc_link.{specs.Link.receiver, proofs.Keeps.takes_as}
 use Rattle.hlc_link.proofs.ends.LinkReceiver.take.Goals as goal
 
 pub recv_as-requires-clause-rule : goal.recv_as-requires-clause-rule

@@ -2,8 +2,7 @@
 -- both, knows the content of the link, and is split into two again.
 use Rattle.std.proofs.Common.{◌∙◌, ap}
 use Rattle.crossbeam_channel.specs.Claims.{Pass, view}
-use Rattle.hlc_link.specs.declared.rule.Hand.{Hand}
-use Rattle.hlc_link.specs.declared.rule.Parcel.{Parcel}
+use Rattle.hlc_link.specs.declared.rule.{Hand.Hand, Parcel.Parcel}
 use Rattle.hlc_link.proofs.Keeps.{spares, merges, learns, cuts}
 use Rattle.hlc_link.proofs.ends.LinkSender.learn_in_transit.Goals as goal
 

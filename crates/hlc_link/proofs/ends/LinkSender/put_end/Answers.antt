@@ -1,8 +1,7 @@
 -- Putting the end preserves the rule: the pass is the sender's, and it has not put the end.
 use Rattle.std.proofs.Common.{◌∙◌, ap}
 use Rattle.crossbeam_channel.specs.Claims.{view}
-use Rattle.hlc_link.specs.Link.{sender}
-use Rattle.hlc_link.proofs.Keeps.{puts_as}
+use Rattle.hlc_link.{specs.Link.sender, proofs.Keeps.puts_as}
 use Rattle.hlc_link.proofs.ends.LinkSender.put_end.Goals as goal
 
 pub send_as-requires-clause-rule : goal.send_as-requires-clause-rule

@@ -1,8 +1,7 @@
 -- The invariant is true again after a call: the call's entry is the last event of the history, and book and number
 -- count it; with a trail or without.
 use Rattle.std.proofs.Common.{◌≡◌, ◌+◌, arith}
-use Rattle.hlc_server.specs.Trails.{entries_of}
-use Rattle.hlc_server.proofs.Histories.{audited_more, history_more}
+use Rattle.hlc_server.{specs.Trails.entries_of, proofs.Histories.audited_more, proofs.Histories.history_more}
 use Rattle.hlc_server.proofs.guarded.Guarded.call.Goals as goal
 
 pub invariant_of-self : goal.invariant_of-self

@@ -2,8 +2,7 @@
 -- to what is printed.
 use Rattle.std.proofs.Common.{[], ◌++◌, sym, ap, ◌∙◌, append_assoc, arith}
 use Rattle.percent_encoding.specs.Iter.{encoded_text}
-use Rattle.hlc_text.proofs.PrintLemmas.{printed_none, printed_then}
-use Rattle.hlc_text.proofs.Spelled.{spelled}
+use Rattle.hlc_text.proofs.{PrintLemmas.printed_none, PrintLemmas.printed_then, Spelled.spelled}
 use Rattle.hlc_text.proofs.printer.Printer.put_each_byte.Goals as goal
 
 pub loop-piece-init : goal.loop-piece-init

@@ -1,8 +1,7 @@
 -- Where there is room, what is appended waits.
 use Rattle.std.proofs.Common.{refl, ◌++◌, ◌∷◌, []}
 use Rattle.hlc_clock.specs.Stamp.{stamp_text}
-use Rattle.hlc_text.proofs.Appended.{then_more}
-use Rattle.hlc_text.proofs.PrintLemmas.{printed_then, printed_waits}
+use Rattle.hlc_text.proofs.{Appended.then_more, PrintLemmas.printed_then, PrintLemmas.printed_waits}
 use Rattle.hlc_text.proofs.printer.Printer.put_stamp_line.Goals as goal
 
 pub returns : goal.returns

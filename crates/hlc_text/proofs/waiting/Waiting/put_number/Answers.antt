@@ -1,7 +1,6 @@
 -- The digits begin where the text ended, and a number below 2^64 has twenty digits at most.
 use Rattle.std.proofs.Common.{◌≡◌, ◌≤◌, ◌+◌, drop, decimal, length, length-append, arith}
-use Rattle.std.proofs.lemmas.Fmt.{length-decimal-le}
-use Rattle.std.proofs.lemmas.List.{length-take-le}
+use Rattle.std.proofs.lemmas.{Fmt.length-decimal-le, List.length-take-le}
 use Rattle.hlc_text.proofs.Appended.{text_after}
 use Rattle.hlc_text.proofs.waiting.Waiting.put_number.Goals as goal
 

@@ -1,7 +1,5 @@
 -- A number that is too large is spelled as no number that fits, since numbers of one spelling are equal.
-use Rattle.std.proofs.Common.{◌≡◌, sym, ◌∙◌, arith}
-use Rattle.std.specs.Prelude.{decimal}
-use Rattle.std.proofs.lemmas.Fmt.{decimal_injective}
+use Rattle.std.proofs.{Common.◌≡◌, Common.sym, Common.◌∙◌, Common.arith, Common.decimal, lemmas.Fmt.decimal_injective}
 use Rattle.hlc_text.proofs.words.LineWords.node.Goals as goal
 
 pub returns-in_default : goal.returns-in_default

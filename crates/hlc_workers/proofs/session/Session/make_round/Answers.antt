@@ -1,7 +1,6 @@
 -- A round is its opening, and then the reads or a second opening: the receipts of the second part come after those of
 -- the first.
-use Rattle.std.proofs.Common.{[], ◌∷◌, refl}
-use Rattle.std.proofs.lemmas.Result.{err_from_is_err_and}
+use Rattle.std.proofs.{Common.[], Common.◌∷◌, Common.refl, lemmas.Result.err_from_is_err_and}
 use Rattle.hlc_events.specs.declared.event.CoreEvent.TheVariants.{OpenAt}
 use Rattle.hlc_workers.specs.declared.session.Opening.TheVariants.{Opened as opened, Outside as outside}
 use Rattle.hlc_workers.specs.Rounds.{GoesOnOrAgain, IsRound}

@@ -2,8 +2,7 @@
 use Rattle.std.proofs.Common.{[], ◌∷◌, ◌++◌, ◌∙◌, refl, sym, ap, subst, arith, length-append, append_assoc}
 use Rattle.std.proofs.lemmas.Result.{err_from_is_err_and}
 use Rattle.hlc_workers.proofs.Works.{called-first, called_on, stopped_on, rounds-append}
-use Rattle.hlc_workers.specs.Rounds.{AreRounds}
-use Rattle.hlc_workers.proofs.Looked.{looked-none, looked_more}
+use Rattle.hlc_workers.{specs.Rounds.AreRounds, proofs.Looked.looked-none, proofs.Looked.looked_more}
 use Rattle.hlc_workers.proofs.session.Session.make_rounds.Goals as goal
 
 pub loop-round-init : goal.loop-round-init

@@ -1,8 +1,7 @@
 -- This many rounds were made, and the pass looked for each.
 use Rattle.std.proofs.Common.{◌≡◌, List}
 use Rattle.hlc_server.specs.declared.entry.Receipt.{Receipt}
-use Rattle.hlc_workers.specs.Paid.{HasCalled}
-use Rattle.hlc_workers.specs.Rounds.{HasServed}
+use Rattle.hlc_workers.specs.{Paid.HasCalled, Rounds.HasServed}
 use Rattle.hlc_workers.proofs.session.Session.make_rounds.Given as goal
 
 abbrev pub invariant-loop-round : goal.invariant-loop-round

@@ -1,7 +1,6 @@
 -- The close comes after the reads.
 use Rattle.std.proofs.Common.{[], ◌∷◌, ◌++◌, ◌∙◌, ap, map}
-use Rattle.std.proofs.lemmas.List.{append-nil, map-append}
-use Rattle.std.proofs.lemmas.Result.{err_from_is_err_and}
+use Rattle.std.proofs.lemmas.{List.append-nil, List.map-append, Result.err_from_is_err_and}
 use Rattle.hlc_events.specs.declared.event.CoreEvent.TheVariants.{Read}
 use Rattle.hlc_workers.specs.Paid.{event_of}
 use Rattle.hlc_workers.proofs.Works.{called_on, called_stay, stopped_on, close_missing}

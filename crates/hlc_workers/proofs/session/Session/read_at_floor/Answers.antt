@@ -1,9 +1,7 @@
 -- An opening at the floor, and then the reads: the receipts of the reads come after that of the opening.
-use Rattle.std.proofs.Common.{[], ◌∷◌, refl}
-use Rattle.std.proofs.lemmas.Result.{err_from_is_err_and}
+use Rattle.std.proofs.{Common.[], Common.◌∷◌, Common.refl, lemmas.Result.err_from_is_err_and}
 use Rattle.hlc_events.specs.declared.event.CoreEvent.TheVariants.{OpenFloor}
-use Rattle.hlc_workers.specs.declared.session.Opening.TheVariants.{Opened as opened}
-use Rattle.hlc_workers.specs.Rounds.{GoesOn, AtFloor}
+use Rattle.hlc_workers.specs.{declared.session.Opening.TheVariants.Opened as opened, Rounds.GoesOn, Rounds.AtFloor}
 use Rattle.hlc_workers.proofs.Works.{called-none, missing, opening_then}
 use Rattle.hlc_workers.proofs.session.Session.read_at_floor.Goals as goal
 

@@ -1,6 +1,5 @@
 -- One more key was read: its receipt comes after the earlier ones.
-use Rattle.std.proofs.Common.{[], ◌∷◌, ◌++◌, ◌∙◌, rules}
-use Rattle.std.proofs.lemmas.Result.{err_from_is_err_and}
+use Rattle.std.proofs.{Common.[], Common.◌∷◌, Common.◌++◌, Common.◌∙◌, Common.rules, lemmas.Result.err_from_is_err_and}
 use Rattle.hlc_workers.proofs.Works.{called_on, called_stay, stopped_on, read_more, keys_missing}
 use Rattle.hlc_workers.proofs.session.Session.read_each.Goals as goal
 
