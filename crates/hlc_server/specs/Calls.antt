@@ -61,8 +61,8 @@ abbrev pub IsLockedCall : GuardedView → GuardedView → CoreEvent → Result R
 IsLockedCall old new event returned = MatchResult returned (λ receipt. IsOneLockedCall old new event receipt)
     (λ back. IsLeft old new event back.0)
 
--- A call was made, or was not, while it had the lock of some store, with a trail or without, which represented a history
--- of all calls before: so a reply is one that a store gives after as many calls as the receipt's number.
+-- A call was made, or was not, while it had the lock of some store, with a trail or without, which represented a
+-- history of all calls before: so a reply is one that a store gives after as many calls as the receipt's number.
 pub record IsUnderLock (audited : Bool) (event : CoreEvent) (returned : Result Receipt (NotDone × CoreEvent)) : Type 0
   where
     pub old : GuardedView

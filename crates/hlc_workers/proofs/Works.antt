@@ -226,7 +226,8 @@ pub begun_all : {A : Type 0} (keys : List (List ℕ)) (rounds : ℕ) (before aft
     → MatchResult made (λ _. HasServed keys rounds before after more)
     (λ end. Stopped end × HasBegun keys rounds before after more)
     → HasBegun keys rounds before after receipts
-begun_all keys rounds before after receipts more (Ok a) Stopped same s = subst (HasBegun keys rounds before after) (sym same)
+begun_all keys rounds before after receipts more (Ok a) Stopped same s =
+    subst (HasBegun keys rounds before after) (sym same)
     (s.0, [], omega (arith, s.1), subst (AreRounds keys s.0) (sym (append-nil more)) s.2, s.3)
 begun_all keys rounds before after receipts more (Err end) Stopped same s =
     subst (HasBegun keys rounds before after) (sym same) s.1

@@ -68,5 +68,6 @@ returns-clause-left c =
     let over = c.loop-slot-test.false in
     let e = ap length c.leaf-slot-end.ensures in
     c.loop-slot.invariant.left ∙ ap (λ n. drop n c.args.flags)
-    (ap (total kept_one many) (take_all c.loop-slot.slot (get_or c.args.columns.now c.args.at []) (omega (arith, over, e)))
+    (ap (total kept_one many)
+    (take_all c.loop-slot.slot (get_or c.args.columns.now c.args.at []) (omega (arith, over, e)))
     ∙ many_rows (get_or c.args.columns.now c.args.at []))
