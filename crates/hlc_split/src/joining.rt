@@ -66,8 +66,8 @@ impl Error for MergeFault {}
 /// before those of the right one. Whatever each of them took, the result answers each key as the one that it is of, at
 /// each stamp, and is a checkpoint if both are: a store that is restored from it represents a past that begins with it.
 ///
-/// If both represent their parts of one past, the result represents all of it, and its vacuums are parts of one. If they
-/// were parts and went on, each vacuumed when it chose but to one stamp in the end, it represents what both took,
+/// If both represent their parts of one past, the result represents all of it, and its vacuums are parts of one. If
+/// they were parts and went on, each vacuumed when it chose but to one stamp in the end, it represents what both took,
 /// vacuumed to that stamp.
 ///
 /// Refused for the first reason of `MergeFault`; memory is needed only after the check. Both are moved, and lost if it
