@@ -127,7 +127,7 @@ halves-begin bound kept low high number node below rest l h from states machines
       two = refl;
       own = λ s n. refl;
       divided = refl;
-      issued = sym (append-nil _);
+      issued = refl;
     }
 
 -- the same of what the calls returned

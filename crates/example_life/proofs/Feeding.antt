@@ -9,6 +9,7 @@ use Rattle.hlc.specs.Ranges.{Layout, Turn, Issued, Stepped, RangesView, MachineV
 use Rattle.hlc.specs.Ranges.{issued, past_of, start_of, IsIssuedStep, each_stepped, join_step}
 use Rattle.hlc.specs.Store.{Step, Took, begun, numbered}
 use Rattle.hlc_core.specs.Past.{item_rows}
+use Rattle.hlc_ranges.specs.Run.{begun_writes, issued_since}
 use Rattle.hlc_values.proofs.MemberLemmas.{Contains-first}
 use Rattle.example_life.specs.Life.{HaveGoneOn, halves}
 
@@ -37,7 +38,8 @@ went-on {rows} {written} {bound} stood s item more new moved taken kept same are
   two = stood.two;
   own = stood.own;
   divided = same ∙ stood.divided;
-  issued = ap (λ (all : List Row). all ++ item_rows item) stood.issued
+  issued = sym (append_assoc (begun_writes stood.layout stood.layout.stores) (issued_since stood.run) (item_rows item))
+      ∙ ap (λ (all : List Row). all ++ item_rows item) stood.issued
       ∙ ap (λ (last : List Row). (halves bound rows ++ written) ++ last) are
       ∙ append_assoc (halves bound rows) written more;
 }
