@@ -1,13 +1,10 @@
 //! The small callers in the READMEs of the libraries below the store.
-ghost use Rattle.std.specs.Prelude.{ℕ, ◌≡◌, ◌<◌, ◌≤◌, ◌↔◌, ◌+◌, ◌++◌, ◌∷◌, []};
-ghost use Rattle.std.specs.Prelude.{List, None, Some, true};
-ghost use Rattle.std.specs.Prelude.{length, false, IsTrue, IfOk, IfSome, IsErr, OnOk, count_by, nat_le};
-ghost use Rattle.std.specs.List.Sorted.{IsPermutation};
+ghost use Rattle.std.specs.Prelude.{ℕ, ◌≡◌, ◌<◌, ◌≤◌, ◌↔◌, ◌+◌, ◌++◌, ◌∷◌, [], List, None, Some, true, length, false};
+ghost use Rattle.std.specs.Prelude.{IsTrue, IfOk, IfSome, IsErr, OnOk, count_by, nat_le, IsPermutation};
 ghost use Rattle.hlc_clock.specs.Points.{PointsAscend};
 ghost use Rattle.hlc_heads.specs.Heads.{link_at};
 ghost use Rattle.hlc_node.specs.Items.{body_refusal};
-ghost use Rattle.hlc_rows.specs.Rows.{IsRowSet};
-ghost use Rattle.hlc_rows.specs.declared.row.Row.{Row as ARow};
+ghost use Rattle.hlc_rows.specs.{Rows.IsRowSet, declared.row.Row.Row as ARow};
 ghost use Rattle.hlc_witness.specs.Fewest.{Alike};
 ghost use Rattle.hlc_snapshot.specs.RegistryView.{stamp_in};
 

@@ -13,8 +13,4 @@ mod items;
 #[cfg(test)]
 mod keys;
 #[cfg(test)]
-mod machines;
-#[cfg(test)]
-mod stamps;
-#[cfg(test)]
 mod stores;

@@ -2,8 +2,7 @@
 ghost use Rattle.std.specs.Prelude.{◌≡◌, true, List, length, IfOk, IsOkAnd};
 ghost use Rattle.hlc_checkpoint.specs.Checkpoint.{IsCheckpoint};
 ghost use Rattle.hlc_vacuum_draft.specs.Vacuumed.{rows_to};
-ghost use Rattle.hlc_core.specs.Past.{Step, floor};
-ghost use Rattle.hlc_core.specs.StoreView.{Represents};
+ghost use Rattle.hlc_core.specs.{Past.Step, Past.floor, StoreView.Represents};
 
 use hlc_checkpoint::Checkpoint;
 use hlc_core::{Core, NoMemory};

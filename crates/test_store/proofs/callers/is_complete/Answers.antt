@@ -1,6 +1,5 @@
 -- The head of a node that has not retired is not below the floor, and the floor is not below the stamp.
-use Rattle.std.proofs.Common.{◌≡◌, ◌≤◌, ◌<◌, ℕ, true, false, is_le, nat_cmp, ap, sym, ◌∙◌, refl, inl, inr}
-use Rattle.std.proofs.Common.{arith}
+use Rattle.std.proofs.Common.{◌≡◌, ◌≤◌, ◌<◌, ℕ, true, false, is_le, nat_cmp, ap, sym, ◌∙◌, refl, inl, inr, arith}
 use Rattle.hlc_heads.specs.Heads.{link_at}
 use Rattle.std.proofs.lemmas.Cmp.{by_ranked, ranked}
 use Rattle.test_store.proofs.callers.is_complete.Goals as goal
