@@ -1,15 +1,12 @@
 //! The small callers in the READMEs of `hlc_wire`, `hlc_frame`, `hlc_body`, `hlc_saved` and `hlc_log`, and a message
 //! compared with bytes that were written by hand.
 ghost use Rattle.std.specs.Prelude.{◌≡◌, ◌⊎◌, ◌++◌, ◌<◌, List, ℕ, IfOk, IfSome, OnOk, IsErrOf};
-ghost use Rattle.hlc_frame.specs.Frame.{frame_bytes};
-ghost use Rattle.hlc_frame.specs.Reading.{tag_of};
-ghost use Rattle.hlc_core.specs.Past.{Step};
-ghost use Rattle.hlc_core.specs.StoreView.{Represents};
+ghost use Rattle.hlc_frame.specs.{Frame.frame_bytes, Reading.tag_of};
+ghost use Rattle.hlc_core.specs.{Past.Step, StoreView.Represents};
 ghost use Rattle.hlc_witness.specs.Cost.{IsInLimits};
 ghost use Rattle.hlc_body.specs.Spelling.{row_bytes};
 ghost use Rattle.hlc_saved.specs.Saved.{BytesRepresent, Resumes};
-ghost use Rattle.hlc_log.specs.declared.record.Record.{Record as ARecord};
-ghost use Rattle.hlc_log.specs.Log.{log_bytes, with_records};
+ghost use Rattle.hlc_log.specs.{declared.record.Record.Record as ARecord, Log.log_bytes, Log.with_records};
 
 use hlc_body::{Row, RowRef, append_row};
 use hlc_clock::Stamp;

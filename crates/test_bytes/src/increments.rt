@@ -1,7 +1,6 @@
 //! The small caller in the README of `hlc_increment`.
 ghost use Rattle.std.specs.Prelude.{◌++◌, List, IfSome};
-ghost use Rattle.hlc_core.specs.Past.{Step};
-ghost use Rattle.hlc_core.specs.StoreView.{Represents};
+ghost use Rattle.hlc_core.specs.{Past.Step, StoreView.Represents};
 ghost use Rattle.hlc_increment.specs.Increment.{without_drops};
 
 use hlc_core::{Checkpoint, Core};
