@@ -2,10 +2,8 @@
 ghost use Rattle.std.specs.Prelude.{◌≡◌, ℕ, true, List, IfOk, IsOk, IfSome, IsOkAnd};
 ghost use Rattle.hlc_text.specs.Printing.{Writes};
 ghost use Rattle.hlc_witness.specs.Certificate.{IsCertificate};
-ghost use Rattle.hlc_certificate.specs.CertificateText.{certificate_text};
-ghost use Rattle.hlc_certificate.specs.ReadBack.{IsAnsweredFewest};
-ghost use Rattle.hlc_core.specs.Past.{Step};
-ghost use Rattle.hlc_core.specs.StoreView.{Represents};
+ghost use Rattle.hlc_certificate.specs.{CertificateText.certificate_text, ReadBack.IsAnsweredFewest};
+ghost use Rattle.hlc_core.specs.{Past.Step, StoreView.Represents};
 ghost use Rattle.hlc_world_event.specs.Events.{Event as AnEvent};
 ghost use Rattle.hlc_line.specs.Line.{HasLine, event_line};
 

@@ -268,43 +268,32 @@ fn leaves_in_blocks<H: AllocGlobal + Abort>(rt: &H, text: &[u8], least: u64, mos
     );
 }
 
+/// Returns a script of a world of one node, which writes this many letters to a key and has them delivered, and reads
+/// the key so often.
+fn reading<H: AllocGlobal>(rt: &H, letters: u64, reads: u64, read: &[u8]) -> Result<Vec<u8>, Fail> {
+    let mut text = Vec::from_slice(rt.alloc(), b"nodes 1\nwrite 0 5 a ")?;
+    for _ in 0..letters {
+        text.push(b'x')?;
+    }
+    text.extend_from_slice(b"\ndeliver 0 0\nopen floor\n")?;
+    for _ in 0..reads {
+        text.extend_from_slice(read)?;
+    }
+    Ok(text)
+}
+
+/// Short replies; values that are far shorter than a block, and longer than what every line has room for, of which
+/// 1,000 replies of 107 bytes are three blocks and a rest; and values longer than a block, between short replies.
 #[test]
 fn replies_leave_in_blocks(rt: HostRuntime) -> Result<(), Fail> {
-    let mut text = Vec::from_slice(rt.alloc(), b"nodes 1\n")?;
-    for _ in 0..3000 {
-        text.extend_from_slice(b"write 0 5 a x\n")?;
+    let cases: [(u64, u64, &[u8], u64, u64); 3] = [
+        (1, 8000, b"read 1 a\n", 2, 16),
+        (100, 1000, b"read 1 a\n", 4, 4),
+        (40_000, 20, b"floor\nread 1 a\n", 20, 41),
+    ];
+    for (letters, reads, read, least, most) in cases {
+        let text = reading(&rt, letters, reads, read)?;
+        leaves_in_blocks(&rt, text.as_slice(), least, most);
     }
-    leaves_in_blocks(&rt, text.as_slice(), 2, 16);
-    Ok(())
-}
-
-/// Values that are far shorter than a block, and longer than what every line has room for. 1,000 replies of 107 bytes
-/// are three blocks and a rest.
-#[test]
-fn middling_values_leave_in_blocks(rt: HostRuntime) -> Result<(), Fail> {
-    let mut text = Vec::from_slice(rt.alloc(), b"nodes 1\nwrite 0 5 a ")?;
-    for _ in 0..100 {
-        text.push(b'x')?;
-    }
-    text.extend_from_slice(b"\ndeliver 0 0\nopen floor\n")?;
-    for _ in 0..1000 {
-        text.extend_from_slice(b"read 1 a\n")?;
-    }
-    leaves_in_blocks(&rt, text.as_slice(), 4, 4);
-    Ok(())
-}
-
-/// Values longer than a block, between short replies.
-#[test]
-fn long_values_leave_in_blocks(rt: HostRuntime) -> Result<(), Fail> {
-    let mut text = Vec::from_slice(rt.alloc(), b"nodes 1\nwrite 0 5 a ")?;
-    for _ in 0..40_000 {
-        text.push(b'x')?;
-    }
-    text.extend_from_slice(b"\ndeliver 0 0\nopen floor\n")?;
-    for _ in 0..20 {
-        text.extend_from_slice(b"floor\nread 1 a\n")?;
-    }
-    leaves_in_blocks(&rt, text.as_slice(), 20, 41);
     Ok(())
 }
