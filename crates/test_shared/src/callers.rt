@@ -1,6 +1,5 @@
 //! The small callers in the READMEs of `hlc_link`, `hlc_floor`, `hlc_server` and `hlc_workers`, with what they rely on.
-ghost use Rattle.std.specs.Prelude.{◌≡◌, ◌↔◌, ◌+◌, ◌<◌, ◌≤◌, ℕ, length, slice_index};
-ghost use Rattle.std.specs.Prelude.{IsTrue, IfOk, IfSome};
+ghost use Rattle.std.specs.Prelude.{◌≡◌, ◌↔◌, ◌+◌, ◌<◌, ◌≤◌, ℕ, length, slice_index, IsTrue, IfOk, IfSome};
 ghost use Rattle.hlc_server.specs.declared.end.WorkEnd.{WorkEnd};
 
 use hlc_clock::Stamp;

@@ -1,4 +1,4 @@
-//! Tests of links and of the shared store, by their public calls, and the small callers in the READMEs of `hlc_link`,
+//! Tests of the shared store, by its public calls, and the small callers in the READMEs of `hlc_link`,
 //! `hlc_floor`, `hlc_server` and `hlc_workers`. There is nothing else here.
 #![tactic(auto)]
 
@@ -8,9 +8,5 @@ mod callers;
 mod clients;
 #[cfg(test)]
 mod expected;
-#[cfg(test)]
-mod links;
-#[cfg(test)]
-mod stamps;
 #[cfg(test)]
 mod threads;

@@ -4,7 +4,7 @@ ghost use Rattle.std.specs.Prelude.{◌≡◌};
 use crate::clients::{Client, lists_of, settled_calls};
 use crate::expected::must_be;
 use hlc_core::{Bytes, Core, CoreEvent, CoreReply, Stamp};
-use hlc_server::{Caller, Receipt, Shared};
+use hlc_server::{Caller, Receipt, SettleFault, Shared};
 use std::alloc::Global;
 use std::marker::Brand;
 use std::process::Abort;
@@ -13,7 +13,7 @@ use std::sync::ledger::{Blank, Ledger};
 use std::test::*;
 use std::thread;
 use std::thread::Threads;
-use test_support::makers::{bytes, write};
+use test_support::makers::{at_second, bytes, write};
 
 /// Lists a snapshot and closes it.
 fn lists_and_closes<L: Ledger, R: Wait + Threads + Abort + Sync>(
@@ -27,7 +27,7 @@ fn lists_and_closes<L: Ledger, R: Wait + Threads + Abort + Sync>(
 }
 
 /// Reads the key `k` in a snapshot, and checks that its value is this number.
-pub(crate) fn shows<L: Ledger, R: Wait + Threads + Abort + Sync>(
+fn shows<L: Ledger, R: Wait + Threads + Abort + Sync>(
     rt: &R,
     alloc: Global,
     shared: &Shared<L>,
@@ -100,46 +100,70 @@ fn work<L: Ledger, R: Wait + Threads + Abort + Sync>(
     client
 }
 
-/// Lets each caller make its calls in a thread of its own.
+/// Makes the calls that come after those of the threads: two nodes join, and a vacuum to the floor (closed timestamp)
+/// is made, whole and of one key.
+fn joins_and_vacuums<L: Ledger, R: Wait + Threads + Abort + Sync>(
+    rt: &R,
+    alloc: Global,
+    shared: &Shared<L>,
+    client: Client<L>,
+) -> Client<L> {
+    let (at, after, limit) = (at_second(10), letter(rt, alloc, b'a'), 1);
+    let client = client.asks(rt, shared, CoreEvent::Join);
+    let client = client.asks(rt, shared, CoreEvent::JoinAt(at_second(11)));
+    let client = client.asks(rt, shared, CoreEvent::VacuumTo(at));
+    client.asks(rt, shared, CoreEvent::VacuumPart { at, after, limit })
+}
+
+/// Lets each caller make its calls in a thread of its own, and then the last one the others; and checks how many calls
+/// each made, and what is found under the lock then.
 fn all_work<L: Ledger + Send + Sync, R: Threads + Wait + Abort + Sync>(
     rt: &R,
     alloc: Global,
     shared: &Shared<L>,
     callers: Vec<Caller<L>>,
 ) -> Vec<Client<L>> {
-    thread::map_vec(rt, callers, &|caller| work(rt, alloc, shared, caller)).expect(rt, "memory")
-}
-
-/// Checks that each thread made 50 calls.
-fn are_done<L: Ledger, R: Abort>(rt: &R, clients: &[Client<L>]) {
-    must_be(rt, clients.len(), 4);
-    for client in clients {
+    let made = thread::map_vec(rt, callers, &|caller| work(rt, alloc, shared, caller));
+    let mut clients = made.expect(rt, "memory");
+    for client in clients.as_slice() {
         must_be(rt, client.receipts.len(), 50);
     }
+    let last = clients.pop().expect(rt, "a caller");
+    let last = joins_and_vacuums(rt, alloc, shared, last);
+    must_be(rt, (clients.len(), last.receipts.len()), (3, 54));
+    clients.push(last).ok().expect(rt, "memory");
+    let found = shared.look(rt, |core| (core.horizon(), core.floor()));
+    must_be(rt, found, (at_second(10), at_second(10)));
+    clients
 }
 
-/// Lets four threads make 50 calls each, of all kinds but a join. The receipts of these 200 calls settle, and each read
-/// after a thread's own write shows that write.
+/// Lets four threads make 50 calls each, and four more calls after them: all kinds of calls. The receipts settle, and
+/// each read after a thread's own write shows that write. If the last receipt is left out, they don't settle.
 fn by_four<L: Ledger + Send + Sync, R: Threads + Wait + Abort + Sync>(
     rt: &R,
     alloc: Global,
     blank: Blank,
+    leaves_out: bool,
+    expected: Result<u64, SettleFault>,
 )
     requires { (blank.name ≡ L.name) × (blank.parts ≡ L.parts) × (blank.parts ≡ 4) }
 {
     let (shared, callers) = Shared::<L>::new(alloc, blank, 1, 4, true).expect(rt, "a store");
-    let clients = all_work(rt, alloc, &shared, callers);
-    are_done(rt, clients.as_slice());
-    must_be(
-        rt,
-        settled_calls(shared, lists_of(rt, alloc, clients)),
-        Ok(200),
-    );
+    let mut lists = lists_of(rt, alloc, all_work(rt, alloc, &shared, callers));
+    if leaves_out {
+        let (caller, mut receipts) = lists.pop().expect(rt, "a caller");
+        drop(receipts.pop());
+        lists.push((caller, receipts)).ok().expect(rt, "memory");
+    }
+    must_be(rt, settled_calls(shared, lists), expected);
 }
 
 #[test]
 fn four_threads(rt: HostRuntime) {
-    by_four::<Brand, _>(&rt, rt.alloc(), Blank::new(4));
+    let fault = Err(SettleFault::ReceiptMismatch { index: 203 });
+    for (leaves_out, expected) in [(false, Ok(204)), (true, fault)] {
+        by_four::<Brand, _>(&rt, rt.alloc(), Blank::new(4), leaves_out, expected);
+    }
 }
 
 /// Returns the receipt of this number.
@@ -161,16 +185,16 @@ fn replies<R: Abort>(rt: &R, core: &mut Core, receipt: &Receipt) {
     must_be(rt, &reply, &receipt.reply);
 }
 
-/// Checks that a new core of one node returns the replies of 200 receipts to their events, in the order of their
+/// Checks that a new core of one node returns the replies of 204 receipts to their events, in the order of their
 /// numbers.
 fn replay<L: Ledger, R: Abort>(rt: &R, alloc: Global, clients: &[Client<L>]) {
     let mut core = Core::new(alloc, 1).expect(rt, "a core");
-    for number in 0..200u64 {
+    for number in 0..204u64 {
         replies(rt, &mut core, numbered(rt, clients, number));
     }
 }
 
-/// Makes the same calls on a store without a trail. The 200 receipts have the numbers from 0 on, each once, and a core
+/// Makes the same calls on a store without a trail. The 204 receipts have the numbers from 0 on, each once, and a core
 /// that one thread steps returns the same replies.
 fn by_four_alone<L: Ledger + Send + Sync, R: Threads + Wait + Abort + Sync>(
     rt: &R,
@@ -181,7 +205,6 @@ fn by_four_alone<L: Ledger + Send + Sync, R: Threads + Wait + Abort + Sync>(
 {
     let (shared, callers) = Shared::<L>::new(alloc, blank, 1, 4, false).expect(rt, "a store");
     let clients = all_work(rt, alloc, &shared, callers);
-    are_done(rt, clients.as_slice());
     replay(rt, alloc, clients.as_slice());
 }
 

@@ -1,11 +1,8 @@
 -- Where the receipts settle there are as many as entries, and all are those of the one list.
-use Rattle.std.proofs.Common.{◌≡◌, ℕ, length, List, [], ◌∷◌, ◌++◌, sym, ap, ◌∙◌, Result, Ok, Err, IfOk}
-use Rattle.std.proofs.Common.{map, MatchResult, rules}
-use Rattle.std.specs.Result.{IsOkAnd}
-use Rattle.std.proofs.lemmas.List.{length-map, append-nil}
-use Rattle.hlc_server.specs.declared.settle.Settled.{Settled}
-use Rattle.hlc_server.specs.declared.settle.SettleFault.{SettleFault}
-use Rattle.hlc_server.specs.declared.entry.Receipt.{Receipt}
+use Rattle.std.proofs.Common.{◌≡◌, ℕ, length, List, [], ◌∷◌, ◌++◌, sym, ap, ◌∙◌, Result, Ok, Err, IfOk, map}
+use Rattle.std.proofs.Common.{MatchResult, rules}
+use Rattle.std.{specs.Result.IsOkAnd, proofs.lemmas.List.length-map, proofs.lemmas.List.append-nil}
+use Rattle.hlc_server.specs.declared.{settle.Settled.Settled, settle.SettleFault.SettleFault, entry.Receipt.Receipt}
 use Rattle.hlc_server.specs.Trails.{GuardedView}
 use Rattle.hlc_server.specs.Settling.{Claim, claim, claims_of, IsSettlement}
 use Rattle.test_shared.proofs.callers.count_calls.Goals as goal
