@@ -54,11 +54,7 @@ pub(crate) fn take_seats<'a, L: Ledger, R: Abort>(
     requires feeder { seats.feeder.board ≡ scene.now.board }
     requires pass { seats.pass.board ≡ scene.now.board }
 {
-    let Seats {
-        mut callers,
-        feeder,
-        pass,
-    } = seats;
+    let (mut callers, feeder, pass) = (seats.callers, seats.feeder, seats.pass);
     callers.reverse();
     let writer = last_client(rt, alloc, scene, &mut callers);
     let reader = last_client(rt, alloc, scene, &mut callers);
@@ -95,12 +91,8 @@ pub(crate) fn pays<'a, L: Ledger, R: Abort>(
     lists: &mut Vec<Paid<L>>,
     client: Client<'a, L>,
 ) {
-    let Client {
-        caller,
-        receipts,
-        ..
-    } = client;
-    lists.push((caller, receipts)).ok().expect(rt, "memory");
+    let paid = (client.caller, client.receipts);
+    lists.push(paid).ok().expect(rt, "memory");
 }
 
 /// Stores the receipt of a call that was made.

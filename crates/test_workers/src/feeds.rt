@@ -62,23 +62,10 @@ fn fed_from<L: Ledger, G: Gate, R: Wait + Abort>(
 ) -> Ended
     requires { seats.feeder.board ≡ scene.now.board }
 {
-    let Seats {
-        mut callers,
-        feeder,
-        ..
-    } = seats;
+    let (shared, board, mut callers) = (&scene.shared, &scene.board, seats.callers);
     let caller = callers.pop().expect(rt, "a caller");
-    let fed = feed(
-        rt,
-        alloc,
-        &scene.shared,
-        caller,
-        link,
-        &scene.board,
-        Some(feeder),
-        gate,
-    );
-    ended_of(fed)
+    let feeder = Some(seats.feeder);
+    ended_of(feed(rt, alloc, shared, caller, link, board, feeder, gate))
 }
 
 /// Feeds the items of these numbers, and then the end if there is to be one, into the store of a ledger.

@@ -1,7 +1,7 @@
 //! A node that joins a store.
 use crate::clients::{Client, keep};
-use crate::writers::Writer;
-use hlc_core::{CoreReply, Item};
+use crate::writers::{Writer, list_of_one};
+use hlc_core::CoreReply;
 use hlc_node::NodeCore;
 use hlc_server::Receipt;
 use std::alloc::Global;
@@ -9,7 +9,6 @@ use std::process::Abort;
 use std::sync::Wait;
 use std::sync::ledger::Ledger;
 use std::test::*;
-use test_support::makers::bytes;
 
 /// A node that joined: its caller, and its side.
 #[derive(Drop)]
@@ -48,34 +47,14 @@ pub(crate) fn join_one<'a, L: Ledger, R: Wait + Abort>(
     Newcomer { client, node }
 }
 
-/// Feeds the writes of these values in second 2, and the last item at 3.0. The node has no word on the board.
-pub(crate) fn write_and_retire<'a, L: Ledger, R: Wait + Abort>(
+/// Feeds the last item of the node, at 3.0. The node has no word on the board.
+pub(crate) fn retire<'a, L: Ledger, R: Wait + Abort>(
     rt: &R,
     alloc: Global,
     newcomer: Newcomer<'a, L>,
-    values: &[u8],
 ) -> Newcomer<'a, L> {
     let Newcomer { client, mut node } = newcomer;
-    let items = items_of(rt, alloc, &mut node, values);
-    let Writer { client, .. } = Writer::new(client, None).feeds(rt, alloc, items);
+    let last = list_of_one(rt, alloc, node.retire(3).expect(rt, "the last item"));
+    let Writer { client, .. } = Writer::new(client, None).feeds(rt, alloc, last);
     Newcomer { client, node }
-}
-
-/// Returns the writes of these values in second 2, and the last item at 3.0.
-fn items_of<R: Abort>(rt: &R, alloc: Global, node: &mut NodeCore, values: &[u8]) -> Vec<Item> {
-    let mut items = Vec::new(alloc);
-    for value in values {
-        let item = write_of(rt, alloc, node, *value);
-        items.push(item).ok().expect(rt, "memory");
-    }
-    let last = node.retire(3).expect(rt, "the last item");
-    items.push(last).ok().expect(rt, "memory");
-    items
-}
-
-/// Returns the write of a value in second 2.
-fn write_of<R: Abort>(rt: &R, alloc: Global, node: &mut NodeCore, value: u8) -> Item {
-    let key = bytes(alloc, b'a').expect(rt, "memory");
-    let value = bytes(alloc, value).expect(rt, "memory");
-    node.write(2, key, Some(value)).ok().expect(rt, "a write")
 }

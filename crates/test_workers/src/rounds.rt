@@ -4,10 +4,10 @@ ghost use Rattle.std.specs.Prelude.{◌≡◌, ◌≤◌};
 use crate::clients::{Client, client_after};
 use crate::expected::{answer, must_be, replied};
 use crate::scenes::Scene;
-use hlc_core::{Bytes, CoreFault, CoreReply, Stamp};
+use hlc_core::{CoreFault, CoreReply, Stamp};
 use hlc_floor::FloorPass;
 use hlc_server::Receipt;
-use hlc_workers::{FreeGate, Gate, Reader, WorkEnd, serve_reader};
+use hlc_workers::{FreeGate, Reader, WorkEnd, serve_reader};
 use std::alloc::Global;
 use std::process::Abort;
 use std::sync::Wait;
@@ -32,15 +32,12 @@ fn reading_after<'a, L: Ledger, R: Abort>(
 ) -> Reading<'a, L>
     requires { read.pass.board ≡ scene.now.board }
 {
-    let Reader {
-        caller,
-        pass,
-        receipts: more,
-        end,
-    } = read;
-    must_be(rt, end, WorkEnd::Done);
-    let client = client_after(rt, scene, receipts, caller, more);
-    Reading { client, pass }
+    must_be(rt, read.end, WorkEnd::Done);
+    let client = client_after(rt, scene, receipts, read.caller, read.receipts);
+    Reading {
+        client,
+        pass: read.pass,
+    }
 }
 
 impl<'a, L: Ledger> Reading<'a, L> {
@@ -51,43 +48,15 @@ impl<'a, L: Ledger> Reading<'a, L> {
         Reading { client, pass }
     }
 
-    /// Makes one round over these keys.
-    pub(crate) fn reads<R: Wait + Abort, G: Gate>(
-        self,
-        rt: &R,
-        alloc: Global,
-        keys: &[Bytes],
-        gate: &G,
-    ) -> Reading<'a, L> {
+    /// Makes one round over the key `a`.
+    fn reads<R: Wait + Abort>(self, rt: &R, alloc: Global) -> Reading<'a, L> {
         let Reading { client, pass } = self;
-        let Client {
-            scene,
-            caller,
-            receipts,
-        } = client;
-        let read = serve_reader(
-            rt,
-            alloc,
-            &scene.shared,
-            caller,
-            &scene.board,
-            pass,
-            keys,
-            1,
-            gate,
-        );
+        let (scene, caller, receipts) = (client.scene, client.caller, client.receipts);
+        let (keys, gate) = ([bytes(alloc, b'a').expect(rt, "memory")], &FreeGate);
+        let (shared, board) = (&scene.shared, &scene.board);
+        let read = serve_reader(rt, alloc, shared, caller, board, pass, &keys, 1, gate);
         reading_after(rt, scene, receipts, read)
     }
-}
-
-/// Returns the key `a` this many times.
-pub(crate) fn keys_of<R: Abort>(rt: &R, alloc: Global, count: u8) -> Vec<Bytes> {
-    let mut keys = Vec::new(alloc);
-    for _ in 0..count {
-        let key = bytes(alloc, b'a').expect(rt, "memory");
-        keys.push(key).ok().expect(rt, "memory");
-    }
-    keys
 }
 
 /// The expected result of a round: the id of its snapshot, whether the first stamp at which it tries to open is
@@ -119,28 +88,16 @@ pub(crate) fn read_as_expected<'a, L: Ledger, R: Wait + Abort>(
     before: u8,
     expected: Round,
 ) -> Reading<'a, L> {
-    let keys = keys_of(rt, alloc, 1);
-    let reading = reading.reads(rt, alloc, keys.as_slice(), &FreeGate);
-    is_expected(
-        rt,
-        alloc,
-        reading.client.receipts.as_slice(),
-        before,
-        expected,
-    );
-    reading
-}
-
-/// Checks that, after this many receipts, the others are those of the expected round.
-fn is_expected<R: Abort>(rt: &R, alloc: Global, receipts: &[Receipt], before: u8, expected: Round) {
+    let reading = reading.reads(rt, alloc);
+    let receipts = reading.client.receipts.as_slice();
     let mut before = usize::from(before);
     if expected.refused {
-        let refused = CoreFault::AboveFloor {
-            floor: expected.stamp,
-        };
+        let floor = expected.stamp;
         assert!(rt; before < receipts.len());
-        replied(rt, &receipts[before], CoreReply::Refused(refused));
+        let refused = CoreReply::Refused(CoreFault::AboveFloor { floor });
+        replied(rt, &receipts[before], refused);
         before += 1;
     }
     has_read(rt, alloc, receipts, before, expected);
+    reading
 }

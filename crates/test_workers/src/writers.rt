@@ -16,7 +16,7 @@ use std::process::Abort;
 use std::sync::Wait;
 use std::sync::ledger::Ledger;
 use std::test::*;
-use test_support::makers::{at_second, write};
+use test_support::makers::write;
 
 /// Returns the receiving end of a link that carries these items, at most eight, and then an end or a dropped sender.
 pub fn full_link<R: Wait + Abort>(
@@ -28,18 +28,13 @@ pub fn full_link<R: Wait + Abort>(
     ensures { result ≡ received result.link [] false }
 {
     let (mut sender, receiver) = link(rt, alloc, 8).expect(rt, "a link");
-    fill(rt, &mut sender, items);
+    for item in items {
+        puts(rt, &mut sender, item);
+    }
     if ends {
         must_be(rt, sender.finish(rt).is_ok(), true);
     }
     receiver
-}
-
-/// Puts these items into a link.
-fn fill<R: Wait + Abort>(rt: &R, sender: &mut LinkSender, items: Vec<Item>) {
-    for item in items {
-        puts(rt, sender, item);
-    }
 }
 
 /// Puts an item into a link.
@@ -96,22 +91,10 @@ impl<'a, L: Ledger> Writer<'a, L> {
         items: Vec<Item>,
     ) -> Writer<'a, L> {
         let Writer { client, feeder } = self;
-        let Client {
-            scene,
-            caller,
-            receipts,
-        } = client;
-        let link = full_link(rt, alloc, items, true);
-        let fed = feed(
-            rt,
-            alloc,
-            &scene.shared,
-            caller,
-            link,
-            &scene.board,
-            feeder,
-            &FreeGate,
-        );
+        let (scene, caller, receipts) = (client.scene, client.caller, client.receipts);
+        let (link, gate) = (full_link(rt, alloc, items, true), &FreeGate);
+        let (shared, board) = (&scene.shared, &scene.board);
+        let fed = feed(rt, alloc, shared, caller, link, board, feeder, gate);
         writer_after(rt, scene, receipts, fed)
     }
 }
@@ -130,20 +113,11 @@ pub(crate) fn feed_item<'a, L: Ledger, R: Wait + Abort>(
 }
 
 /// Returns a list of one item.
-fn list_of_one<R: Abort>(rt: &R, alloc: Global, item: Item) -> Vec<Item> {
+pub(crate) fn list_of_one<R: Abort>(rt: &R, alloc: Global, item: Item) -> Vec<Item> {
     vec![in alloc; item].ok().expect(rt, "memory")
 }
 
 /// Returns the write of node 0 with this number, at key `a`. Each write is a second later than the one before it.
 pub(crate) fn written<R: Abort>(rt: &R, alloc: Global, number: u8, value: u8) -> Item {
     write(alloc, 0, number, b'a', value).expect(rt, "memory")
-}
-
-/// Feeds the write of x at 1.0, and checks that its stamp was raised.
-pub(crate) fn feed_first<'a, L: Ledger, R: Wait + Abort>(
-    rt: &R,
-    alloc: Global,
-    writer: Writer<'a, L>,
-) -> Writer<'a, L> {
-    feed_item(rt, alloc, writer, written(rt, alloc, 0, b'x'), at_second(1))
 }
