@@ -1,7 +1,6 @@
 //! The values that the tests pass in.
 ghost use Rattle.std.specs.Prelude.{◌≡◌, ◌+◌, ◌*◌, ◌∷◌, [], Some, IfOk, option_copied};
-ghost use Rattle.hlc_node.specs.Items.{an_item};
-ghost use Rattle.hlc_node.specs.declared.item.Body.TheVariants.{Write as a_write};
+ghost use Rattle.hlc_node.specs.{Items.an_item, declared.item.Body.TheVariants.Write as a_write};
 
 use hlc_clock::Stamp;
 use hlc_node::{Body, Bytes, Item, ItemRef};

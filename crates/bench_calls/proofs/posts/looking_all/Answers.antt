@@ -1,7 +1,6 @@
 -- The last pass is the board's, and so are the passes before it.
 use Rattle.std.proofs.Common.{List, subst}
-use Rattle.hlc_floor.specs.Views.{FloorPassView}
-use Rattle.hlc_floor.specs.Views.{PassesOf}
+use Rattle.hlc_floor.specs.Views.{FloorPassView, PassesOf}
 use Rattle.hlc_floor.proofs.PlaceLemmas.{passes_last}
 use Rattle.bench_calls.proofs.posts.looking_all.Goals as goal
 

@@ -1,7 +1,6 @@
 -- The last feeder is the board's, and so are those before it.
 use Rattle.std.proofs.Common.{List, subst}
-use Rattle.hlc_floor.specs.Views.{FeederView}
-use Rattle.hlc_floor.specs.Views.{FeedersOf}
+use Rattle.hlc_floor.specs.Views.{FeederView, FeedersOf}
 use Rattle.hlc_floor.proofs.PlaceLemmas.{feeders_last}
 use Rattle.bench_calls.proofs.posts.raising_all.Goals as goal
 

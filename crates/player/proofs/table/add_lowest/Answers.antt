@@ -1,8 +1,7 @@
 -- Where no row is at or below a stamp, no row has this stamp.
-use Rattle.std.proofs.Common.{◌≡◌, ◌∙◌, ◌<◌, ℕ, zero, suc, List, [], ◌∷◌, sym, ap, cond, arith, length}
-use Rattle.std.proofs.Common.{get_or, true≢false, inl, inr, nat_le}
-use Rattle.std.specs.Prelude.{Contains, filter}
-use Rattle.std.proofs.lemmas.Bool.{cases_Bool, le-leb}
+use Rattle.std.proofs.Common.{◌≡◌, ◌∙◌, ◌<◌, ℕ, zero, suc, List, [], ◌∷◌, sym, ap, cond, arith, length, get_or}
+use Rattle.std.proofs.Common.{true≢false, inl, inr, nat_le}
+use Rattle.std.{specs.Prelude.Contains, specs.Prelude.filter, proofs.lemmas.Bool.cases_Bool, proofs.lemmas.Bool.le-leb}
 use Rattle.hlc_rows.specs.declared.row.Row.{Row}
 use Rattle.player.proofs.table.add_lowest.Goals as goal
 
