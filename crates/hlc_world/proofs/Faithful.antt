@@ -1,6 +1,7 @@
 -- What is promised about a whole schedule follows where the world represents it: the core represents the store's
 -- history, which is legal, so the core is faithful to it; each moment of the schedule is one of that history; and each
 -- moment of a legal schedule is legal, so what can be read there is closed.
+use Rattle.std.proofs.lemmas.Grind.{common_steps}
 use Rattle.std.proofs.Common.{ℕ, List, [], ◌∷◌, ◌++◌, Some, None, Option, refl, ap, sym, subst, ◌≡◌, length, arith}
 use Rattle.hlc_events.specs.declared.event.CoreEvent.{CoreEvent}
 use Rattle.hlc_core.specs.{declared.reply.CoreReply.CoreReply, History.RepresentsHistory}
@@ -46,11 +47,7 @@ reads-closed nodes s legal =
 -- the core represents the store's history
 represents : (nodes : ℕ) (state : WorldView) (s : List (Event × Reply)) → Represents nodes state s
     → RepresentsHistory nodes state.core (store_history s)
-represents nodes state s h = record {
-  legal = history-legal nodes s h.legal;
-  core = h.core;
-  left = left-by-none nodes s state.core.rows;
-}
+represents nodes state s h = grind (arith, common_steps, history-legal, left-by-none)
 
 -- a world is faithful to each schedule that it represents
 pub faithful : (nodes : ℕ) (state : WorldView) (s : List (Event × Reply)) → Represents nodes state s

@@ -1,30 +1,40 @@
 -- The world goes on representing its schedule: new nodes, the events of nodes, and events that change nothing.
+use Rattle.std.proofs.lemmas.Grind.{common_steps}
+use Rattle.std.proofs.lemmas.Option.{same_Some, slice_get-map}
 use Rattle.std.proofs.Common.{◌≡◌, ℕ, zero, suc, ◌<◌, Bool, true, false, List, [], ◌∷◌, ◌++◌, length, Some, None, Ok}
 use Rattle.std.proofs.Common.{Err, Option, Result, refl, ap, sym, ◌∙◌, subst, inl, inr, arith, length-set}
-use Rattle.std.proofs.Common.{length-append, option_map, slice_get, slice_set, if◌then◌else◌, eq-eqb, ne_eqb}
-use Rattle.std.proofs.lemmas.{Option.same_Some, Option.slice_get-map, List.map-append, List.length-map}
-use Rattle.std.proofs.lemmas.Bool.{cond-false, lt-leb, cases_eq}
-use Rattle.hlc_clock.specs.{NextStamp.expected_stamp, declared.clock.ClockFault.ClockFault}
-use Rattle.hlc_node.specs.declared.item.{Item.Item, Body.Body, Message.Message}
-use Rattle.hlc_node.specs.declared.node.NodeFault.{NodeFault, TheVariants.Retired}
+use Rattle.std.proofs.Common.{length-append, option_map}
+use Rattle.std.specs.Prelude.{slice_get, slice_set, if◌then◌else◌}
+use Rattle.std.proofs.lemmas.Bool.{cond-false, eq-eqb, ne_eqb, lt-leb, cases_eq}
+use Rattle.hlc_clock.specs.NextStamp.{expected_stamp}
+use Rattle.hlc_clock.specs.declared.clock.ClockFault.{ClockFault}
+use Rattle.hlc_node.specs.declared.item.Item.{Item}
+use Rattle.hlc_node.specs.declared.item.Message.{Message}
+use Rattle.hlc_node.specs.declared.item.Body.{Body}
+use Rattle.hlc_node.specs.declared.node.NodeFault.{NodeFault}
 use Rattle.hlc_node.specs.Items.{an_item, retires}
 use Rattle.hlc_node.specs.Node.{NodeView, clocked, unless_retired, expected_event, expected_issue, stamped}
-use Rattle.hlc_core.specs.{declared.reply.CoreReply.CoreReply, History.past_of}
+use Rattle.hlc_core.specs.declared.reply.CoreReply.{CoreReply}
 use Rattle.hlc_core.specs.Past.{Step, Started, numbered, stamp_of}
+use Rattle.hlc_core.specs.History.{past_of}
 use Rattle.hlc_core.specs.StoreView.{StoreView, Represents as CoreRepresents}
-use Rattle.hlc_world.specs.declared.{content.Content.Content, reply.Reply.Reply}
+use Rattle.hlc_world.specs.declared.content.Content.{Content}
+use Rattle.hlc_world.specs.declared.content.Content.TheVariants as contents
 use Rattle.hlc_world_event.specs.declared.event.Event.TheVariants.{Send, Receive, Observe}
+use Rattle.hlc_world.specs.declared.reply.Reply.{Reply}
 use Rattle.hlc_world.specs.declared.reply.Reply.TheVariants.{Stamped, Sent, Received, Observed, Refused}
-use Rattle.hlc_world.specs.declared.refusal.Refusal.{Refusal, TheVariants.Node as at_node}
-use Rattle.hlc_world.specs.Schedule.{item_made, message_made, mark_of, with_item, ends, stamp_or, with_message, body_of}
-use Rattle.hlc_world.specs.Schedule.{issuing, issued, has_retired, last_stamp, sent, message_at, node_of}
+use Rattle.hlc_world.specs.declared.refusal.Refusal.{Refusal}
+use Rattle.hlc_node.specs.declared.node.NodeFault.TheVariants.{Retired}
+use Rattle.hlc_world.specs.declared.refusal.Refusal.TheVariants.{Node as at_node}
+use Rattle.hlc_world.specs.Schedule.{item_made, message_made, mark_of, with_item, ends, stamp_or, body_of, issuing}
+use Rattle.hlc_world.specs.Schedule.{issued, has_retired, last_stamp, sent, message_at, node_of}
 use Rattle.hlc_world_event.specs.Events.{Event}
 use Rattle.hlc_world.specs.Store.{asked, returned, paired, with_entry, store_history, core_past}
-use Rattle.hlc_world.specs.Expected.{issue_refusal, stamp_refusal, receive_refusal, observe_refusal, on_link, on_node}
-use Rattle.hlc_world.specs.Expected.{expected_refusal, IsReceived, IsObserved, MayRunOutOfMemory, MayReply}
-use Rattle.hlc_world.specs.WorldView.{IssuerView, WorldView, Represents, fresh_issuers, stamps_of, Issues, Sees}
+use Rattle.hlc_world.specs.Expected.{issue_refusal, stamp_refusal, on_link, on_node, expected_refusal}
+use Rattle.hlc_world.specs.Expected.{MayRunOutOfMemory, MayReply}
+use Rattle.hlc_world.specs.WorldView.{IssuerView, WorldView, Represents, fresh_issuers, Issues, Sees}
+use Rattle.std.proofs.lemmas.List.{map-append, length-map}
 use Rattle.hlc_world.proofs.Lists.{get-set_at, get-set_other, set-same, get-append_left, get-push}
-use Rattle.hlc_world.specs.declared.content.Content.TheVariants as contents
 
 -- what is stored for a node
 abbrev pub a_node : ℕ → ℕ → List Item → Bool → IssuerView
@@ -89,16 +99,7 @@ goes-on : (nodes : ℕ) (state : WorldView) (s : List (Event × Reply)) (e : Eve
     → MayReply nodes s e reply → Represents nodes state s → length issuers ≡ length state.nodes
     → ((n : ℕ) → n < length issuers → slice_get issuers n ≡ Some (node_by n mark item s)) → Represents nodes
     (record { core = state.core; nodes = issuers; sent_stamps = state.sent_stamps }) ((e, reply) ∷ s)
-goes-on nodes state s e reply item mark issuers did allowed h same each =
-    record {
-      legal = (allowed, h.legal);
-      core = subst (λ (d : Deed). CoreRepresents state.core (past_reported nodes s e d.3)) (sym did) h.core;
-      many = subst (λ (d : Deed). length issuers ≡ numbered (past_reported nodes s e d.3)) (sym did)
-          (same ∙ h.many);
-      each = λ n lt. subst (λ (d : Deed). slice_get issuers n ≡ Some (node_by n d.1 d.0 s)) (sym did) (each n lt);
-      sent_stamps = subst (λ (d : Deed). state.sent_stamps ≡ stamps_of (with_message d.2 (sent s))) (sym did)
-          h.sent_stamps;
-    }
+goes-on nodes state s e reply item mark issuers did allowed h same each = grind (arith, common_steps)
 
 -- a refused event changes nothing
 pub stays : (nodes : ℕ) (state : WorldView) (s : List (Event × Reply)) (e : Event) (refusal : Refusal)
@@ -168,13 +169,7 @@ message-there nodes state s number seen h at =
 
 receives : (nodes : ℕ) (s : List (Event × Reply)) (p reading number : ℕ) (message : Message)
     → message_at number s ≡ Some message → IsSight nodes s (Receive p reading number) Received p message.stamp reading
-receives nodes s p reading number message found =
-    record {
-      expected = ap (λ o. on_node nodes s p (receive_refusal o (last_stamp p s) reading)) found;
-      done = λ st. refl;
-      left = λ f. refl;
-      allowed = λ st none expected. (none, subst (λ o. IsReceived o (last_stamp p s) reading st) (sym found) expected);
-    }
+receives nodes s p reading number message found = grind (arith, common_steps)
 
 pub receive-is : (nodes : ℕ) (s : List (Event × Reply)) (p reading number seen : ℕ)
     → ((message : Message) × (message_at number s ≡ Some message) × (message.stamp ≡ seen))
@@ -186,13 +181,7 @@ receive-is nodes s p reading number seen (message, found, same) =
 pub observe-is : (nodes : ℕ) (s : List (Event × Reply)) (p reading id seen : ℕ)
     → stamp_of id (core_past nodes s) ≡ Some seen
     → IsSight nodes s (Observe p reading id) Observed p seen reading
-observe-is nodes s p reading id seen found =
-    record {
-      expected = ap (λ o. on_node nodes s p (observe_refusal o (last_stamp p s) reading)) found;
-      done = λ st. refl;
-      left = λ f. refl;
-      allowed = λ st none expected. (none, subst (λ o. IsObserved o (last_stamp p s) reading st) (sym found) expected);
-    }
+observe-is nodes s p reading id seen found = grind (arith, common_steps)
 
 module _ (nodes : ℕ) (state : WorldView) (s : List (Event × Reply)) (p : ℕ) (before : IssuerView)
     (h : Represents nodes state s) (inside : p < length state.nodes) (at : slice_get state.nodes p ≡ Some before) where
@@ -354,10 +343,4 @@ fresh-at (suc n) k h =
 -- a new world
 pub starts : (n : ℕ) (core : StoreView) → CoreRepresents core (Started n ∷ [])
     → Represents n (record { core = core; nodes = fresh_issuers n; sent_stamps = [] }) []
-starts n core h = record {
-  legal = tt;
-  core = h;
-  many = (let e = fresh-length n in omega (arith, e));
-  each = λ k lt. fresh-at n k (let e = fresh-length n in omega (arith, e));
-  sent_stamps = refl;
-}
+starts n core h = grind (arith, common_steps, fresh-length, fresh-at)

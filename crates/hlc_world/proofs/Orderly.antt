@@ -3,6 +3,7 @@
 -- only because of its number. A node's Retire is its last item, and where it was accepted, all of them were. So the
 -- floor is complete: an item at or below it is not above its node's head; and no head is above its node's clock. A node
 -- that has not joined yet has no stamp.
+use Rattle.std.proofs.lemmas.Grind.{common_steps}
 use Rattle.std.proofs.Common.{◌≡◌, ℕ, Bool, true, false, ◌+◌, ◌*◌, ◌<◌, ◌≤◌, List, [], ◌∷◌, ◌++◌, length, max, Some}
 use Rattle.std.proofs.Common.{None, Ok, Err, Option, Result, refl, ap, sym, ◌∙◌, subst, inl, inr, arith, length-append}
 use Rattle.std.specs.Prelude.{◌==◌, nat_le, slice_get, if◌then◌else◌, Contains}
@@ -10,33 +11,39 @@ use Rattle.std.proofs.lemmas.Option.{slice_get_within, slice_get-get_or, same_So
 use Rattle.std.proofs.lemmas.Bool.{cond-true, cond-false, eq-eqb, ne_eqb, cases_lt, cases_eq, cases_Bool, leb-false}
 use Rattle.hlc_clock.specs.NextStamp.{expected_stamp, next_stamp, greatest, is_carried}
 use Rattle.hlc_clock.specs.declared.clock.ClockFault.{ClockFault}
-use Rattle.hlc_node.specs.declared.{item.Item.Item, item.Body.Body, item.Message.Message, node.NodeFault.NodeFault}
+use Rattle.hlc_clock.specs.declared.clock.ClockFault.TheVariants as clock_fault
+use Rattle.hlc_node.specs.declared.item.Item.{Item}
+use Rattle.hlc_node.specs.declared.item.Body.{Body}
 use Rattle.hlc_node.specs.declared.item.Body.TheVariants.{Write as a_write, Report as a_report, Retire as a_retire}
 use Rattle.hlc_rows.specs.declared.limits.BodyFault.{BodyFault}
+use Rattle.hlc_node.specs.declared.item.Message.{Message}
 use Rattle.hlc_node.specs.declared.node.NodeFault.TheVariants.{NumbersSpent, Retired as retired_node}
 use Rattle.hlc_node.specs.Items.{an_item, body_refusal, retires}
 use Rattle.hlc_node.specs.Node.{NodeView, clocked, unless_retired, unless_bad, expected_issue}
-use Rattle.hlc_events.specs.declared.{fault.CoreFault.CoreFault, event.CoreEvent.CoreEvent}
-use Rattle.hlc_core.specs.{declared.reply.CoreReply.CoreReply, History.past_of}
-use Rattle.hlc_core.specs.Past.{Step, Took, Joined as JoinedOf, numbered, retired, count, head, item_refusal, Opened}
+use Rattle.hlc_events.specs.declared.fault.CoreFault.{CoreFault}
+use Rattle.hlc_events.specs.declared.event.CoreEvent.{CoreEvent}
+use Rattle.hlc_core.specs.declared.reply.CoreReply.{CoreReply}
+use Rattle.hlc_core.specs.Past.{Step, Took, Joined as JoinedOf, numbered, retired, count, head, Opened}
 use Rattle.hlc_core.specs.Past.{Closed as ClosedOf, Vacuumed as VacuumedOf, floor}
 use Rattle.hlc_core.proofs.PastLemmas.{inside, on_link as on_its_link, admissible, floor-le}
+use Rattle.hlc_core.specs.History.{past_of}
 use Rattle.hlc_world_event.specs.declared.event.Event.TheVariants.{Write, Delete, Report, Retire, Join, Send, Receive}
 use Rattle.hlc_world_event.specs.declared.event.Event.TheVariants.{Observe, Deliver, OpenAt, OpenFloor, Read}
 use Rattle.hlc_world_event.specs.declared.event.Event.TheVariants.{List as ListAll, Close, Vacuum}
-use Rattle.hlc_world.specs.{declared.reply.Reply.Reply, Floor.IsComplete, Floor.IsBelowClocks}
+use Rattle.hlc_world.specs.declared.reply.Reply.{Reply}
 use Rattle.hlc_world.specs.declared.reply.Reply.TheVariants.{Stamped, Joined, Sent, Received, Observed, Accepted}
 use Rattle.hlc_world.specs.declared.reply.Reply.TheVariants.{Snapshot, Answer, Listing, Closed, Vacuumed}
 use Rattle.hlc_values.specs.declared.bounds.TheConstants.{NUMBER_BOUND}
-use Rattle.hlc_world.specs.declared.refusal.Refusal.{Refusal, TheVariants.NoNode, TheVariants.Node as at_node}
+use Rattle.hlc_world.specs.declared.refusal.Refusal.{Refusal}
+use Rattle.hlc_world.specs.declared.refusal.Refusal.TheVariants.{NoNode, Node as at_node}
 use Rattle.hlc_world.specs.Schedule.{with_item, stamp_or, issued, has_retired, last_stamp, node_of, ends}
 use Rattle.hlc_world_event.specs.Events.{Event}
 use Rattle.hlc_world.specs.Store.{accepting, accepted, paired, with_entry, store_history, core_past}
 use Rattle.hlc_world.specs.Expected.{core_refusal, on_link, on_node, deliver_refusal, IsReceived, IsObserved, MayReply}
 use Rattle.hlc_world.specs.Expected.{IsLegal}
 use Rattle.hlc_world.proofs.Lists.{push-cases}
+use Rattle.hlc_world.specs.Floor.{IsComplete, IsBelowClocks}
 use Rattle.hlc_values.proofs.MemberLemmas.{Contains-first, Contains-rest}
-use Rattle.hlc_clock.specs.declared.clock.ClockFault.TheVariants as clock_fault
 
 -- an item of a node fits the node's last stamp, its count and its head; it was accepted if its number is below that
 -- count, and is the last one if it retires the node
@@ -57,17 +64,7 @@ refit : {many last count top n k long many' last' count' top' long' : ℕ} {over
     → (count' ≤ k → top' < item.stamp) → (k < count' → Contains past' (Took item))
     → (retires item.body ≡ true → (k + 1 ≡ long') × (over' ≡ true))
     → FitsItsNode many' last' count' top' n k long' over' past' item
-refit i inside low ahead taken ending = record {
-  inside = inside;
-  node = i.node;
-  number = i.number;
-  left = i.left;
-  body = i.body;
-  low = low;
-  ahead = ahead;
-  taken = taken;
-  ending = ending;
-}
+refit i inside low ahead taken ending = grind (arith, common_steps)
 
 -- the items that a node issued fit together, and fit what was accepted of them
 pub record Fits (many last count top n : ℕ) (over out : Bool) (items : List Item) (past : List Step) : Type 0 where
@@ -258,12 +255,7 @@ issue-by : (was_last : Bool) (body : Option BodyFault) (last next reading st : �
 issue-by true body last next reading st h = absurd (cc)
 issue-by false (Some fault) last next reading st h = absurd (cc)
 issue-by false None last next reading st h =
-    elim (cases_eq next NUMBER_BOUND) [
-      | inl spent ↦ absurd (let e : ◌≡◌ {A = Result ℕ NodeFault} (Err NumbersSpent) (Ok st) =
-          sym (cond-true _ _ _ (eq-eqb _ _ spent)) ∙ h in cc)
-      | inr left ↦
-          (refl, left, stamp-rises last reading st (clocked-ok _ st (sym (cond-false _ _ _ (ne_eqb _ _ left)) ∙ h)))
-    ]
+    grind (arith, common_steps, cases_eq, cond-true, eq-eqb, stamp-rises, clocked-ok, cond-false, ne_eqb)
 
 pub issue-ok : (node : NodeView) (body : Body) (reading st : ℕ) → expected_issue node body reading ≡ Ok st
     → (body_refusal body ≡ None) × (node.next ≡ NUMBER_BOUND → ⊥) × (node.last < st)
@@ -277,12 +269,7 @@ no-core (Some fault) h = absurd (cc)
 -- an item whose delivery is not refused is the next one
 pub delivered : (past : List Step) (p k : ℕ) (item : Item) → item.node ≡ p → item.number ≡ k
     → deliver_refusal past (Some item) ≡ None → k ≡ count p past
-delivered past p k item own number none =
-    let accepts : item_refusal past item ≡ None = no-core (item_refusal past item) none in
-    let link = sym (on_its_link past item (inside past item accepts)) ∙ accepts in
-    sym number
-    ∙ (admissible (retired item.node past) (count item.node past) (head item.node past) item link).number
-    ∙ ap (λ j. count j past) own
+delivered past p k item own number none = grind (arith, common_steps, no-core, on_its_link, inside, admissible)
 
 -- the core's past after a delivery
 abbrev pub past_taken : ℕ → ℕ → ℕ → Option Item → List (CoreEvent × CoreReply) → List Step
@@ -385,14 +372,7 @@ orderly-entry nodes s _ _ allowed h = h
 
 -- every legal schedule is orderly
 pub orderly : (nodes : ℕ) (s : List (Event × Reply)) → IsLegal nodes s → IsOrderly nodes s
-orderly nodes [] legal = λ n. record {
-  each = λ k item at. absurd (cc);
-  rising = λ j k a b lt at. absurd (cc);
-  head_low = omega arith;
-  fresh = λ far. refl;
-  few = omega arith;
-  all_taken = λ out. absurd (cc);
-}
+orderly nodes [] legal = grind (arith, common_steps)
 orderly nodes (entry ∷ s) legal = orderly-entry nodes s entry.0 entry.1 legal.0 (orderly nodes s legal.1)
 
 -- every issued item at or below the floor was accepted

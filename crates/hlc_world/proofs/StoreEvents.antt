@@ -1,19 +1,26 @@
 -- A delivery gets the expected reply: the store refuses an issued item only because of its number, or because its
 -- node's last item was accepted, as the schedule says. A node that joins has no items and no stamp, and its clock
 -- starts at the floor.
-use Rattle.std.proofs.lemmas.{Option.same_Some, Bool.lt-leb, Bool.eq-eqb, Bool.ne_eqb, Bool.cases_eq}
+use Rattle.std.proofs.lemmas.Grind.{common_steps}
+use Rattle.std.proofs.lemmas.Option.{same_Some}
 use Rattle.std.proofs.Common.{◌≡◌, ℕ, ◌<◌, List, ◌∷◌, length, Some, None, Option, Ok, Err, Result, refl, ap, sym, ◌∙◌}
 use Rattle.std.proofs.Common.{subst, inl, inr, arith, ◌+◌, Bool, false, [], ◌++◌, length-append, true, ◌≤◌}
 use Rattle.std.specs.Prelude.{MatchResult, slice_get}
-use Rattle.hlc_node.specs.{declared.item.Item.Item, Items.retires, Items.body_refusal}
+use Rattle.std.proofs.lemmas.Bool.{lt-leb, eq-eqb, ne_eqb, cases_eq}
+use Rattle.hlc_node.specs.declared.item.Item.{Item}
+use Rattle.hlc_node.specs.Items.{retires, body_refusal}
 use Rattle.hlc_events.specs.declared.fault.CoreFault.{CoreFault}
+use Rattle.hlc_intake.specs.declared.intake.LinkFault.TheVariants as link_fault
+use Rattle.hlc_events.specs.declared.fault.CoreFault.TheVariants as core_fault
 use Rattle.hlc_heads.specs.Heads.{AcceptedView}
-use Rattle.hlc_core.specs.Past.{Took, numbered, retired, count, head, item_refusal, Joined as JoinedOf, floor}
-use Rattle.hlc_core.specs.Past.{join_refusal, link_refusal}
+use Rattle.hlc_core.specs.Past.{Took, numbered, retired, count, item_refusal, Joined as JoinedOf, floor, join_refusal}
+use Rattle.hlc_core.specs.Past.{link_refusal}
 use Rattle.hlc_values.specs.declared.bounds.TheConstants.{NUMBER_BOUND}
-use Rattle.hlc_core.specs.{StoreView.StoreView, StoreView.Represents as CoreRepresents, Calls.IsRefusal, Calls.IsWrite}
+use Rattle.hlc_core.specs.StoreView.{StoreView, Represents as CoreRepresents}
+use Rattle.hlc_core.specs.Calls.{IsRefusal, IsWrite}
 use Rattle.hlc_world_event.specs.declared.event.Event.TheVariants.{Deliver, Join}
-use Rattle.hlc_world.specs.declared.reply.Reply.{Reply, TheVariants.Accepted, TheVariants.Refused, TheVariants.Joined}
+use Rattle.hlc_world.specs.declared.reply.Reply.{Reply}
+use Rattle.hlc_world.specs.declared.reply.Reply.TheVariants.{Accepted, Refused, Joined}
 use Rattle.hlc_world.specs.declared.refusal.Refusal.TheVariants.{NoMemory}
 use Rattle.hlc_world.specs.Schedule.{item_at, item_made, with_item, ends, issued, has_retired}
 use Rattle.hlc_world_event.specs.Events.{Event}
@@ -21,32 +28,21 @@ use Rattle.hlc_world.specs.Store.{accepting, accepted, paired, store_history, co
 use Rattle.hlc_world.specs.Expected.{of_core, core_refusal, on_link, deliver_refusal, expected_refusal, number_refusal}
 use Rattle.hlc_world.specs.Expected.{GoesByNumber, IsExpectedOfStore, StoreMayRunOut, IsLegal}
 use Rattle.hlc_world.specs.WorldView.{IssuerView, WorldView, Represents}
-use Rattle.hlc_world.proofs.{Nodes.stays, Nodes.on_link-inside, Nodes.a_node, Lists.get-append_left, Lists.get-push}
+use Rattle.hlc_world.proofs.Nodes.{stays, on_link-inside, a_node}
 use Rattle.hlc_world.proofs.Orderly.{IsOrderly, orderly, past_taken}
-use Rattle.hlc_intake.specs.declared.intake.LinkFault.TheVariants as link_fault
-use Rattle.hlc_events.specs.declared.fault.CoreFault.TheVariants as core_fault
+use Rattle.hlc_world.proofs.Lists.{get-append_left, get-push}
 
 refused-by : (was_last : Bool) (next top k : ℕ) (item : Item) → item.number ≡ k → (k ≡ NUMBER_BOUND → ⊥)
     → body_refusal item.body ≡ None → (next ≤ k → top < item.stamp)
     → core_refusal (link_refusal was_last next top item) ≡ number_refusal (Some item) was_last k next
 refused-by true next top k item is left body ahead = refl
-refused-by false next top k item is left body ahead =
-    elim (cases_eq k next) [
-      | inl same ↦
-          let up : top < item.stamp = ahead (omega arith) in
-          rw (is, eq-eqb k next same, ne_eqb k NUMBER_BOUND left, lt-leb item.stamp top up, body) refl
-      | inr other ↦ rw (is, ne_eqb k next other) refl
-    ]
+refused-by false next top k item is left body ahead = grind (arith, common_steps, cases_eq, eq-eqb, ne_eqb, lt-leb)
 
 -- the core refuses an issued item only because of its number, or because its node's last item was accepted
 by-number : (n : ℕ) (s : List (Event × Reply)) (p k : ℕ) (item : Item) → IsOrderly n s → item_at p k s ≡ Some item
     → core_refusal (item_refusal (core_past n s) item)
     ≡ number_refusal (Some item) (retired p (core_past n s)) k (count p (core_past n s))
-by-number n s p k item o at =
-    let i = (o p).each k item at in
-    rw (i.node, lt-leb (numbered (core_past n s)) p i.inside)
-    (refused-by (retired p (core_past n s)) (count p (core_past n s)) (head p (core_past n s)) k item i.number i.left
-    i.body i.ahead)
+by-number n s p k item o at = grind (arith, common_steps, lt-leb, refused-by)
 
 found-number : (n : ℕ) (s : List (Event × Reply)) (p k : ℕ) (o : Option Item) → IsOrderly n s → item_at p k s ≡ o
     → deliver_refusal (core_past n s) o ≡ number_refusal o (retired p (core_past n s)) k (count p (core_past n s))
@@ -139,11 +135,7 @@ not-empty (y ∷ ys) x e = absurd (cc)
 item-ends : (n : ℕ) (o : Option Item) (xs : List Item) (before : Bool) → (xs ≡ [] → before ≡ false)
     → with_item n o xs ≡ [] → ends n o before ≡ false
 item-ends n None xs before h e = h e
-item-ends n (Some item) xs before h e =
-    elim (cases_eq item.node n) [
-      | inl same ↦ absurd (not-empty xs item (rw (eq-eqb item.node n same) at e))
-      | inr other ↦ rw (ne_eqb item.node n other) (h (rw (ne_eqb item.node n other) at e))
-    ]
+item-ends n (Some item) xs before h e = grind (arith, common_steps, cases_eq, not-empty, eq-eqb, ne_eqb)
 
 -- a node that issued nothing has not retired
 not-retired : (n : ℕ) (s : List (Event × Reply)) → issued n s ≡ [] → has_retired n s ≡ false

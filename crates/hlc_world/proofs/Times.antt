@@ -3,15 +3,17 @@
 -- the last id before, so it is assigned once. So an open snapshot is closed under happened-before: what happened before
 -- an item that is read there has a lesser stamp, so it is at or below the snapshot's stamp, which is not above the
 -- floor; and what is at or below the floor was accepted.
+use Rattle.std.proofs.lemmas.Grind.{common_steps}
+use Rattle.std.proofs.lemmas.Option.{same_Some, slice_get_within}
 use Rattle.std.proofs.Common.{◌≡◌, ℕ, ◌<◌, ◌≤◌, ◌⊎◌, List, [], ◌∷◌, ◌++◌, length, Some, None, Option, refl, ap, sym}
-use Rattle.std.proofs.Common.{◌∙◌, subst, inl, inr, arith, ◌+◌, slice_get, ◌==◌, if◌then◌else◌, All, Contains, eq-eqb}
-use Rattle.std.proofs.Common.{ne_eqb}
-use Rattle.std.proofs.lemmas.{Option.same_Some, Option.slice_get_within, Bool.cond-true, Bool.cases_eq, Bool.cond-false}
-use Rattle.hlc_node.specs.declared.item.{Message.Message, Item.Item}
+use Rattle.std.proofs.Common.{◌∙◌, subst, inl, inr, arith, ◌+◌}
+use Rattle.std.specs.Prelude.{slice_get, ◌==◌, if◌then◌else◌, All, Contains}
+use Rattle.std.proofs.lemmas.Bool.{cond-true, eq-eqb, cases_eq, cond-false, ne_eqb}
+use Rattle.hlc_node.specs.declared.item.Message.{Message}
 use Rattle.hlc_node.specs.declared.item.Body.TheVariants.{Write as a_write, Report as a_report, Retire as a_retire}
 use Rattle.hlc_world_event.specs.declared.event.Event.TheVariants.{Write, Delete, Report, Retire, Join, Send, Receive}
 use Rattle.hlc_world_event.specs.declared.event.Event.TheVariants.{Observe, OpenAt, OpenFloor}
-use Rattle.hlc_world.specs.{declared.reply.Reply.Reply, Floor.IsIssuedAt, Floor.IsClosed}
+use Rattle.hlc_world.specs.declared.reply.Reply.{Reply}
 use Rattle.hlc_world.specs.declared.reply.Reply.TheVariants.{Stamped, Joined, Sent, Received, Observed, Snapshot}
 use Rattle.hlc_world.specs.Schedule.{stamping_of, mark_of, stamp_or, message_made, with_message, last_stamp, sent}
 use Rattle.hlc_world.specs.Schedule.{message_at, node_of, item_made, with_item, issued}
@@ -19,28 +21,29 @@ use Rattle.hlc_world_event.specs.Events.{Event}
 use Rattle.hlc_world.specs.Expected.{IsReceived, MayReply, IsLegal, IsObserved}
 use Rattle.hlc_world.specs.Before.{entry_at, write_stamp, IsStamped, HappenedBefore, on_node, on_message}
 use Rattle.hlc_world.specs.Before.{on_observation, through}
-use Rattle.hlc_world.proofs.{Lists.get-append_left, Lists.get-push, Histories.legal-past}
+use Rattle.hlc_world.proofs.Lists.{get-append_left, get-push}
 use Rattle.hlc_world.proofs.Orderly.{IsOrderly, orderly, issue-ok, stamp-rises, sight-rises, received-rises}
 use Rattle.hlc_world.proofs.Orderly.{observed-rises, complete}
 use Rattle.std.proofs.lemmas.List.Elements.{All-head, All-tail, Contains-append_left, Contains-push}
-use Rattle.hlc_snapshot.specs.{declared.snapshot.Snapshot.Snapshot as OpenSnapshot, RegistryView.stamp_in}
+use Rattle.hlc_snapshot.specs.declared.snapshot.Snapshot.{Snapshot as OpenSnapshot}
+use Rattle.hlc_snapshot.specs.RegistryView.{stamp_in}
 use Rattle.hlc_snapshot.proofs.RegisterLemmas.{stamp_in-push_cases, stamp_in-without_itself, stamp_in-without_other}
 use Rattle.hlc_snapshot.proofs.RegisterLemmas.{stamp_in-miss, stamp_in-all}
 use Rattle.hlc_events.specs.declared.event.CoreEvent.{CoreEvent}
-use Rattle.hlc_core.specs.{declared.reply.CoreReply.CoreReply, History.step_of, History.with_step, History.past_of}
+use Rattle.hlc_core.specs.declared.reply.CoreReply.{CoreReply}
+use Rattle.hlc_core.specs.History.{step_of, with_step, past_of}
 use Rattle.hlc_core.specs.Past.{Step, Began, Opened, Closed as ClosedOf, Joined as JoinedOf, last_id, open_snapshots}
 use Rattle.hlc_core.specs.Past.{stamp_of, IsLegal as IsLegalPast, floor}
 use Rattle.hlc_world.specs.Store.{share, with_entry, store_history, core_past}
+use Rattle.hlc_world.proofs.Histories.{legal-past}
+use Rattle.hlc_node.specs.declared.item.Item.{Item}
 use Rattle.hlc_core.proofs.PastLemmas.{open-low}
+use Rattle.hlc_world.specs.Floor.{IsIssuedAt, IsClosed}
 
 -- an entry is the last one or an earlier one
 pub entry-cases : (entry : Event × Reply) (s : List (Event × Reply)) (i : ℕ) (x : Event × Reply)
     → entry_at (entry ∷ s) i ≡ Some x → ((i ≡ length s) × (entry ≡ x)) ⊎ ((i ≡ length s → ⊥) × (entry_at s i ≡ Some x))
-entry-cases entry s i x h =
-    elim (cases_eq i (length s)) [
-      | inl same ↦ inl (same, same_Some entry x (sym (cond-true _ _ _ (eq-eqb _ _ same)) ∙ h))
-      | inr other ↦ inr (other, sym (cond-false _ _ _ (ne_eqb _ _ other)) ∙ h)
-    ]
+entry-cases entry s i x h = grind (arith, common_steps, cases_eq, same_Some, cond-true, eq-eqb, cond-false, ne_eqb)
 
 pub entry-inside : (s : List (Event × Reply)) (i : ℕ) (x : Event × Reply) → entry_at s i ≡ Some x → i < length s
 entry-inside [] i x h = absurd (cc)
@@ -210,11 +213,7 @@ mark-stamped _ reply p h = h
 -- a clock is never set back: that of a node that joins was 0
 mark-new : (nodes : ℕ) (s : List (Event × Reply)) (event : Event) (reply : Reply) (p : ℕ × ℕ)
     → MayReply nodes s event reply → IsOrderly nodes s → mark_of event reply ≡ Some p → last_stamp p.0 s ≤ p.1
-mark-new nodes s Join (Joined node start) p allowed ordered h =
-    let next = allowed.1.0 in
-    let e : last_stamp node s ≡ 0 = (ordered node).fresh (omega (arith, next)) in
-    let low : last_stamp node s ≤ start = omega arith in
-    subst (λ q. last_stamp q.0 s ≤ q.1) (same_Some (node, start) p h) low
+mark-new nodes s Join (Joined node start) p allowed ordered h = grind (arith, common_steps, same_Some)
 mark-new nodes s event reply p allowed ordered h =
     (let up = stamp-new nodes s event reply p allowed h in omega (arith, up))
 
@@ -301,11 +300,7 @@ written-stamped _ _ a is = absurd (cc)
 
 -- an event has one stamp
 stamp-unique : (s : List (Event × Reply)) (i n a m b : ℕ) → IsStamped s i n a → IsStamped s i m b → a ≡ b
-stamp-unique s i n a m b h k =
-    let e : Some h.entry ≡ Some k.entry = sym h.at ∙ k.at in
-    let f : ◌≡◌ {A = ℕ × ℕ} (n, a) (m, b) =
-    same_Some (n, a) (m, b) (sym h.mark ∙ ap (λ z. stamping_of z.0 z.1) (same_Some _ _ e) ∙ k.mark) in
-    ap (λ z. z.1) f
+stamp-unique s i n a m b h k = grind (arith, common_steps, same_Some)
 
 -- both events have stamps, which rise
 ends : (nodes : ℕ) (s : List (Event × Reply)) → IsLegal nodes s → {i j : ℕ} → HappenedBefore s i j
@@ -372,11 +367,7 @@ issued-stamped s turn item h =
 with_item-keeps : (n : ℕ) (o : Option Item) (items : List Item) (item : Item) → Contains items item
     → Contains (with_item n o items) item
 with_item-keeps n None items item m = m
-with_item-keeps n (Some x) items item m =
-    elim (cases_eq x.node n) [
-      | inl same ↦ rw (eq-eqb x.node n same) (Contains-append_left items (x ∷ []) item m)
-      | inr other ↦ rw (ne_eqb x.node n other) m
-    ]
+with_item-keeps n (Some x) items item m = grind (arith, common_steps, cases_eq, eq-eqb, Contains-append_left, ne_eqb)
 
 -- it is one of the node's issued items
 issued-found : (nodes : ℕ) (s : List (Event × Reply)) (turn : ℕ) (item : Item) → IsLegal nodes s
