@@ -1,15 +1,12 @@
 -- The halves of a checkpoint begin a run, and so does a machine of one of its nodes, which is in both.
-use Rattle.std.proofs.Common.{◌≡◌, ℕ, zero, suc, ◌+◌, ◌<◌, ◌≤◌, Bool, true, false}
-use Rattle.std.proofs.Common.{List, [], ◌∷◌, Some, length, All, refl, ap, sym}
-use Rattle.std.proofs.Common.{◌∙◌, subst, arith, append-nil}
-use Rattle.std.specs.Prelude.{not, slice_get, if◌then◌else◌}
+use Rattle.std.proofs.Common.{◌≡◌, ℕ, zero, suc, ◌+◌, ◌<◌, ◌≤◌, Bool, true, false, List, [], ◌∷◌, Some, length, All}
+use Rattle.std.proofs.Common.{refl, ap, sym, ◌∙◌, subst, arith, append-nil, not, slice_get, if◌then◌else◌}
 use Rattle.std.proofs.lemmas.List.Elements.{All-weaker, filter_passes}
 use Rattle.std.proofs.lemmas.Option.{get_or_from_slice_get, slice_get_within}
-use Rattle.hlc.specs.Node.{Row, NodeView}
+use Rattle.hlc.specs.{Node.Row, Node.NodeView, Store.Step, Store.StoreView, Store.Began, Store.numbered, Store.count}
+use Rattle.hlc.specs.{Store.retired, Store.rows_of_keys, Store.Represents as CoreRepresents}
 use Rattle.hlc.specs.Ranges.{Layout, RangesView, DivisionView, MachineView, Represents, ByKeys, store_of, IsMachineOf}
 use Rattle.hlc.specs.Ranges.{layout_from, AreStates, IsFirstNode, IsFirstMachine, ArePlaced}
-use Rattle.hlc.specs.Store.{Step, StoreView, Began, numbered, count, retired, rows_of_keys}
-use Rattle.hlc.specs.Store.{Represents as CoreRepresents}
 use Rattle.hlc_intake.specs.IntakeView.{IntakeView}
 use Rattle.hlc_heads.specs.Heads.{a_link}
 use Rattle.hlc_core.specs.Past.{link_in}

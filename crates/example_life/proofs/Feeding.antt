@@ -1,13 +1,10 @@
 -- The run goes on with each item that the machine issues and a range accepts, and with a node that joins both.
 use Rattle.std.proofs.Common.{◌≡◌, ℕ, ◌<◌, List, [], ◌∷◌, ◌++◌, Some, length, get_or, refl, ap, sym, ◌∙◌, subst, arith}
-use Rattle.std.proofs.Common.{append_assoc, false, None}
-use Rattle.std.specs.Prelude.{◌≢◌, Contains, slice_get}
-use Rattle.std.proofs.lemmas.Bool.{cond-true, eq-eqb}
-use Rattle.std.proofs.lemmas.Option.{slice_get-get_or}
-use Rattle.hlc.specs.Node.{Item, NodeView, Row}
-use Rattle.hlc.specs.Ranges.{Layout, Turn, Issued, Stepped, RangesView, MachineView, Represents, IsMachineOf}
-use Rattle.hlc.specs.Ranges.{issued, past_of, start_of, IsIssuedStep, each_stepped, join_step}
-use Rattle.hlc.specs.Store.{Step, Took, begun, numbered}
+use Rattle.std.proofs.Common.{append_assoc, false, None, ◌≢◌, Contains, slice_get, eq-eqb}
+use Rattle.std.proofs.lemmas.{Bool.cond-true, Option.slice_get-get_or}
+use Rattle.hlc.specs.{Node.Item, Node.NodeView, Node.Row, Store.Step, Store.Took, Store.begun, Store.numbered}
+use Rattle.hlc.specs.Ranges.{Layout, Turn, Issued, Stepped, RangesView, MachineView, Represents, IsMachineOf, issued}
+use Rattle.hlc.specs.Ranges.{past_of, start_of, IsIssuedStep, each_stepped, join_step}
 use Rattle.hlc_core.specs.Past.{item_rows}
 use Rattle.hlc_ranges.specs.Run.{begun_writes, issued_since}
 use Rattle.hlc_values.proofs.MemberLemmas.{Contains-first}

@@ -1,22 +1,18 @@
 -- Two ranges answer together as all that was issued, and that answers as the rows of the divided checkpoint and what
 -- was written since: a key's rows are all in its half.
-use Rattle.std.proofs.Common.{◌≡◌, ℕ, ◌≤◌, ◌⊎◌, Bool, true, false, List, [], ◌∷◌, ◌++◌, Option, None, All}
-use Rattle.std.proofs.Common.{refl, ap, sym}
-use Rattle.std.proofs.Common.{◌∙◌, subst, inl, inr, cond, append-nil}
-use Rattle.std.specs.Prelude.{◌≢◌, not, filter, if◌then◌else◌}
+use Rattle.std.proofs.Common.{◌≡◌, ℕ, ◌≤◌, ◌⊎◌, Bool, true, false, List, [], ◌∷◌, ◌++◌, Option, None, All, refl, ap}
+use Rattle.std.proofs.Common.{sym, ◌∙◌, subst, inl, inr, cond, append-nil, ◌≢◌, not, filter, if◌then◌else◌}
 use Rattle.std.proofs.lemmas.Bool.{both_ways, cond-true, cond-false}
 use Rattle.std.proofs.lemmas.List.Elements.{All-contains, filter-append}
-use Rattle.hlc.specs.Node.{Row, answer}
-use Rattle.hlc.specs.Ranges.{Layout, Turn, RangesView, MachineView, past_of, issued_writes, ByKeys}
-use Rattle.hlc.specs.Ranges.{store_of, IsConsistent}
-use Rattle.hlc.specs.Store.{StoreView, Represents, rows_of_keys, writes}
+use Rattle.hlc.specs.{Node.Row, Node.answer, Store.StoreView, Store.Represents, Store.rows_of_keys, Store.writes}
+use Rattle.hlc.specs.Ranges.{Layout, Turn, RangesView, MachineView, past_of, issued_writes, ByKeys, store_of}
+use Rattle.hlc.specs.Ranges.{IsConsistent}
 use Rattle.hlc_intake.specs.IntakeView.{IntakeView}
 use Rattle.hlc_rows.specs.Rows.{newest}
 use Rattle.hlc_rows.proofs.NewestLemmas.{newest_after_others, answer_none}
 use Rattle.hlc_core.specs.StoreView.{with_rows}
 use Rattle.hlc_core.proofs.PartLemmas.{answer-of_keys}
-use Rattle.hlc_split.specs.Split.{is_under, is_from}
-use Rattle.hlc_split.specs.Merge.{AreDivided, AreJoinable, is_of_left}
+use Rattle.hlc_split.specs.{Split.is_under, Split.is_from, Merge.AreDivided, Merge.AreJoinable, Merge.is_of_left}
 use Rattle.example_life.specs.Life.{HaveGoneOn, AnswersAs, halves, with_links}
 
 kept-twice : {X : Type 0} (p : X → Bool) (xs : List X) → filter p (filter p xs) ≡ filter p xs

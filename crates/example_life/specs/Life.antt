@@ -1,9 +1,8 @@
 -- What took place in the life of a store, in the words of its rows: it was divided at a key, written to, and joined
 -- into one again.
 use Rattle.std.specs.Prelude.{◌≡◌, ℕ, ◌≤◌, ◌||◌, List, [], ◌∷◌, ◌++◌, Some, false, max, slice_get}
-use Rattle.hlc.specs.Node.{Row, AWrite, NodeView, answer}
+use Rattle.hlc.specs.{Node.Row, Node.AWrite, Node.NodeView, Node.answer, Store.StoreView, Store.rows_of_keys}
 use Rattle.hlc.specs.Ranges.{Layout, Turn, issued_writes, ByKeys, RangesView, Represents, MachineView, IsMachineOf}
-use Rattle.hlc.specs.Store.{StoreView, rows_of_keys}
 use Rattle.hlc_intake.specs.IntakeView.{IntakeView}
 use Rattle.hlc_checkpoint.specs.StoreView.{greatest_head}
 use Rattle.hlc_split.specs.Split.{is_under, is_from}

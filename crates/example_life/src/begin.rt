@@ -1,7 +1,6 @@
 //! A store from bytes, and its halves as two ranges that a machine writes to.
 ghost use Rattle.std.specs.Prelude.{◌≡◌, ℕ, [], ◌∷◌, List, IfOk};
-ghost use Rattle.hlc.specs.Ranges.{ByKeys};
-ghost use Rattle.hlc.specs.Store.{Step, Began, Represents};
+ghost use Rattle.hlc.specs.{Ranges.ByKeys, Store.Step, Store.Began, Store.Represents};
 ghost use Rattle.hlc_checkpoint.specs.Checkpoint.{IsCheckpoint};
 ghost use Rattle.hlc_saved.specs.Saved.{AreOf};
 ghost use Rattle.example_life.specs.Life.{GoesOnFrom, HaveGoneOn};

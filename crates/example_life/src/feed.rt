@@ -1,7 +1,6 @@
 //! How the items of a machine reach the ranges, and how a node joins them.
 ghost use Rattle.std.specs.Prelude.{◌≡◌, [], ◌∷◌, ◌++◌, ℕ, List, IfOk};
-ghost use Rattle.hlc.specs.Node.{Row as ARow};
-ghost use Rattle.hlc.specs.Ranges.{MachineView};
+ghost use Rattle.hlc.specs.{Node.Row as ARow, Ranges.MachineView};
 ghost use Rattle.example_life.specs.Life.{IsRowOf, HaveGoneOn};
 
 use crate::stopped::Stopped;

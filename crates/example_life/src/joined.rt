@@ -1,7 +1,6 @@
 //! The two ranges as one store again, at their cut.
 ghost use Rattle.std.specs.Prelude.{◌≡◌, ◌++◌, ℕ, List, IfOk};
-ghost use Rattle.hlc.specs.Node.{Row as ARow};
-ghost use Rattle.hlc.specs.Ranges.{MachineView};
+ghost use Rattle.hlc.specs.{Node.Row as ARow, Ranges.MachineView};
 ghost use Rattle.hlc_intake.specs.IntakeView.{IntakeView};
 ghost use Rattle.example_life.specs.Life.{AnswersAs, HaveGoneOn, further, with_links};
 

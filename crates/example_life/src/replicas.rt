@@ -4,8 +4,7 @@ ghost use Rattle.hlc.specs.Node.{Item as AnItem, answer};
 ghost use Rattle.hlc.specs.Store.{Step, Took, Opened, Closed, Represents, floor, horizon, last_id, writes};
 ghost use Rattle.hlc.specs.Store.{without_drops};
 ghost use Rattle.hlc_saved.specs.Saved.{BytesRepresent};
-ghost use Rattle.hlc_log.specs.Log.{log_bytes, with_records};
-ghost use Rattle.hlc_log.specs.Record.{record_bytes};
+ghost use Rattle.hlc_log.specs.{Log.log_bytes, Log.with_records, Record.record_bytes};
 ghost use Rattle.hlc_log.specs.declared.record.Record.{Record as ARecord};
 
 use crate::stopped::Stopped;

@@ -1,31 +1,21 @@
 -- The world goes on representing its schedule: new nodes, the events of nodes, and events that change nothing.
-use Rattle.std.proofs.lemmas.Grind.{common_steps}
-use Rattle.std.proofs.lemmas.Option.{same_Some, slice_get-map}
 use Rattle.std.proofs.Common.{◌≡◌, ℕ, zero, suc, ◌<◌, Bool, true, false, List, [], ◌∷◌, ◌++◌, length, Some, None, Ok}
 use Rattle.std.proofs.Common.{Err, Option, Result, refl, ap, sym, ◌∙◌, subst, inl, inr, arith, length-set}
-use Rattle.std.proofs.Common.{length-append, option_map}
-use Rattle.std.specs.Prelude.{slice_get, slice_set, if◌then◌else◌}
-use Rattle.std.proofs.lemmas.Bool.{cond-false, eq-eqb, ne_eqb, lt-leb, cases_eq}
-use Rattle.hlc_clock.specs.NextStamp.{expected_stamp}
-use Rattle.hlc_clock.specs.declared.clock.ClockFault.{ClockFault}
-use Rattle.hlc_node.specs.declared.item.Item.{Item}
-use Rattle.hlc_node.specs.declared.item.Message.{Message}
-use Rattle.hlc_node.specs.declared.item.Body.{Body}
-use Rattle.hlc_node.specs.declared.node.NodeFault.{NodeFault}
+use Rattle.std.proofs.Common.{length-append, option_map, slice_get, slice_set, if◌then◌else◌, eq-eqb, ne_eqb}
+use Rattle.std.proofs.lemmas.{Grind.common_steps, List.map-append, List.length-map}
+use Rattle.std.proofs.lemmas.{Option.same_Some, Option.slice_get-map, Bool.cond-false, Bool.lt-leb, Bool.cases_eq}
+use Rattle.hlc_clock.specs.{NextStamp.expected_stamp, declared.clock.ClockFault.ClockFault}
+use Rattle.hlc_node.specs.declared.item.{Item.Item, Body.Body, Message.Message}
+use Rattle.hlc_node.specs.declared.node.NodeFault.{NodeFault, TheVariants.Retired}
 use Rattle.hlc_node.specs.Items.{an_item, retires}
 use Rattle.hlc_node.specs.Node.{NodeView, clocked, unless_retired, expected_event, expected_issue, stamped}
-use Rattle.hlc_core.specs.declared.reply.CoreReply.{CoreReply}
+use Rattle.hlc_core.specs.{declared.reply.CoreReply.CoreReply, History.past_of}
 use Rattle.hlc_core.specs.Past.{Step, Started, numbered, stamp_of}
-use Rattle.hlc_core.specs.History.{past_of}
 use Rattle.hlc_core.specs.StoreView.{StoreView, Represents as CoreRepresents}
-use Rattle.hlc_world.specs.declared.content.Content.{Content}
-use Rattle.hlc_world.specs.declared.content.Content.TheVariants as contents
+use Rattle.hlc_world.specs.declared.{content.Content.Content, reply.Reply.Reply}
 use Rattle.hlc_world_event.specs.declared.event.Event.TheVariants.{Send, Receive, Observe}
-use Rattle.hlc_world.specs.declared.reply.Reply.{Reply}
 use Rattle.hlc_world.specs.declared.reply.Reply.TheVariants.{Stamped, Sent, Received, Observed, Refused}
-use Rattle.hlc_world.specs.declared.refusal.Refusal.{Refusal}
-use Rattle.hlc_node.specs.declared.node.NodeFault.TheVariants.{Retired}
-use Rattle.hlc_world.specs.declared.refusal.Refusal.TheVariants.{Node as at_node}
+use Rattle.hlc_world.specs.declared.refusal.Refusal.{Refusal, TheVariants.Node as at_node}
 use Rattle.hlc_world.specs.Schedule.{item_made, message_made, mark_of, with_item, ends, stamp_or, body_of, issuing}
 use Rattle.hlc_world.specs.Schedule.{issued, has_retired, last_stamp, sent, message_at, node_of}
 use Rattle.hlc_world_event.specs.Events.{Event}
@@ -33,8 +23,8 @@ use Rattle.hlc_world.specs.Store.{asked, returned, paired, with_entry, store_his
 use Rattle.hlc_world.specs.Expected.{issue_refusal, stamp_refusal, on_link, on_node, expected_refusal}
 use Rattle.hlc_world.specs.Expected.{MayRunOutOfMemory, MayReply}
 use Rattle.hlc_world.specs.WorldView.{IssuerView, WorldView, Represents, fresh_issuers, Issues, Sees}
-use Rattle.std.proofs.lemmas.List.{map-append, length-map}
 use Rattle.hlc_world.proofs.Lists.{get-set_at, get-set_other, set-same, get-append_left, get-push}
+use Rattle.hlc_world.specs.declared.content.Content.TheVariants as contents
 
 -- what is stored for a node
 abbrev pub a_node : ℕ → ℕ → List Item → Bool → IssuerView

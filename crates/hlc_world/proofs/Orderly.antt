@@ -3,47 +3,40 @@
 -- only because of its number. A node's Retire is its last item, and where it was accepted, all of them were. So the
 -- floor is complete: an item at or below it is not above its node's head; and no head is above its node's clock. A node
 -- that has not joined yet has no stamp.
-use Rattle.std.proofs.lemmas.Grind.{common_steps}
+use Rattle.std.proofs.lemmas.{Grind.common_steps, Option.slice_get_within, Option.slice_get-get_or, Option.same_Some}
 use Rattle.std.proofs.Common.{◌≡◌, ℕ, Bool, true, false, ◌+◌, ◌*◌, ◌<◌, ◌≤◌, List, [], ◌∷◌, ◌++◌, length, max, Some}
 use Rattle.std.proofs.Common.{None, Ok, Err, Option, Result, refl, ap, sym, ◌∙◌, subst, inl, inr, arith, length-append}
 use Rattle.std.specs.Prelude.{◌==◌, nat_le, slice_get, if◌then◌else◌, Contains}
-use Rattle.std.proofs.lemmas.Option.{slice_get_within, slice_get-get_or, same_Some}
 use Rattle.std.proofs.lemmas.Bool.{cond-true, cond-false, eq-eqb, ne_eqb, cases_lt, cases_eq, cases_Bool, leb-false}
 use Rattle.hlc_clock.specs.NextStamp.{expected_stamp, next_stamp, greatest, is_carried}
 use Rattle.hlc_clock.specs.declared.clock.ClockFault.{ClockFault}
-use Rattle.hlc_clock.specs.declared.clock.ClockFault.TheVariants as clock_fault
-use Rattle.hlc_node.specs.declared.item.Item.{Item}
-use Rattle.hlc_node.specs.declared.item.Body.{Body}
+use Rattle.hlc_node.specs.declared.item.{Item.Item, Body.Body, Message.Message}
 use Rattle.hlc_node.specs.declared.item.Body.TheVariants.{Write as a_write, Report as a_report, Retire as a_retire}
 use Rattle.hlc_rows.specs.declared.limits.BodyFault.{BodyFault}
-use Rattle.hlc_node.specs.declared.item.Message.{Message}
 use Rattle.hlc_node.specs.declared.node.NodeFault.TheVariants.{NumbersSpent, Retired as retired_node}
 use Rattle.hlc_node.specs.Items.{an_item, body_refusal, retires}
 use Rattle.hlc_node.specs.Node.{NodeView, clocked, unless_retired, unless_bad, expected_issue}
-use Rattle.hlc_events.specs.declared.fault.CoreFault.{CoreFault}
-use Rattle.hlc_events.specs.declared.event.CoreEvent.{CoreEvent}
-use Rattle.hlc_core.specs.declared.reply.CoreReply.{CoreReply}
+use Rattle.hlc_events.specs.declared.{fault.CoreFault.CoreFault, event.CoreEvent.CoreEvent}
+use Rattle.hlc_core.specs.{declared.reply.CoreReply.CoreReply, History.past_of}
 use Rattle.hlc_core.specs.Past.{Step, Took, Joined as JoinedOf, numbered, retired, count, head, Opened}
 use Rattle.hlc_core.specs.Past.{Closed as ClosedOf, Vacuumed as VacuumedOf, floor}
 use Rattle.hlc_core.proofs.PastLemmas.{inside, on_link as on_its_link, admissible, floor-le}
-use Rattle.hlc_core.specs.History.{past_of}
 use Rattle.hlc_world_event.specs.declared.event.Event.TheVariants.{Write, Delete, Report, Retire, Join, Send, Receive}
 use Rattle.hlc_world_event.specs.declared.event.Event.TheVariants.{Observe, Deliver, OpenAt, OpenFloor, Read}
 use Rattle.hlc_world_event.specs.declared.event.Event.TheVariants.{List as ListAll, Close, Vacuum}
-use Rattle.hlc_world.specs.declared.reply.Reply.{Reply}
+use Rattle.hlc_world.specs.{declared.reply.Reply.Reply, Floor.IsComplete, Floor.IsBelowClocks}
 use Rattle.hlc_world.specs.declared.reply.Reply.TheVariants.{Stamped, Joined, Sent, Received, Observed, Accepted}
 use Rattle.hlc_world.specs.declared.reply.Reply.TheVariants.{Snapshot, Answer, Listing, Closed, Vacuumed}
 use Rattle.hlc_values.specs.declared.bounds.TheConstants.{NUMBER_BOUND}
-use Rattle.hlc_world.specs.declared.refusal.Refusal.{Refusal}
-use Rattle.hlc_world.specs.declared.refusal.Refusal.TheVariants.{NoNode, Node as at_node}
+use Rattle.hlc_world.specs.declared.refusal.Refusal.{Refusal, TheVariants.NoNode, TheVariants.Node as at_node}
 use Rattle.hlc_world.specs.Schedule.{with_item, stamp_or, issued, has_retired, last_stamp, node_of, ends}
 use Rattle.hlc_world_event.specs.Events.{Event}
 use Rattle.hlc_world.specs.Store.{accepting, accepted, paired, with_entry, store_history, core_past}
 use Rattle.hlc_world.specs.Expected.{core_refusal, on_link, on_node, deliver_refusal, IsReceived, IsObserved, MayReply}
 use Rattle.hlc_world.specs.Expected.{IsLegal}
 use Rattle.hlc_world.proofs.Lists.{push-cases}
-use Rattle.hlc_world.specs.Floor.{IsComplete, IsBelowClocks}
 use Rattle.hlc_values.proofs.MemberLemmas.{Contains-first, Contains-rest}
+use Rattle.hlc_clock.specs.declared.clock.ClockFault.TheVariants as clock_fault
 
 -- an item of a node fits the node's last stamp, its count and its head; it was accepted if its number is below that
 -- count, and is the last one if it retires the node

@@ -1,41 +1,31 @@
 -- No world replies that a stamp does not rise: no expected refusal says it, since a delivery passes an issued item,
 -- which is refused only because of its number, or because its node's last item was accepted.
 use Rattle.std.proofs.Common.{arith, ◌≡◌, ℕ, Bool, true, false, List, [], ◌∷◌, length, Some, None, Option, Ok, Err}
-use Rattle.std.proofs.Common.{Result}
-use Rattle.std.proofs.lemmas.Grind.{common_steps}
-use Rattle.std.specs.Prelude.{nat_le, nat_lt, if◌then◌else◌, ⊤, ◌==◌}
-use Rattle.hlc_clock.specs.NextStamp.{expected_stamp}
-use Rattle.hlc_clock.specs.declared.clock.ClockFault.{ClockFault}
-use Rattle.hlc_node.specs.declared.item.Item.{Item}
+use Rattle.std.proofs.Common.{Result, nat_le, nat_lt, if◌then◌else◌, ◌==◌}
+use Rattle.std.{proofs.lemmas.Grind.common_steps, specs.Prelude.⊤}
+use Rattle.hlc_clock.specs.{NextStamp.expected_stamp, declared.clock.ClockFault.ClockFault}
+use Rattle.hlc_node.specs.{declared.item.Item.Item, declared.item.Message.Message, Node.expected_issue}
 use Rattle.hlc_node.specs.declared.item.Body.TheVariants.{Write as a_write, Report as a_report, Retire as a_retire}
-use Rattle.hlc_node.specs.declared.item.Message.{Message}
-use Rattle.hlc_node.specs.declared.node.NodeFault.{NodeFault}
-use Rattle.hlc_node.specs.declared.node.NodeFault.TheVariants.{Retired}
-use Rattle.hlc_node.specs.Node.{expected_issue}
-use Rattle.hlc_heads.specs.declared.heads.TheConstants.{MAX_NODES}
+use Rattle.hlc_node.specs.declared.node.NodeFault.{NodeFault, TheVariants.Retired}
+use Rattle.hlc_heads.specs.declared.heads.{TheConstants.MAX_NODES, JoinFault.TheVariants.TooManyNodes}
 use Rattle.hlc_core.specs.Calls.{list_refusal}
 use Rattle.hlc_core.specs.Past.{Step, numbered, retired, count, floor, horizon, last_id, stamp_of, open_snapshots}
 use Rattle.hlc_core.specs.Past.{of_room, open_refusal}
-use Rattle.hlc_snapshot.specs.declared.fault.SnapshotFault.{SnapshotFault}
-use Rattle.hlc_snapshot.specs.declared.fault.SnapshotFault.TheVariants as snapshot_fault
-use Rattle.hlc_snapshot.specs.RegistryView.{room_refusal as room_in}
+use Rattle.hlc_snapshot.specs.{declared.fault.SnapshotFault.SnapshotFault, RegistryView.room_refusal as room_in}
 use Rattle.hlc_world_event.specs.declared.event.Event.TheVariants.{Write, Delete, Report, Retire, Join, Send, Receive}
 use Rattle.hlc_world_event.specs.declared.event.Event.TheVariants.{Observe, Deliver, OpenAt, OpenFloor, Read}
 use Rattle.hlc_world_event.specs.declared.event.Event.TheVariants.{List as ListAll, Close, Floor, Vacuum, Rows}
-use Rattle.hlc_world.specs.declared.reply.Reply.{Reply}
-use Rattle.hlc_world.specs.declared.reply.Reply.TheVariants.{Refused}
-use Rattle.hlc_world.specs.declared.refusal.Refusal.{Refusal}
+use Rattle.hlc_world.specs.declared.{reply.Reply.Reply, reply.Reply.TheVariants.Refused, refusal.Refusal.Refusal}
 use Rattle.hlc_intake.specs.declared.intake.LinkFault.TheVariants.{StampNotRising, NotNext}
-use Rattle.hlc_heads.specs.declared.heads.JoinFault.TheVariants.{TooManyNodes}
 use Rattle.hlc_events.specs.declared.fault.CoreFault.TheVariants.{Link, Join as joining, AboveFloor, BelowHorizon}
 use Rattle.hlc_world.specs.declared.refusal.Refusal.TheVariants.{NoNode, Node as at_node, Store}
 use Rattle.hlc_world.specs.Schedule.{has_retired, item_at, last_stamp, message_at, node_of}
 use Rattle.hlc_world_event.specs.Events.{Event}
-use Rattle.hlc_world.specs.Store.{core_past}
+use Rattle.hlc_world.{specs.Store.core_past, proofs.StoreEvents.goes-by-number}
 use Rattle.hlc_world.specs.Expected.{issue_refusal, stamp_refusal, receive_refusal, observe_refusal, core_refusal}
 use Rattle.hlc_world.specs.Expected.{on_link, on_node, expected_refusal, number_refusal, GoesByNumber, IsLegal}
-use Rattle.hlc_world.proofs.StoreEvents.{goes-by-number}
 use Rattle.hlc_events.specs.declared.fault.CoreFault.{CoreFault}
+use Rattle.hlc_snapshot.specs.declared.fault.SnapshotFault.TheVariants as snapshot_fault
 
 -- the refusal is not that a stamp does not rise
 abbrev IsOther : Option Refusal → Type 0

@@ -1,26 +1,19 @@
 -- A delivery gets the expected reply: the store refuses an issued item only because of its number, or because its
 -- node's last item was accepted, as the schedule says. A node that joins has no items and no stamp, and its clock
 -- starts at the floor.
-use Rattle.std.proofs.lemmas.Grind.{common_steps}
-use Rattle.std.proofs.lemmas.Option.{same_Some}
 use Rattle.std.proofs.Common.{◌≡◌, ℕ, ◌<◌, List, ◌∷◌, length, Some, None, Option, Ok, Err, Result, refl, ap, sym, ◌∙◌}
-use Rattle.std.proofs.Common.{subst, inl, inr, arith, ◌+◌, Bool, false, [], ◌++◌, length-append, true, ◌≤◌}
-use Rattle.std.specs.Prelude.{MatchResult, slice_get}
-use Rattle.std.proofs.lemmas.Bool.{lt-leb, eq-eqb, ne_eqb, cases_eq}
-use Rattle.hlc_node.specs.declared.item.Item.{Item}
-use Rattle.hlc_node.specs.Items.{retires, body_refusal}
+use Rattle.std.proofs.Common.{subst, inl, inr, arith, ◌+◌, Bool, false, [], ◌++◌, length-append, true, ◌≤◌, MatchResult}
+use Rattle.std.proofs.Common.{slice_get, eq-eqb, ne_eqb}
+use Rattle.std.proofs.lemmas.{Grind.common_steps, Option.same_Some, Bool.lt-leb, Bool.cases_eq}
+use Rattle.hlc_node.specs.{declared.item.Item.Item, Items.retires, Items.body_refusal}
 use Rattle.hlc_events.specs.declared.fault.CoreFault.{CoreFault}
-use Rattle.hlc_intake.specs.declared.intake.LinkFault.TheVariants as link_fault
-use Rattle.hlc_events.specs.declared.fault.CoreFault.TheVariants as core_fault
 use Rattle.hlc_heads.specs.Heads.{AcceptedView}
 use Rattle.hlc_core.specs.Past.{Took, numbered, retired, count, item_refusal, Joined as JoinedOf, floor, join_refusal}
 use Rattle.hlc_core.specs.Past.{link_refusal}
 use Rattle.hlc_values.specs.declared.bounds.TheConstants.{NUMBER_BOUND}
-use Rattle.hlc_core.specs.StoreView.{StoreView, Represents as CoreRepresents}
-use Rattle.hlc_core.specs.Calls.{IsRefusal, IsWrite}
+use Rattle.hlc_core.specs.{StoreView.StoreView, StoreView.Represents as CoreRepresents, Calls.IsRefusal, Calls.IsWrite}
 use Rattle.hlc_world_event.specs.declared.event.Event.TheVariants.{Deliver, Join}
-use Rattle.hlc_world.specs.declared.reply.Reply.{Reply}
-use Rattle.hlc_world.specs.declared.reply.Reply.TheVariants.{Accepted, Refused, Joined}
+use Rattle.hlc_world.specs.declared.reply.Reply.{Reply, TheVariants.Accepted, TheVariants.Refused, TheVariants.Joined}
 use Rattle.hlc_world.specs.declared.refusal.Refusal.TheVariants.{NoMemory}
 use Rattle.hlc_world.specs.Schedule.{item_at, item_made, with_item, ends, issued, has_retired}
 use Rattle.hlc_world_event.specs.Events.{Event}
@@ -28,9 +21,10 @@ use Rattle.hlc_world.specs.Store.{accepting, accepted, paired, store_history, co
 use Rattle.hlc_world.specs.Expected.{of_core, core_refusal, on_link, deliver_refusal, expected_refusal, number_refusal}
 use Rattle.hlc_world.specs.Expected.{GoesByNumber, IsExpectedOfStore, StoreMayRunOut, IsLegal}
 use Rattle.hlc_world.specs.WorldView.{IssuerView, WorldView, Represents}
-use Rattle.hlc_world.proofs.Nodes.{stays, on_link-inside, a_node}
+use Rattle.hlc_world.proofs.{Nodes.stays, Nodes.on_link-inside, Nodes.a_node, Lists.get-append_left, Lists.get-push}
 use Rattle.hlc_world.proofs.Orderly.{IsOrderly, orderly, past_taken}
-use Rattle.hlc_world.proofs.Lists.{get-append_left, get-push}
+use Rattle.hlc_intake.specs.declared.intake.LinkFault.TheVariants as link_fault
+use Rattle.hlc_events.specs.declared.fault.CoreFault.TheVariants as core_fault
 
 refused-by : (was_last : Bool) (next top k : ℕ) (item : Item) → item.number ≡ k → (k ≡ NUMBER_BOUND → ⊥)
     → body_refusal item.body ≡ None → (next ≤ k → top < item.stamp)

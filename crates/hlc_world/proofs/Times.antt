@@ -3,17 +3,16 @@
 -- the last id before, so it is assigned once. So an open snapshot is closed under happened-before: what happened before
 -- an item that is read there has a lesser stamp, so it is at or below the snapshot's stamp, which is not above the
 -- floor; and what is at or below the floor was accepted.
-use Rattle.std.proofs.lemmas.Grind.{common_steps}
-use Rattle.std.proofs.lemmas.Option.{same_Some, slice_get_within}
+use Rattle.std.proofs.lemmas.{Grind.common_steps, Option.same_Some, Option.slice_get_within}
 use Rattle.std.proofs.Common.{◌≡◌, ℕ, ◌<◌, ◌≤◌, ◌⊎◌, List, [], ◌∷◌, ◌++◌, length, Some, None, Option, refl, ap, sym}
 use Rattle.std.proofs.Common.{◌∙◌, subst, inl, inr, arith, ◌+◌}
 use Rattle.std.specs.Prelude.{slice_get, ◌==◌, if◌then◌else◌, All, Contains}
 use Rattle.std.proofs.lemmas.Bool.{cond-true, eq-eqb, cases_eq, cond-false, ne_eqb}
-use Rattle.hlc_node.specs.declared.item.Message.{Message}
+use Rattle.hlc_node.specs.declared.item.{Message.Message, Item.Item}
 use Rattle.hlc_node.specs.declared.item.Body.TheVariants.{Write as a_write, Report as a_report, Retire as a_retire}
 use Rattle.hlc_world_event.specs.declared.event.Event.TheVariants.{Write, Delete, Report, Retire, Join, Send, Receive}
 use Rattle.hlc_world_event.specs.declared.event.Event.TheVariants.{Observe, OpenAt, OpenFloor}
-use Rattle.hlc_world.specs.declared.reply.Reply.{Reply}
+use Rattle.hlc_world.specs.{declared.reply.Reply.Reply, Floor.IsIssuedAt, Floor.IsClosed}
 use Rattle.hlc_world.specs.declared.reply.Reply.TheVariants.{Stamped, Joined, Sent, Received, Observed, Snapshot}
 use Rattle.hlc_world.specs.Schedule.{stamping_of, mark_of, stamp_or, message_made, with_message, last_stamp, sent}
 use Rattle.hlc_world.specs.Schedule.{message_at, node_of, item_made, with_item, issued}
@@ -21,24 +20,19 @@ use Rattle.hlc_world_event.specs.Events.{Event}
 use Rattle.hlc_world.specs.Expected.{IsReceived, MayReply, IsLegal, IsObserved}
 use Rattle.hlc_world.specs.Before.{entry_at, write_stamp, IsStamped, HappenedBefore, on_node, on_message}
 use Rattle.hlc_world.specs.Before.{on_observation, through}
-use Rattle.hlc_world.proofs.Lists.{get-append_left, get-push}
+use Rattle.hlc_world.proofs.{Lists.get-append_left, Lists.get-push, Histories.legal-past}
 use Rattle.hlc_world.proofs.Orderly.{IsOrderly, orderly, issue-ok, stamp-rises, sight-rises, received-rises}
 use Rattle.hlc_world.proofs.Orderly.{observed-rises, complete}
 use Rattle.std.proofs.lemmas.List.Elements.{All-head, All-tail, Contains-append_left, Contains-push}
-use Rattle.hlc_snapshot.specs.declared.snapshot.Snapshot.{Snapshot as OpenSnapshot}
-use Rattle.hlc_snapshot.specs.RegistryView.{stamp_in}
+use Rattle.hlc_snapshot.specs.{declared.snapshot.Snapshot.Snapshot as OpenSnapshot, RegistryView.stamp_in}
 use Rattle.hlc_snapshot.proofs.RegisterLemmas.{stamp_in-push_cases, stamp_in-without_itself, stamp_in-without_other}
 use Rattle.hlc_snapshot.proofs.RegisterLemmas.{stamp_in-miss, stamp_in-all}
 use Rattle.hlc_events.specs.declared.event.CoreEvent.{CoreEvent}
-use Rattle.hlc_core.specs.declared.reply.CoreReply.{CoreReply}
-use Rattle.hlc_core.specs.History.{step_of, with_step, past_of}
+use Rattle.hlc_core.specs.{declared.reply.CoreReply.CoreReply, History.step_of, History.with_step, History.past_of}
 use Rattle.hlc_core.specs.Past.{Step, Began, Opened, Closed as ClosedOf, Joined as JoinedOf, last_id, open_snapshots}
 use Rattle.hlc_core.specs.Past.{stamp_of, IsLegal as IsLegalPast, floor}
 use Rattle.hlc_world.specs.Store.{share, with_entry, store_history, core_past}
-use Rattle.hlc_world.proofs.Histories.{legal-past}
-use Rattle.hlc_node.specs.declared.item.Item.{Item}
 use Rattle.hlc_core.proofs.PastLemmas.{open-low}
-use Rattle.hlc_world.specs.Floor.{IsIssuedAt, IsClosed}
 
 -- an entry is the last one or an earlier one
 pub entry-cases : (entry : Event × Reply) (s : List (Event × Reply)) (i : ℕ) (x : Event × Reply)

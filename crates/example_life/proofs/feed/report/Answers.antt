@@ -1,7 +1,6 @@
 -- The run goes on with the report, which has no rows, and then with the range's step.
 use Rattle.std.proofs.Common.{refl, ap, subst, append-nil, [], List}
-use Rattle.hlc.specs.Node.{Row}
-use Rattle.hlc.specs.Store.{Took}
+use Rattle.hlc.specs.{Node.Row, Store.Took}
 use Rattle.hlc_core.specs.Past.{item_rows}
 use Rattle.example_life.specs.Life.{HaveGoneOn}
 use Rattle.example_life.proofs.Feeding.{none-starts, own-issued, went-on}

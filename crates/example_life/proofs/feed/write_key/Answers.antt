@@ -1,7 +1,6 @@
 -- The run goes on with the item, and then with the range's step.
 use Rattle.std.proofs.Common.{refl, ap, sym, ◌∙◌}
-use Rattle.hlc.specs.Ranges.{IsDividedBy, store_of}
-use Rattle.hlc.specs.Store.{Took}
+use Rattle.hlc.specs.{Ranges.IsDividedBy, Ranges.store_of, Store.Took}
 use Rattle.hlc_core.specs.Past.{item_rows}
 use Rattle.example_life.proofs.Feeding.{none-starts, own-issued, went-on}
 use Rattle.example_life.proofs.feed.write_key.Goals as goal

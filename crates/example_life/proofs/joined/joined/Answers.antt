@@ -1,7 +1,6 @@
 -- The cut is consistent, each range represents its past, and so does its checkpoint.
 use Rattle.std.proofs.Common.{◌≡◌, List, Some, refl, subst, arith}
-use Rattle.std.specs.Prelude.{slice_get}
-use Rattle.std.proofs.lemmas.Option.{slice_get_read}
+use Rattle.std.{specs.Prelude.slice_get, proofs.lemmas.Option.slice_get_read}
 use Rattle.hlc.specs.Store.{StoreView}
 use Rattle.example_life.proofs.Joining.{joined-answers}
 use Rattle.example_life.proofs.joined.joined.Goals as goal
