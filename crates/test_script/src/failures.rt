@@ -1,6 +1,5 @@
-//! Readers and writers that fail once, also after a storm, the longest input, and the blocks of what is written.
+//! Readers and writers that fail once, also after a storm, and the blocks of what is written.
 use crate::items::bytes;
-use crate::scripts::{CERTIFICATE, REPLIES, SCRIPT};
 use crate::streams::{Calls, Fault, Giving, Taking};
 use hlc_certificate::run_check;
 use hlc_core::{Listing, Pair, Stamp};
@@ -12,6 +11,12 @@ use std::io;
 use std::io::{ErrorKind, Read, Write};
 use std::process::Abort;
 use std::test::*;
+
+const SCRIPT: &[u8] = b"nodes 1\nwrite 0 5 a x\ndeliver 0 0\nopen floor\nread 1 a\n";
+
+const REPLIES: &[u8] = b"nodes 1\nstamp 5.0 item 0\naccepted 5.0\nsnapshot 1 at 5.0\nvalue x\n";
+
+const CERTIFICATE: &[u8] = b"point 1.0\nrow a 1.0 0 value x\nwitness a none 1.0\n";
 
 /// What a run or a check reads.
 #[derive(Clone, Copy, Debug)]
@@ -51,24 +56,6 @@ const CASES: [Case; 2] = [
     (Input::Script(SCRIPT), REPLIES),
     (Input::Certificate(CERTIFICATE), b"fewest 1 bytes 12\n"),
 ];
-
-/// Returns the letter x this many times, and then fails.
-#[derive(Drop)]
-struct Letters {
-    left: usize,
-}
-
-impl Read for Letters {
-    fn read(&mut self, buf: &mut [u8]) -> io::Result<usize> {
-        if self.left == 0 {
-            return Err(io::Error::from(ErrorKind::Other));
-        }
-        let count = buf.len().min(self.left);
-        buf[..count].fill(b'x');
-        self.left -= count;
-        Ok(count)
-    }
-}
 
 /// Takes all, and counts the blocks of fewer than 32,768 bytes.
 #[derive(Default, Drop)]
@@ -238,20 +225,6 @@ fn a_flush_fails_once(rt: HostRuntime) {
         }
         let seen = (last, writer.failed(), writer.into_inner().calls.made);
         assert_eq!(rt; seen, (expected, true, flushes));
-    }
-}
-
-/// The longest input, and one that is a byte longer, after which the reader fails.
-#[test]
-fn the_longest_input(rt: HostRuntime) {
-    let cases: [(usize, &[u8]); 2] = [(16_777_216, b"refused 18\n"), (16_777_217, b"refused 20\n")];
-    for (input, _) in CASES {
-        for (left, expected) in cases {
-            let reader = Letters { left };
-            let (status, _, writer) = run(rt.alloc(), input, reader, Taking::whole(rt.alloc()));
-            let seen = (status, writer.taken.as_slice());
-            assert_eq!(rt; seen, (2u8, expected), "{input:?} {left}");
-        }
     }
 }
 

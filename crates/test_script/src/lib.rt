@@ -11,6 +11,4 @@ mod items;
 #[cfg(test)]
 mod run;
 #[cfg(test)]
-mod scripts;
-#[cfg(test)]
 mod streams;
