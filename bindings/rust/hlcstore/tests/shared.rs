@@ -28,6 +28,7 @@ macro_rules! answers {
         add(&store.accept_all(&items));
         add(&store.accept_all(&items));
         add(&store.accept_items(&items[1].encode().unwrap()));
+        add(&store.apply_records(&items[1].encode().unwrap()));
         add(&store.floor());
         add(&store.floor_node());
         add(&store.join());
