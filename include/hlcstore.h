@@ -193,12 +193,12 @@ typedef enum hlc_answer {
                                    1 to 7 */
     HLC_NO_CHECKPOINT = 107,    /* of hlc_store_restore, hlc_checkpoint_split and hlc_checkpoint_merge, and of both
                                    parts of hlc_increment_apply; word: the number of the first reason of
-                                   docs/formats.md, 1 to 9: 8 where a row is above the head of its node,
-                                   of no node, or at 0.0 */
+                                   docs/formats.md, 1 to 9: 8 where a row is above the head of its node, of no node, or
+                                   at 0.0 */
     HLC_HAS_BYTES = 108,        /* the output has bytes, and keeps them; nothing took place */
     HLC_NOT_FEWEST = 109,       /* of hlc_certificate_make: a vacuum to the stamp would drop a row */
-    HLC_NO_INCREMENT = 110,     /* of hlc_increment_apply; word: the number of the first fault of the increment's
-                                   bytes, 1 to 7; or 0, where its stamp does not fit its rows and its horizon */
+    HLC_NO_INCREMENT = 110,     /* of hlc_increment_apply; word: the number of the first fault of the increment's bytes,
+                                   1 to 7; or 0, where its stamp does not fit its rows and its horizon */
     HLC_NOT_LATER = 111,        /* of hlc_increment_apply: the increment is of an earlier state than the older
                                    checkpoint, or of another store */
     HLC_CHANGED = 112,          /* of hlc_saving_read: the store changed since the saving began */

@@ -54,8 +54,8 @@ typedef enum {
     HLC_FILE_BAD_OPTION = 204,    /* an option, a promise or a size is out of range */
     HLC_FILE_FULL = 205,          /* the disk is full */
     HLC_FILE_IO = 206,            /* the disk failed */
-    HLC_FILE_CORRUPT = 207,       /* SQLite finds its own structure damaged; or the file is missing or empty beside
-                                     its write-ahead log, which stays as it is */
+    HLC_FILE_CORRUPT = 207,       /* SQLite finds its own structure damaged; or the file is missing or empty beside its
+                                     write-ahead log, which stays as it is */
     HLC_FILE_DAMAGED_LOG = 208,   /* a log row is missing, swapped or altered; word: its place */
     HLC_FILE_NO_CHECKPOINT = 209, /* no checkpoint is whole, and the log does not begin at the first record; word: how
                                      many checkpoints are damaged */
