@@ -8,8 +8,6 @@ import (
 	"os"
 	"os/exec"
 	"path/filepath"
-	"regexp"
-	"strconv"
 	"strings"
 	"sync"
 	"testing"
@@ -455,36 +453,6 @@ func TestErrorsOfADamagedFile(t *testing.T) {
 	without := changed(t, "DELETE FROM log WHERE place = 1")
 	if _, err := file.Open(without, nil); err == nil {
 		t.Error("it was opened without its first row")
-	}
-}
-
-func TestErrorsAreThoseOfTheHeader(t *testing.T) {
-	path := os.Getenv("HLCSTORE_FILE_HEADER")
-	if path == "" {
-		path = "../../file/hlcstore_file.h"
-	}
-	header, err := os.ReadFile(path)
-	if err != nil {
-		t.Skip("left out: no header of the file")
-	}
-	codes := map[string]file.Code{
-		"HLC_FILE_IN_USE": file.ErrInUse, "HLC_FILE_CANNOT_OPEN": file.ErrCannotOpen,
-		"HLC_FILE_NOT_OURS": file.ErrNotOurs, "HLC_FILE_NEWER": file.ErrNewer,
-		"HLC_FILE_BAD_OPTION": file.ErrBadOption, "HLC_FILE_FULL": file.ErrFull,
-		"HLC_FILE_IO": file.ErrIO, "HLC_FILE_CORRUPT": file.ErrCorrupt, "HLC_FILE_DAMAGED_LOG": file.ErrDamagedLog,
-		"HLC_FILE_NO_CHECKPOINT": file.ErrNoWholeCheckpoint, "HLC_FILE_UNKNOWN": file.ErrUnknown,
-		"HLC_FILE_SEALED": file.ErrSealed, "HLC_FILE_LATER": file.ErrLater, "HLC_FILE_TOO_LONG": file.ErrTooLong,
-		"HLC_FILE_NO_STAMP": file.ErrNoStamp,
-	}
-	lines := regexp.MustCompile(`(?m)^    (HLC_FILE_\w+) = (2\d\d)\b`).FindAllSubmatch(header, -1)
-	equal(t, len(lines), len(codes))
-	for _, line := range lines {
-		name := string(line[1])
-		equal(t, int(codes[name]), must(strconv.Atoi(string(line[2]))))
-		equal(t, codes[name].Name(), name)
-		if codes[name].Text() == "" {
-			t.Error(name, "has no text")
-		}
 	}
 }
 
