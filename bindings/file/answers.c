@@ -7,6 +7,7 @@ struct answer {
     const char *text;
 };
 
+/* By their numbers, from 200 on. bindings/refusals makes this list from include/refusals.toml. */
 static const struct answer ANSWERS[] = {
     { "HLC_FILE_IN_USE", "another process, or this one, has the file open" },
     { "HLC_FILE_CANNOT_OPEN",

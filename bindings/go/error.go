@@ -12,6 +12,8 @@ import (
 // kind of a refusal, whatever its word is.
 type Code uint32
 
+// bindings/refusals makes this list, and that of stamps in Error, from include/refusals.toml.
+
 // The refusals, with the meaning of the word that comes with some of them.
 const (
 	ErrNoNode           = Code(C.HLC_NO_NODE)            // no node has this number

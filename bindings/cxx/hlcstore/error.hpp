@@ -15,7 +15,8 @@
 
 namespace hlcstore {
 
-// The answers of hlcstore.h, which says when each comes, and with what word.
+// The answers of hlcstore.h, which says when each comes, and with what word. bindings/refusals makes this list, and
+// those of write_word, from include/refusals.toml.
 enum class error_kind : std::uint32_t {
   ok = HLC_OK,
   no_node = HLC_NO_NODE,

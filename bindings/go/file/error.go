@@ -13,6 +13,8 @@ import (
 // A Code is the number of an answer in hlcstore_file.h. It is an error, so that errors.Is(err, ErrFull) asks for it.
 type Code uint32
 
+// bindings/refusals makes this list from include/refusals.toml.
+
 // What a file answers beside the refusals of package hlcstore.
 const (
 	ErrInUse             = Code(C.HLC_FILE_IN_USE)        // another process, or this one, has the file open

@@ -1,4 +1,5 @@
 """The refusals of the library as exceptions. Their numbers and their texts come from the library."""
+# bindings/refusals makes all classes but Error from include/refusals.toml.
 
 from typing import ClassVar
 

@@ -67,6 +67,7 @@ __all__ = [
 _Default = TypeVar("_Default")
 
 
+# bindings/refusals makes the classes below this one from include/refusals.toml.
 class FileError(Error):
     """An answer of a file that a store in memory does not have."""
 

@@ -1,9 +1,8 @@
 /* Refusals and results, whose classes are in Python. */
 #include "native.h"
 
-/* The numbers of the refusals, for hlcstore/_errors.py. It has no class for HLC_IS_OPEN, HLC_OUTSIDE, HLC_MORE,
- * HLC_HAS_BYTES, HLC_AFTER_LAST, HLC_NOT_UNDER_WAY and HLC_IS_UNDER_WAY, since handles, buffers and outputs are this
- * extension's own. */
+/* The numbers of the refusals, for hlcstore/_errors.py. It has no class for those that include/refusals.toml leaves out
+ * of Python, since handles, buffers and outputs are this extension's own. bindings/refusals makes this list from it. */
 static const struct {
     const char *name;
     uint32_t code;

@@ -25,6 +25,8 @@ pub struct Error {
     sqlite: i32,
 }
 
+// bindings/refusals makes this list, and that of `kind`, from include/refusals.toml.
+
 /// What kind of refusal an [`Error`] is.
 #[derive(Clone, Copy, Debug, PartialEq, Eq, Hash)]
 #[non_exhaustive]

@@ -24,6 +24,8 @@ pub struct Error {
     word: u64,
 }
 
+// bindings/refusals makes this list, and those of `kind` and `fmt`, from include/refusals.toml.
+
 /// What kind of refusal an [`Error`] is.
 #[derive(Clone, Copy, Debug, PartialEq, Eq, Hash)]
 #[non_exhaustive]
