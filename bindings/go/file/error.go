@@ -13,7 +13,7 @@ import (
 // A Code is the number of an answer in hlcstore_file.h. It is an error, so that errors.Is(err, ErrFull) asks for it.
 type Code uint32
 
-// bindings/refusals makes this list from include/refusals.toml.
+// bindings/refusals makes this list, and that of Error, from include/refusals.toml.
 
 // What a file answers beside the refusals of package hlcstore.
 const (

@@ -25,7 +25,7 @@ pub struct Error {
     sqlite: i32,
 }
 
-// bindings/refusals makes this list, and that of `kind`, from include/refusals.toml.
+// bindings/refusals makes this list, and those of `kind`, `stamp` and `fmt`, from include/refusals.toml.
 
 /// What kind of refusal an [`Error`] is.
 #[derive(Clone, Copy, Debug, PartialEq, Eq, Hash)]
