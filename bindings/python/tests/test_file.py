@@ -358,14 +358,6 @@ class Reads(InFolder):
 
 
 class Refusals(InFolder):
-    def test_each_class_has_the_name_of_its_answer(self):
-        for refusal in FileError.__subclasses__():
-            words = "".join("_" + each if each.isupper() else each.upper() for each in refusal.__name__)
-            name = {"_NO_WHOLE_CHECKPOINT": "_NO_CHECKPOINT"}.get(words, words)
-            self.assertEqual(hlcstore.file.error_name(refusal.code), "HLC_FILE" + name)
-            self.assertTrue(str(refusal()))
-        self.assertEqual(hlcstore.file.error_name(200 + len(FileError.__subclasses__())), "")
-
     def test_of_opening(self):
         folder = self.path.parent
         (folder / "text").write_text("no store, but a text of some length\n" * 200)
