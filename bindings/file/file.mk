@@ -33,8 +33,8 @@ $(OUT)/$(FILE_SHARED): $(OUT)/hlcstore_file.o file/hlcstore-file.map $(shared)
 	$(CC) -shared $(LDFLAGS) -o $@ $< -L$(OUT) -lhlcstore $(FILE_NEEDS) \
 	    -Wl,--version-script=file/hlcstore-file.map -Wl,-soname,$(FILE_SONAME) \
 	    -Wl,-z,defs -Wl,-z,relro,-z,now
-	ln -sf $(FILE_SHARED) $(OUT)/$(FILE_SONAME)
-	ln -sf $(FILE_SONAME) $(OUT)/libhlcstore-file.so
+	ln -f $@ $(OUT)/$(FILE_SONAME)
+	ln -f $@ $(OUT)/libhlcstore-file.so
 
 $(OUT)/hlcstore-file.pc: file/hlcstore-file.pc.in FORCE | $(OUT)
 	@$(fill) -e 's|@FILE_VERSION@|$(FILE_VERSION)|' $< >$@
