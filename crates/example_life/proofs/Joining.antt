@@ -1,79 +1,66 @@
 -- Two ranges answer together as all that was issued, and that answers as the rows of the divided checkpoint and what
 -- was written since: a key's rows are all in its half.
-use Rattle.std.proofs.Common.{◌≡◌, ℕ, ◌≤◌, ◌⊎◌, Bool, true, false, List, [], ◌∷◌, ◌++◌, Option, None, All, refl, ap}
-use Rattle.std.proofs.Common.{sym, ◌∙◌, subst, inl, inr, cond, append-nil, ◌≢◌, not, filter, if◌then◌else◌}
-use Rattle.std.proofs.lemmas.Bool.{both_ways, cond-true, cond-false}
-use Rattle.std.proofs.lemmas.List.Elements.{All-contains, filter-append}
+use Rattle.std.proofs.Common.{◌≡◌, ℕ, ◌≤◌, ◌⊎◌, Bool, true, false, List, [], ◌∷◌, ◌++◌, Some, None, All, refl, ap, sym}
+use Rattle.std.proofs.Common.{◌∙◌, subst, inl, inr, cond, append-nil, append_assoc, ◌≢◌, not, if◌then◌else◌}
+use Rattle.std.proofs.Common.{option_and_then, Option}
+use Rattle.std.proofs.lemmas.{Bool.both_ways, Bool.cond-false, List.Elements.All-contains}
 use Rattle.hlc.specs.{Node.Row, Node.answer, Store.StoreView, Store.Represents, Store.rows_of_keys, Store.writes}
 use Rattle.hlc.specs.Ranges.{Layout, Turn, RangesView, MachineView, past_of, issued_writes, ByKeys, store_of}
 use Rattle.hlc.specs.Ranges.{IsConsistent}
+use Rattle.hlc_values.proofs.MemberLemmas.{Contains-from_filter}
 use Rattle.hlc_intake.specs.IntakeView.{IntakeView}
-use Rattle.hlc_rows.specs.Rows.{newest}
-use Rattle.hlc_rows.proofs.NewestLemmas.{newest_after_others, answer_none}
+use Rattle.hlc_rows.specs.Rows.{newest, is_candidate, later}
+use Rattle.hlc_rows.proofs.{NewestLemmas.newest_after_others, NewestLemmas.answer_none, CandidateLemmas.other-misses}
 use Rattle.hlc_core.specs.StoreView.{with_rows}
-use Rattle.hlc_core.proofs.PartLemmas.{answer-of_keys}
 use Rattle.hlc_split.specs.{Split.is_under, Split.is_from, Merge.AreDivided, Merge.AreJoinable, Merge.is_of_left}
-use Rattle.example_life.specs.Life.{HaveGoneOn, AnswersAs, halves, with_links}
+use Rattle.example_life.specs.Life.{HaveGoneOn, AnswersAs, IsShown, halves, with_links}
+use Rattle.example_life.proofs.Copies.{answered}
 
-kept-twice : {X : Type 0} (p : X → Bool) (xs : List X) → filter p (filter p xs) ≡ filter p xs
-kept-twice p [] = refl
-kept-twice p (x ∷ xs) =
-    elim (p x) as (λ b. p x ≡ b
-    → filter p (cond b (x ∷ filter p xs) (filter p xs)) ≡ cond b (x ∷ filter p xs) (filter p xs)) [
-      | true ↦ λ t. cond-true (p x) _ _ t ∙ ap (λ ys. x ∷ ys) (kept-twice p xs)
-      | false ↦ λ _. kept-twice p xs
+-- the newest row of a list depends on that of its end, of its rows of the key alone
+newest-end : (xs ys zs : List Row) (key : List ℕ) (at : ℕ) → newest ys key at ≡ newest zs key at
+    → newest (xs ++ ys) key at ≡ newest (xs ++ zs) key at
+unfolding newest
+newest-end [] ys zs key at e = e
+newest-end (x ∷ xs) ys zs key at e =
+    ap (λ o. if is_candidate key at x then Some (later x o) else o) (newest-end xs ys zs key at e)
+
+newest-own : (is_of : List ℕ → Bool) (rows ys : List Row) (key : List ℕ) (at : ℕ) → is_of key ≡ true
+    → newest (rows_of_keys is_of rows ++ ys) key at ≡ newest (rows ++ ys) key at
+unfolding newest
+newest-own is_of [] ys key at t = refl
+newest-own is_of (row ∷ rows) ys key at t =
+    let rest : newest (rows_of_keys is_of rows ++ ys) key at ≡ newest (rows ++ ys) key at =
+    newest-own is_of rows ys key at t in
+    elim (is_of row.key) as (λ b. is_of row.key ≡ b
+    → newest (cond b (row ∷ rows_of_keys is_of rows) (rows_of_keys is_of rows) ++ ys) key at
+    ≡ newest (row ∷ (rows ++ ys)) key at) [
+      | true ↦ λ _. ap (λ o. if is_candidate key at row then Some (later row o) else o) rest
+      | false ↦ λ f. rest
+          ∙ sym (cond-false _ _ _ (other-misses key at row (λ e. both_ways (is_of key) (sym (ap is_of e) ∙ f) t)))
     ] refl
 
-none-kept : {X : Type 0} (p q : X → Bool) (xs : List X) → ((x : X) → p x ≡ true → q x ≡ false)
-    → filter q (filter p xs) ≡ []
-none-kept p q [] apart = refl
-none-kept p q (x ∷ xs) apart =
-    elim (p x) as (λ b. p x ≡ b → filter q (cond b (x ∷ filter p xs) (filter p xs)) ≡ []) [
-      | true ↦ λ t. cond-false (q x) _ _ (apart x t) ∙ none-kept p q xs apart
-      | false ↦ λ _. none-kept p q xs apart
-    ] refl
-
--- what either test keeps of a list that was divided by both is what it keeps of the list
-first-same : {X : Type 0} (p q : X → Bool) (xs ys : List X) → ((x : X) → q x ≡ true → p x ≡ false)
-    → filter p ((filter p xs ++ filter q xs) ++ ys) ≡ filter p (xs ++ ys)
-first-same p q xs ys apart =
-    filter-append p (filter p xs ++ filter q xs) ys
-    ∙ ap (λ zs. zs ++ filter p ys)
-    (filter-append p (filter p xs) (filter q xs) ∙ ap (λ zs. zs ++ filter p (filter q xs)) (kept-twice p xs)
-    ∙ ap (λ zs. filter p xs ++ zs) (none-kept q p xs apart) ∙ append-nil (filter p xs))
-    ∙ sym (filter-append p xs ys)
-
-second-same : {X : Type 0} (p q : X → Bool) (xs ys : List X) → ((x : X) → p x ≡ true → q x ≡ false)
-    → filter q ((filter p xs ++ filter q xs) ++ ys) ≡ filter q (xs ++ ys)
-second-same p q xs ys apart =
-    filter-append q (filter p xs ++ filter q xs) ys
-    ∙ ap (λ zs. zs ++ filter q ys)
-    (filter-append q (filter p xs) (filter q xs) ∙ ap (λ zs. zs ++ filter q (filter q xs)) (none-kept p q xs apart)
-    ∙ kept-twice q xs)
-    ∙ sym (filter-append q xs ys)
-
-flipped : (b : Bool) → not b ≡ true → b ≡ false
-flipped true e = ap not e
-flipped false e = refl
+newest-others : (is_of : List ℕ → Bool) (rows ys : List Row) (key : List ℕ) (at : ℕ) → is_of key ≡ false
+    → newest (rows_of_keys is_of rows ++ ys) key at ≡ newest ys key at
+newest-others is_of rows ys key at f =
+    newest_after_others (rows_of_keys is_of rows) ys key at
+    (λ row m e. both_ways (is_of key) f
+    (sym (ap is_of e) ∙ (Contains-from_filter (λ (r : Row). is_of r.key) rows row m).1))
 
 pub halves-answer : (bound : List ℕ) (rows written : List Row) (key : List ℕ) (at : ℕ)
     → answer (halves bound rows ++ written) key at ≡ answer (rows ++ written) key at
 halves-answer bound rows written key at =
-    let all : List Row = halves bound rows ++ written in
-    elim (is_under bound key) as (λ b. is_under bound key ≡ b → answer all key at ≡ answer (rows ++ written) key at) [
-      | true ↦ λ t.
-          sym (answer-of_keys (is_under bound) all key at t)
-          ∙ ap (λ (xs : List Row). answer xs key at)
-          (first-same (λ (row : Row). is_under bound row.key) (λ row. is_from bound row.key) rows written
-          (λ row e. flipped (is_under bound row.key) e))
-          ∙ answer-of_keys (is_under bound) (rows ++ written) key at t
-      | false ↦ λ f.
-          sym (answer-of_keys (is_from bound) all key at (ap not f))
-          ∙ ap (λ (xs : List Row). answer xs key at)
-          (second-same (λ (row : Row). is_under bound row.key) (λ row. is_from bound row.key) rows written
-          (λ row e. ap not e))
-          ∙ answer-of_keys (is_from bound) (rows ++ written) key at (ap not f)
-    ] refl
+    let under : List Row = rows_of_keys (is_under bound) rows in
+    let from : List Row = rows_of_keys (is_from bound) rows in
+    ap (λ (xs : List Row). answer xs key at) (append_assoc under from written)
+    ∙ ap (option_and_then (λ (row : Row). row.value))
+    (elim (is_under bound key) as (λ b. is_under bound key ≡ b
+    → newest (under ++ (from ++ written)) key at ≡ newest (rows ++ written) key at) [
+      | true ↦ λ t. newest-end under (from ++ written) written key at
+          (newest-others (is_from bound) rows written key at (ap not t))
+          ∙ newest-own (is_under bound) rows written key at t
+      | false ↦ λ f. newest-others (is_under bound) rows (from ++ written) key at f
+          ∙ newest-own (is_from bound) rows written key at (ap not f)
+    ] refl)
 
 -- rows of some keys do not answer others
 none-of : (is_of : List ℕ → Bool) (rows : List Row) (key : List ℕ) (at : ℕ)
@@ -81,62 +68,50 @@ none-of : (is_of : List ℕ → Bool) (rows : List Row) (key : List ℕ) (at : �
 unfolding newest
 none-of is_of rows key at all f =
     answer_none rows key at
-    (subst (λ (xs : List Row). newest xs key at ≡ None) (append-nil rows)
-    (newest_after_others rows [] key at
+    (ap (λ (xs : List Row). newest xs key at) (sym (append-nil rows))
+    ∙ newest_after_others rows [] key at
     (λ row m e. both_ways (is_of key) f
-    (ap is_of (sym e) ∙ All-contains (λ (r : Row). is_of r.key ≡ true) rows row all m))))
+    (sym (ap is_of e) ∙ All-contains (λ (r : Row). is_of r.key ≡ true) rows row all m)))
 
-left-none : (low high : List Row) (key : List ℕ) (at : ℕ) → AreDivided low high → is_of_left high key ≡ false
-    → answer low key at ≡ None
-left-none low [] key at divided f = absurd (cc)
-left-none low (first ∷ rest) key at divided f =
-    let parts : All (λ row. is_under first.key row.key ≡ true) low
-    × All (λ row. is_from first.key row.key ≡ true) (first ∷ rest) = divided in
-    none-of (is_under first.key) low key at parts.0 f
-
-right-none : (low high : List Row) (key : List ℕ) (at : ℕ) → AreDivided low high → is_of_left high key ≡ true
-    → answer high key at ≡ None
+-- of two lists that are divided, the one that a key is not of does not answer it
+other-none : (low high : List Row) (key : List ℕ) (at : ℕ) → AreDivided low high
+    → (if is_of_left high key then answer high key at else answer low key at) ≡ None
 unfolding newest
-right-none low [] key at divided t = refl
-right-none low (first ∷ rest) key at divided t =
+other-none low [] key at divided = refl
+other-none low (first ∷ rest) key at divided =
     let parts : All (λ row. is_under first.key row.key ≡ true) low
     × All (λ row. is_from first.key row.key ≡ true) (first ∷ rest) = divided in
-    none-of (is_from first.key) (first ∷ rest) key at parts.1 (ap not t)
+    elim (is_under first.key key) as (λ b. is_under first.key key ≡ b
+    → (if b then answer (first ∷ rest) key at else answer low key at) ≡ None) [
+      | true ↦ λ t. none-of (is_from first.key) (first ∷ rest) key at parts.1 (ap not t)
+      | false ↦ λ f. none-of (is_under first.key) low key at parts.0 f
+    ] refl
 
--- where one of two lists that are divided gives an answer and the other none, the one that the key is of gives it
-chosen : (low high : List Row) (key : List ℕ) (at : ℕ) (z : Option (List ℕ)) → AreDivided low high
-    → ((answer low key at ≡ z) × (answer high key at ≡ None))
-    ⊎ ((answer high key at ≡ z) × (answer low key at ≡ None))
-    → (if is_of_left high key then answer low key at else answer high key at) ≡ z
-chosen low high key at z divided (inl own) =
-    elim (is_of_left high key) as (λ d. is_of_left high key ≡ d
-    → (if d then answer low key at else answer high key at) ≡ z) [
-      | true ↦ λ _. own.0
-      | false ↦ λ f. own.1 ∙ sym (left-none low high key at divided f) ∙ own.0
-    ] refl
-chosen low high key at z divided (inr own) =
-    elim (is_of_left high key) as (λ d. is_of_left high key ≡ d
-    → (if d then answer low key at else answer high key at) ≡ z) [
-      | true ↦ λ t. own.1 ∙ sym (right-none low high key at divided t) ∙ own.0
-      | false ↦ λ _. own.0
-    ] refl
+-- where one of two gives an answer and the other none, so does the one that is chosen, if the one that is not gives none
+chosen : {X : Type 0} (b : Bool) (low high none z : X) → (if b then high else low) ≡ none
+    → ((low ≡ z) × (high ≡ none)) ⊎ ((high ≡ z) × (low ≡ none)) → (if b then low else high) ≡ z
+chosen true low high none z not (inl own) = own.0
+chosen true low high none z not (inr own) = own.1 ∙ sym not ∙ own.0
+chosen false low high none z not (inl own) = own.1 ∙ sym not ∙ own.0
+chosen false low high none z not (inr own) = own.0
 
 pub ranges-answer : (layout : Layout) (run : List Turn) (cut : ℕ) (bound : List ℕ) (low high : StoreView)
     (key : List ℕ) (at : ℕ) → Represents low (past_of layout 0 run) → Represents high (past_of layout 1 run)
     → IsConsistent layout run cut
     → ((s : ℕ) → layout.store_of key ≢ s → answer (writes (past_of layout s run)) key at ≡ None)
     → layout.store_of key ≡ store_of (ByKeys (bound ∷ [])) key → AreDivided low.rows high.rows
-    → low.horizon ≤ at → high.horizon ≤ at → at ≤ cut
+    → IsShown low at → IsShown high at → at ≤ cut
     → (if is_of_left high.rows key then answer low.rows key at else answer high.rows key at)
     ≡ answer (issued_writes layout run) key at
 ranges-answer layout run cut bound low high key at l h consistent apart routed divided from from' to =
     let z : Option (List ℕ) = answer (issued_writes layout run) key at in
     let lows : answer low.rows key at ≡ answer (writes (past_of layout 0 run)) key at =
-    l.rows.from_horizon key at (subst (λ n. n ≤ at) l.horizon from) in
+    answered low (past_of layout 0 run) l key at from in
     let highs : answer high.rows key at ≡ answer (writes (past_of layout 1 run)) key at =
-    h.rows.from_horizon key at (subst (λ n. n ≤ at) h.horizon from') in
+    answered high (past_of layout 1 run) h key at from' in
     let found : answer (writes (past_of layout (layout.store_of key) run)) key at ≡ z = consistent.issued key at to in
-    chosen low.rows high.rows key at z divided
+    chosen (is_of_left high.rows key) (answer low.rows key at) (answer high.rows key at) None z
+    (other-none low.rows high.rows key at divided)
     (elim (is_under bound key) as (λ b. is_under bound key ≡ b
     → ((answer low.rows key at ≡ z) × (answer high.rows key at ≡ None))
     ⊎ ((answer high.rows key at ≡ z) × (answer low.rows key at ≡ None))) [
@@ -169,10 +144,8 @@ joined-answers {rows} {written} {bound} stood cut low high left right whole link
     wholes answers fit key at from to =
     let low-rows : left.rows ≡ low.rows = ap (λ (kept : StoreView). kept.rows) lefts in
     let high-rows : right.rows ≡ high.rows = ap (λ (kept : StoreView). kept.rows) rights in
-    let low-horizon : whole.horizon ≡ low.horizon =
-    ap (λ (kept : StoreView). kept.horizon) wholes ∙ ap (λ (kept : StoreView). kept.horizon) lefts in
-    let high-horizon : whole.horizon ≡ high.horizon =
-    ap (λ (kept : StoreView). kept.horizon) wholes ∙ fit.2 ∙ ap (λ (kept : StoreView). kept.horizon) rights in
+    let left-shown : IsShown left at = subst (λ (kept : StoreView). IsShown kept at) wholes from in
+    let right-shown : IsShown right at = rw (fit.1.1, fit.2) at left-shown in
     let divided : AreDivided low.rows high.rows =
     subst (λ (xs : List Row). AreDivided xs high.rows) low-rows
     (subst (λ (xs : List Row). AreDivided left.rows xs) high-rows fit.3) in
@@ -182,5 +155,6 @@ joined-answers {rows} {written} {bound} stood cut low high left right whole link
     parts
     ∙ ranges-answer stood.layout stood.run cut bound low high key at l h consistent (λ s. apart s key at)
     (stood.represents.routed key ∙ ap (λ division. store_of division key) stood.divided) divided
-    (subst (λ n. n ≤ at) low-horizon from) (subst (λ n. n ≤ at) high-horizon from) to
+    (subst (λ (kept : StoreView). IsShown kept at) lefts left-shown)
+    (subst (λ (kept : StoreView). IsShown kept at) rights right-shown) to
     ∙ ap (λ (xs : List Row). answer xs key at) stood.issued ∙ halves-answer bound rows written key at

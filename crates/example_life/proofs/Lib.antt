@@ -1,3 +1,4 @@
 pub mod Beginning
+pub mod Copies
 pub mod Feeding
 pub mod Joining

@@ -8,7 +8,7 @@ ghost use Rattle.example_life.specs.Life.{GoesOnFrom, HaveGoneOn};
 use crate::stopped::Stopped;
 use hlc::bytes::decode_checkpoint;
 use hlc::ranges::{
-    Division, Machine, Ranges, first_machines_begin_a_run, split, states_begin_a_run,
+    Division, Machine, Ranges, first_machines_begin_a_run, parts_begin_ranges, split,
 };
 use hlc::{Bytes, Checkpoint, Core, NodeCore, each_checkpoint_has_a_past};
 use hlc_intake::Intake;
@@ -89,8 +89,11 @@ pub fn begin(
 ) -> Result<(Ranges, Machine), Stopped>
     ensures { IfOk result (λ made. HaveGoneOn kept.rows bound.now [] made.0 made.1) }
 {
-    states_begin_a_run();
+    parts_begin_ranges();
     first_machines_begin_a_run();
+    let None = kept.fault() else {
+        return Err(Stopped::NoCheckpoint);
+    };
     let node = writer(kept.links(), number)?;
     let machine = machine_of(alloc, node)?;
     let (below, rest) = split(alloc, kept, bound)?;
