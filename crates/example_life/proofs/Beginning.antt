@@ -1,6 +1,6 @@
 -- The halves of a checkpoint begin a run, and so does a machine of one of its nodes, which is in both.
-use Rattle.std.proofs.Common.{◌≡◌, ℕ, zero, suc, ◌<◌, false, List, [], ◌∷◌, Some, length, refl, ap, sym, ◌∙◌, subst, arith}
-use Rattle.std.proofs.Common.{slice_get}
+use Rattle.std.proofs.Common.{◌≡◌, ℕ, zero, suc, ◌<◌, false, List, [], ◌∷◌, Some, length, refl, ap, sym, ◌∙◌}
+use Rattle.std.proofs.Common.{subst, arith, slice_get}
 use Rattle.std.proofs.lemmas.Option.{get_or_from_slice_get, slice_get_within}
 use Rattle.hlc.specs.Node.{NodeView}
 use Rattle.hlc.specs.Store.{StoreView, Began, Represents as CoreRepresents}

@@ -87,7 +87,7 @@ other-none low (first ∷ rest) key at divided =
       | false ↦ λ f. none-of (is_under first.key) low key at parts.0 f
     ] refl
 
--- where one of two gives an answer and the other none, so does the one that is chosen, if the one that is not gives none
+-- where one of two gives an answer and the other none, the chosen one gives it, if the one that is not gives none
 chosen : {X : Type 0} (b : Bool) (low high none z : X) → (if b then high else low) ≡ none
     → ((low ≡ z) × (high ≡ none)) ⊎ ((high ≡ z) × (low ≡ none)) → (if b then low else high) ≡ z
 chosen true low high none z not (inl own) = own.0

@@ -1,6 +1,7 @@
 -- What took place in the life of a store, in the words of its rows: it was divided at a key, written to, and joined
 -- into one again.
-use Rattle.std.specs.Prelude.{◌≡◌, ℕ, ◌≤◌, ◌<◌, ◌⊎◌, ◌||◌, List, [], ◌∷◌, ◌++◌, Some, false, max, slice_get, Contains, All}
+use Rattle.std.specs.Prelude.{◌≡◌, ℕ, ◌≤◌, ◌<◌, ◌⊎◌, ◌||◌, List, [], ◌∷◌, ◌++◌, Some, false, max, slice_get, All}
+use Rattle.std.specs.Prelude.{Contains}
 use Rattle.hlc.specs.{Node.Row, Node.AWrite, Node.NodeView, Node.answer, Node.Item as AnItem, Store.StoreView}
 use Rattle.hlc.specs.Store.{Took, Began, rows_of_keys, Represents as CoreRepresents}
 use Rattle.hlc.specs.Ranges.{Layout, Turn, issued_writes, ByKeys, RangesView, Represents, MachineView, IsMachineOf}
@@ -62,8 +63,8 @@ further a b = record { next = max a.next b.next; head = max a.head b.head; retir
 abbrev pub with_links : StoreView → List IntakeView → StoreView
 with_links kept links = record kept { links = links; top = greatest_head links }
 
--- A store began with a state, and took two items. Of it are a checkpoint from before them, the bytes of one from between
--- them, and a log of both.
+-- A store began with a state, and took two items. Of it are a checkpoint from before them, the bytes of one from
+-- between them, and a log of both.
 pub record HasGrown (whole core older : StoreView) (saved log : List ℕ) (one two : AnItem) : Type 0 where
   pub began : CoreRepresents whole (Began whole ∷ [])
   pub represents : CoreRepresents core (Took two ∷ (Took one ∷ (Began whole ∷ [])))

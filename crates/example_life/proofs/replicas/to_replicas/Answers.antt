@@ -23,9 +23,9 @@ returns c =
       record { key = refl; value = refl },
       record { key = refl; value = refl },
       copies c.args.whole _ _ _ _ _ _ a b c.args.later.0 c.args.later.1 grown first second one
-          (c.recovered_stores_answer_as_replicas.ensures.recovered start _ _ [] (Item a ∷ []) (Item b ∷ []) _ _ [] 1 0 other.0 _ _
-          saved (ap log_of (sym new)) grown.fit (append-nil _ ∙ c.as_slice-2.ensures.value ∙ grown.spelled) other.2 one
-          (record {
+          (c.recovered_stores_answer_as_replicas.ensures.recovered start _ _ [] (Item a ∷ []) (Item b ∷ []) _ _ [] 1 0
+          other.0 _ _ saved (ap log_of (sym new)) grown.fit
+          (append-nil _ ∙ c.as_slice-2.ensures.value ∙ grown.spelled) other.2 one (record {
             taken = Item a ∷ (Item b ∷ []);
             left = [];
             parts = refl;
