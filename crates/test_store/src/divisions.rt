@@ -1,7 +1,7 @@
 //! Which store has a key by its hash; and the largest division, whose calls go through 1,024 stores.
 use crate::items::{bytes, new_store};
 use hlc_node::NodeCore;
-use hlc_routing::{Division, Machine, Ranges};
+use hlc_routing::{Division, Machine, PlacingFault, Ranges};
 use hlc_rows::Stamp;
 use std::process::Abort;
 use std::test::*;
